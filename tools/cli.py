@@ -62,7 +62,7 @@ def run_part(verb: str, part: Part, words: list[str]) -> int:
         return 0 if run(sys.executable, ROOT / part.function, *words) else 1
     name, function = part.function.split(':')
     module = importlib.import_module(f'tools.{name}')
-    if words == ['--help'] and module.__name__ != 'tools.bindings.fuzz':
+    if words == ['--help']:
         print(module.__doc__)
         return 0
     try:

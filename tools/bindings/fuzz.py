@@ -77,8 +77,9 @@ def plain(result: Any) -> tuple[int, ...]:
     return tuple(result) if isinstance(result, tuple) else (int(result),)
 
 
-def judge(call: Call, bounds: tuple[int, int], arguments: Sequence[Any], status: int, values: Sequence[int] | None) -> None:
+def judge(call: Call, arguments: Sequence[Any], status: int, values: Sequence[int] | None) -> None:
     """Raises if a call of these arguments does not return what it should. `values` is None if an error has the status."""
+    bounds = RANGES.get(call.form, I64)
     if call.name in PROPERTIES:
         right, said = PROPERTIES[call.name](bounds, *arguments, status, values), 'what it should be'
     else:
@@ -100,9 +101,8 @@ def of_arrays(name: str, call: Call) -> tuple[int, list[array.array[int]]]:
     returned = getattr(cellarcove, name)(*grouped(call, taken), **({'out': outputs} if outputs else {}))
     found = returned if isinstance(returned, tuple) else (returned,)
     statuses = found[-1] if has_status else [0] * COUNT
-    bounds = RANGES.get(call.form, I64)
     for numbers, status, values in zip(zip(*taken), statuses, zip(*found[:len(found) - has_status])):
-        judge(call, bounds, grouped(call, numbers), status, values)
+        judge(call, grouped(call, numbers), status, values)
     return COUNT, taken
 
 
@@ -169,7 +169,7 @@ def judge_one(name: str, call: Call, given: Sequence[Any], arguments: Sequence[A
         status, values = 0, plain(getattr(cellarcove, name)(*given))
     except cellarcove.Refused as refused:
         status, values = int(refused.status), None
-    judge(call, RANGES.get(call.form, I64), arguments, status, values)
+    judge(call, arguments, status, values)
 
 
 def of_package(name: str, forms: list[Call]) -> int:
@@ -208,7 +208,7 @@ def of_library(call: Call, kinds: list[Any], function: Any) -> int:
         arguments = grouped(call, [number(kind, width) for kind in cells(call)])
         result = function(*(kind(*value) if isinstance(value, tuple) else value for kind, value in zip(kinds, arguments)))
         values = tuple(leaf(result, path) for path, _ in results(call))
-        judge(call, RANGES.get(call.form, I64), arguments, result.status, values)
+        judge(call, arguments, result.status, values)
     return COUNT // 4
 
 
@@ -255,7 +255,7 @@ def run(seed: int, minutes: float, runners: Iterable[Callable[[], int]], shown: 
 
 
 def check(words: list[str]) -> bool:
-    parser = argparse.ArgumentParser(prog='tools/cellarcove check fuzz', description=__doc__, formatter_class=argparse.RawDescriptionHelpFormatter)
+    parser = argparse.ArgumentParser(prog='tools/cellarcove check fuzz')
     parser.add_argument('--seed', type=int, default=1)
     parser.add_argument('--minutes', type=float, default=1)
     parser.add_argument('--library')
