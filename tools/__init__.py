@@ -10,6 +10,12 @@ from collections.abc import Iterable, Iterator, Mapping
 ROOT = pathlib.Path(__file__).resolve().parent.parent
 
 
+def dependencies(root: pathlib.Path = ROOT) -> dict[str, list[str]]:
+    """The crates that the gate proves, each with those on which it depends."""
+    heads = (line.partition(':') for line in (root / 'crates.txt').read_text().splitlines() if ':' in line)
+    return {name.split()[0]: [word for word in below.split() if (root / 'crates' / word).is_dir()] for name, _, below in heads}
+
+
 def counted(found: Iterable[tuple[str, bool]]) -> bool:
     """Prints what has failed, and a count. Whether something passed and nothing failed."""
     counts = [0, 0]

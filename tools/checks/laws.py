@@ -11,19 +11,13 @@ from pathlib import Path
 
 from tools.erase.words import Specs, cited, imported
 from tools.erase.source import Source, Unknown
-from tools import ROOT
+from tools import ROOT, dependencies
 
 IS_LAW = re.compile(r'\S+ : Type \d+$')
 WHOLE_FILE = re.compile(r'use Rattle\.(\w+)\.specs\.Laws as (\w+)')
 # The file whose clauses have the laws, and that of a crate on which no other can stand.
 THEOREMS = ('theorems', 'laws.rt')
 OWN = {'cellarcove_c': ('cellarcove_c', 'from_contracts.rt')}
-
-
-def crates(root: Path) -> list[str]:
-    """The names of the crates that the gate proves."""
-    lines = (root / 'crates.txt').read_text().splitlines()
-    return [re.split(r'\W', line)[0] for line in lines if re.match(r'\w', line)]
 
 
 def named(text: str, imports: dict[str, tuple[str, str]], files: dict[str, str]) -> Iterator[tuple[str, str]]:
@@ -40,7 +34,7 @@ def ensured(root: Path, specs: Specs, crate: str, file: str, public: bool) -> se
     """The definitions of a `Laws` that stand in an `ensures` of the file, each as a pair of its crate and its name."""
     path = root / 'crates' / crate / 'src' / file
     found: set[tuple[str, str]] = set()
-    if crate not in crates(root) or not path.is_file():
+    if crate not in dependencies(root) or not path.is_file():
         return found
     source = Source(path.relative_to(root), path.read_text())
     items = [item for top in source.items() for item in top.all()]

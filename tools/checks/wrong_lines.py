@@ -21,7 +21,7 @@ from pathlib import Path
 
 from tools.erase.library import Library
 from tools.erase.source import Unknown
-from tools import ROOT
+from tools import ROOT, dependencies
 from tools.checks import edits
 from tools.checks.plain import Plain
 
@@ -97,12 +97,6 @@ def bugs_of(names: Iterable[str]) -> list[Bug]:
     """The seeded bugs of the crates."""
     found = [edit for suite in edits.SUITES for edit in ROOT.glob(f'crates/*/{suite}/*.edit') if edit.parent.parent.name in names]
     return [Bug(number, edit, *edits.apply(edit.parent.parent, edit)) for number, edit in enumerate(sorted(found))]
-
-
-def dependencies() -> dict[str, list[str]]:
-    """The crates on which each crate depends."""
-    heads = (line.partition(':') for line in (ROOT / 'crates.txt').read_text().splitlines() if ':' in line)
-    return {name.split()[0]: [word for word in below.split() if (ROOT / 'crates' / word).is_dir()] for name, _, below in heads}
 
 
 def module_of(bugs: Sequence[Bug]) -> str:
