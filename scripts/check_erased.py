@@ -188,7 +188,7 @@ def main(root: pathlib.Path) -> int:
         print(*(f'by the rule {rule}: {count}' for rule, count in by_rule.most_common()), sep='\n')
         print(*(f'{grade}: {name}' + f' ({", ".join(used)})' * bool(used) for name, _, grade, used in rows if grade != 'same'), sep='\n')
     sentence = (f'Of {grades.total() - grades["absent"]} functions in Rust, {grades["same"]} are their source with its contracts deleted, {grades["by rules"]} '
-                f'are it up to {len(RULES)} rules, {grades["changed"]} are changed, and {grades["by hand"]} have no source.')
+                f'are it up to {len(RULES)} rules, {grades["changed"]} are by hand in its place, and {grades["by hand"]} have no source.')
     found, known = {name: grade for name, _, grade, _ in rows if grade not in ('same', 'by rules')}, table(root)
     wrong = [f'{name} is {found.get(name, "the source")}; {TABLE} has it as {known.get(name, "the source")}'
              for name in sorted(found | known) if found.get(name) != known.get(name)]
