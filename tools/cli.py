@@ -9,8 +9,8 @@ import importlib
 import sys
 from typing import NamedTuple
 
-from rattle_source import Unknown
 from tools import ROOT, run
+from tools.erase.source import Unknown
 
 
 class Part(NamedTuple):
@@ -22,8 +22,8 @@ class Part(NamedTuple):
 
 PARTS = {
     'make': {
-        'rust': Part('rust/src, the crate of plain Rust', 'scripts/make_rust_crate.py'),
-        'exports': Part('rust/c/src, its exports for C', 'scripts/make_rust_exports.py'),
+        'rust': Part('rust/src, the crate of plain Rust', 'erase.crate:make'),
+        'exports': Part('rust/c/src, its exports for C', 'erase.exports:make'),
         'bindings': Part('what C, C++ and Python know of the exports', 'bindings.files:make'),
         'api': Part('rust/api.txt, its public items', 'pages.api:make'),
         'reference': Part('docs/reference', 'pages.reference:make'),
@@ -37,7 +37,8 @@ PARTS = {
         'pages': Part('the pages quote files, their links lead somewhere, and docs/ERRORS.md has each message', 'checks.pages:check'),
         'edits': Part('each seeded bug fits its file, and its first line has a form', 'checks.edits:check'),
         'laws': Part('each law is a clause that the gate proves', 'checks.laws:check'),
-        'erased': Part('plain Rust is its source with its contracts deleted, but for a table', 'scripts/check_erased.py'),
+        'erased': Part('plain Rust is its source with its contracts deleted, but for a table', 'tools/checks/erased.py'),
+        'rust_docs': Part('[--links DOC]: each public item of plain Rust has an example, and says when it panics', 'checks.rust_docs:check'),
         'bindings': Part('the files of `make bindings` are what it makes', 'bindings.files:check'),
         'api': Part('so is that of `make api`', 'pages.api:check'),
         'reference': Part('so are those of `make reference`', 'pages.reference:check'),
@@ -49,7 +50,7 @@ PARTS = {
         'sessions': Part('PROGRAM: it prints what the sessions of the pages show', 'checks.pages:sessions_of_pages', False),
         'examples': Part('FOLDER: its programs print what the heads of rust/examples show', 'checks.pages:sessions_of_examples', False),
         'wrong_lines': Part('[NAME..]: the first line of each seeded bug is true, as plain Rust', 'checks.wrong_lines:check', False),
-        'guards': Part('[--sample]: a test misses each guard of plain Rust that is taken out', 'scripts/check_guards.py', False),
+        'guards': Part('[--sample]: a test misses each guard of plain Rust that is taken out', 'checks.guards:check', False),
         'fuzz': Part('[--minutes M ..]: the package for Python returns what Python computes', 'bindings.fuzz:check', False),
     },
 }

@@ -163,6 +163,10 @@ fn formats_keep_width_and_fill() {
         format!("{:>60}", Ratio::new(1, 0).unwrap_err()),
         format!("{:>60}", "the denominator is 0")
     );
+    assert_eq!(
+        format!("{:<30}|", "1/".parse::<Ratio>().unwrap_err()),
+        format!("{:<30}|", "the text is not a fraction")
+    );
 }
 
 #[test]

@@ -5,7 +5,7 @@ from collections.abc import Iterator
 from pathlib import Path
 from typing import NamedTuple
 
-from rattle_source import Item, Source
+from tools.erase.source import Item, Source
 from tools import ROOT
 
 SOURCES = ROOT / 'crates/cellarcove_c/src'

@@ -10,7 +10,7 @@ import shutil
 import tomllib
 from pathlib import Path
 
-from rattle_source import Unknown
+from tools.erase.source import Unknown
 from tools import write
 
 WORKSPACE = '''\

@@ -9,8 +9,8 @@ import re
 from collections.abc import Iterable, Iterator
 from pathlib import Path
 
-from antt_words import Specs, cited, imported
-from rattle_source import Item, Source, Unknown
+from tools.erase.words import Specs, cited, imported
+from tools.erase.source import Item, Source, Unknown
 from tools import ROOT
 
 IS_LAW = re.compile(r'\S+ : Type \d+$')

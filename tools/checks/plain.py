@@ -2,7 +2,7 @@
 from collections.abc import Iterable
 from pathlib import Path
 
-from rattle_source import Item, Source
+from tools.erase.source import Item, Source
 
 WITHOUT_CODE = {'Integral', 'FixedWidth', 'Model'}      # traits of contracts alone
 GHOST = WITHOUT_CODE | {'Number'}               # imports of these, and implementations, go
@@ -69,7 +69,7 @@ class Plain:
             return self.use(k, self.source.end(k, ';'))
         if word == 'collect' and self.words(k + 1, k + 3) == ['(', 'alloc', ')']:
             self.texts[self.source.code[k]] = 'collect_with'
-        elif word == 'fn' and self.words(k + 4, k + 5) == [':', 'fmt']:
+        elif word == 'fn' and self.words(k + 4, k + 5) == [':', 'fmt'] and self.takes_formatter(k):
             self.drop(k + 2, self.source.angle(k + 2) - 1)
         elif word == 'Formatter' and self.at(k + 1) == '<':
             self.texts[self.source.code[k + 2]] = "'_"
@@ -78,6 +78,11 @@ class Plain:
         elif word == 'final':
             return self.drop(k, k)
         return k + 1
+
+    def takes_formatter(self, k: int) -> bool:
+        """Whether the writer of a function is that of a `Formatter`, which Rust does not name."""
+        opening = self.source.angle(k + 2)
+        return 'Formatter' in self.words(opening, self.source.close(opening))
 
     def ghost(self, k: int) -> int:
         """Drops `ghost use ..;`, or a member, a field or a clause: `ghost x: {..}`, `ghost x = {..}`, perhaps with `by {..}`."""

@@ -9,7 +9,7 @@ printed, with the reason."""
 import re
 from pathlib import Path
 
-from rattle_source import Source
+from tools.erase.source import Source
 from tools import write
 
 MANIFEST = '''\

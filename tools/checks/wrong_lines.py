@@ -19,8 +19,8 @@ from collections.abc import Iterable, Iterator, Sequence
 from dataclasses import dataclass, field
 from pathlib import Path
 
-from library import Library
-from rattle_source import Item, Unknown
+from tools.erase.library import Library
+from tools.erase.source import Item, Unknown
 from tools import ROOT
 from tools.checks import edits
 from tools.checks.plain import Plain
@@ -33,8 +33,7 @@ SECONDS = '300'                                 # for a build and the calls of a
 OF_TRAITS = {'cmp', 'from_gives', 'from_str_gives', 'is_default', 'output', 'partial_cmp', 'steps'}
 # By crate and file: code, and what it becomes. Rust cuts off what does not fit, where Rattle has a condition.
 CHANGED = {('integer_core', 'src/native.rt'): (
-    ('        magnitude.as_()\n', '        <Self as num_traits::NumCast>::from(magnitude.to_128_bits()).expect("attempt to narrow with overflow")\n'),
-    ('pub trait Native: Copy + Num +', 'pub trait Native: Copy + Num + num_traits::NumCast +'))}
+    ('        magnitude.as_()\n', '        <Self as NumCast>::from(magnitude.to_128_bits()).expect("attempt to narrow with overflow")\n'),)}
 # By crate and a name: the files of prelude/ that the lines of the crate with that name get.
 PRELUDES = {('integer_core', 'Own('): ('own',), ('integer_roots', 'Own('): ('own', 'roots_of_own'), ('intcalc_core', 'writer('): ('sink', 'writer'),
             ('intcalc', 'writer('): ('writer',), ('intcalc', 'args('): ('args',)}

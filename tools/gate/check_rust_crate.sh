@@ -1,6 +1,6 @@
 #!/usr/bin/env bash
 # Checks the crate of plain Rust in rust/ and the package of exports in rust/c: their sources are those that
-# scripts/make_rust_crate.py and scripts/make_rust_exports.py make, they build without a warning, the examples and tests of the crate
+# `tools/cellarcove make` makes, they build without a warning, the examples and tests of the crate
 # and num-integer's own tests pass, a guard that is taken out is missed, its package is made, and the checksums of
 # compare/ are the same. Then the package num-integer of rust/ replaces the original below packages of other authors,
 # and their tests run. Works in a temporary folder, offline, with Debian's packages of these crates, which
@@ -29,8 +29,8 @@ check_tests() {
 has() { command -v "$1" >/dev/null; }
 
 is_made_anew() {
-    python3 scripts/make_rust_crate.py "$work/made" && diff -r "$work/made/src" rust/src &&
-        python3 scripts/make_rust_exports.py "$work/made_exports" && diff -r "$work/made_exports/src" rust/c/src
+    tools/cellarcove make rust "$work/made" && diff -r "$work/made/src" rust/src &&
+        tools/cellarcove make exports "$work/made_exports" && diff -r "$work/made_exports/src" rust/c/src
 }
 
 # has_packages NAME..: the sources of these crates are in the registry.
@@ -61,7 +61,7 @@ documented_examples() {
 example_programs() { tools/cellarcove check examples "$CARGO_TARGET_DIR/debug/examples"; }
 
 # Each link of the documentation to a contract or to a word of one leads there.
-has_each_title() { python3 scripts/check_rust_docs.py --links "$CARGO_TARGET_DIR/doc/cellarcove"; }
+has_each_title() { tools/cellarcove check rust_docs --links "$CARGO_TARGET_DIR/doc/cellarcove"; }
 
 # A package that depends on this crate alone has a type of its own.
 own_type() {
@@ -120,7 +120,7 @@ check_dependents() {
 }
 
 # A guard that is taken out is missed by a test: a few of each kind. tools/gate/release.sh takes out all.
-has_each_guard() { python3 scripts/check_guards.py --sample; }
+has_each_guard() { tools/cellarcove check guards --sample; }
 
 # upstream_tests WORD..: runs the tests of num-integer that the words tell cargo.
 upstream_tests() { (cd "$work/upstream" && cargo test --offline "$@"); }
@@ -148,7 +148,7 @@ fi
 
 check 'the sources are made anew' is_made_anew
 check 'its public items are those of rust/api.txt' tools/cellarcove check api
-check 'each public item has an example, and says when it panics' python3 scripts/check_rust_docs.py
+check 'each public item has an example, and says when it panics' tools/cellarcove check rust_docs
 if has_packages "${originals[@]}"; then
     mkdir "$work/.cargo"
     printf '[source.crates-io]\nreplace-with = "debian"\n[source.debian]\ndirectory = "%s"\n' "$registry" \

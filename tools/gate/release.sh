@@ -161,7 +161,7 @@ second_suite() { tools/gate/check_must_fail_release.sh; }
 first_lines_are_true() { tools/cellarcove check wrong_lines; }
 
 # A test misses each guard of plain Rust that is taken out. tools/gate/check_rust_crate.sh takes out some.
-misses_each_guard() { python3 scripts/check_guards.py; }
+misses_each_guard() { tools/cellarcove check guards; }
 
 # ---- the notes
 

@@ -7,8 +7,8 @@ import difflib
 import re
 from collections.abc import Iterator
 
-from library import Library, Module
-from rattle_source import Item, Source
+from tools.erase.library import Library, Module
+from tools.erase.source import Item, Source
 from tools import ROOT, write
 
 NAME = 'rust/api.txt'

@@ -11,11 +11,11 @@ import textwrap
 from collections.abc import Iterator, Sequence
 from pathlib import Path
 
-from antt_words import Definition, Specs, cited, imported
-from library import Library, Module, Place
-from prose import wrapped
-from rattle_source import Item, Source, Unknown
-from rust_docs import STATED, imports_of, of_rattle, says_more
+from tools.erase.words import Definition, Specs, cited, imported
+from tools.erase.library import Library, Module, Place
+from tools.erase.prose import wrapped
+from tools.erase.source import Item, Source, Unknown
+from tools.erase.documentation import STATED, imports_of, of_rattle, says_more
 from tools import ROOT, as_made, write
 
 CRATES = ROOT / 'crates'

@@ -7,11 +7,11 @@ from collections.abc import Iterator, Mapping
 from contextlib import contextmanager
 from pathlib import Path
 
-from library import CRATES, RustLibrary
-from make_rust_crate import Eraser
-from make_rust_exports import CRATE, Exports
-from rust_bounds import Bounds
-from rust_docs import Page
+from tools.erase.library import CRATES, RustLibrary
+from tools.erase.crate import Eraser
+from tools.erase.exports import CRATE, Exports
+from tools.erase.bounds import Bounds
+from tools.erase.documentation import Page
 
 
 @contextmanager

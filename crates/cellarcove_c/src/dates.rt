@@ -226,9 +226,9 @@ impl Date {
         ensures number { day_of result ≡ number_of date.now }
     {
         Date {
-            year: date.year,
-            month: date.month,
-            day_of_month: date.day_of_month,
+            year: date.year(),
+            month: date.month(),
+            day_of_month: date.day_of_month(),
         }
     }
 

@@ -13,11 +13,11 @@ pub trait Text {
     // In a contract `text x` has the bytes of the text of `x`.
     ghost text: { Self → List ℕ };
 
-    /// Writes the text, whatever its width.
+    /// Writes the text as it is, without the options of a format.
     fn write_to<W: fmt::Write>(&self, f: &mut W) -> fmt::Result
         ensures { OnOk result (WritesInCalls W.write_str_gives f.old (text self.now) f.new) };
 
-    /// Writes the text as `Formatter::pad` does.
+    /// Writes the text as `Formatter::pad` does, with the options of the format.
     final fn pad<W: fmt::Write>(&self, f: &mut fmt::Formatter<W>) -> fmt::Result
         ensures { WritesOnOk W.write_str_gives f.old result (text self.now) f.new }
     {

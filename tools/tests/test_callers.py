@@ -1,10 +1,10 @@
-"""Which functions scripts/rust_callers.py gives the attribute `#[track_caller]`."""
+"""Which functions tools/erase/callers.py gives the attribute `#[track_caller]`."""
 from __future__ import annotations
 
 import re
 from pathlib import Path
 
-import rust_callers
+from tools.erase import callers
 
 CRATE = {
     'lib.rs': '''
@@ -78,7 +78,7 @@ def test_functions_on_the_way_to_a_panic(tmp_path: Path) -> None:
     for name, text in CRATE.items():
         (tmp_path / 'made' / 'src').mkdir(parents=True, exist_ok=True)
         (tmp_path / 'made' / 'src' / name).write_text(text)
-    rust_callers.write(tmp_path / 'made')
+    callers.write(tmp_path / 'made')
     found = {name: TRACKED.findall((tmp_path / 'made' / 'src' / name).read_text()) for name in CRATE}
     assert found == {'lib.rs': [], 'guards.rs': ['check'], 'division.rs': ['quotient', 'divided'],
                      'roots.rs': ['root', 'root_by_steps', 'new', 'last', 'next']}

@@ -1,24 +1,21 @@
-#!/usr/bin/env python3
 """Takes the contracts out of the exports for C, and writes a Cargo package over the crate of plain Rust.
 
-    scripts/make_rust_exports.py [OUT]   crates/cellarcove_c/src/*.rt and rust/by_hand/exports_head.rs  ->  OUT/src/*.rs
+    tools/cellarcove make exports [OUT]   crates/cellarcove_c/src/*.rt and rust/by_hand/exports_head.rs  ->  OUT/src/*.rs
 
-OUT is rust/c where none is given. Code is erased as scripts/make_rust_crate.py does it. What else changes: paths lead to the crate
+OUT is rust/c if none is given. Code is erased as crate.py does it. What else changes: paths lead to the crate
 `cellarcove`; a slice becomes a pointer and a length, of which the body makes the slice, in an unsafe block; and functions that only
 state laws go. A form that is not known here is rejected by file and line, and then nothing is written."""
 from __future__ import annotations
 
-import shutil
-import sys
-import tempfile
 from collections.abc import Iterator
 from pathlib import Path
 
-import rust_bounds
-import rust_docs
-from library import AT_ROOT, CRATES, Module, RustLibrary
-from make_rust_crate import BY_HAND, REPOSITORY, Eraser, formatted, made_from
-from rattle_source import Item, Unknown
+from tools import ROOT
+from tools.erase.bounds import Bounds
+from tools.erase.crate import BY_HAND, Eraser, formatted, made_from, replace
+from tools.erase.documentation import Page
+from tools.erase.library import AT_ROOT, CRATES, Module, RustLibrary
+from tools.erase.source import Item, Unknown
 
 CRATE, PACKAGE = 'cellarcove_c', 'cellarcove'
 ATTRIBUTES = (['unsafe', '(', 'no_mangle', ')'], ['repr', '(', 'C', ')'])
@@ -101,14 +98,14 @@ def head_of_package(rust: str) -> str:
 def made_of(module: Module) -> str:
     """The first line of a file."""
     by_hand = '' if module.path else ' and rust/by_hand/exports_head.rs'
-    return made_from(f'{module.source.path}{by_hand}', 'make_rust_exports.py')
+    return made_from(f'{module.source.path}{by_hand}', 'exports')
 
 
 def write(out: Path, crates: Path) -> None:
     """Writes the sources below a folder."""
-    library, page = RustLibrary(crates), rust_docs.Page(crates)
+    library, page = RustLibrary(crates), Page(crates)
     library.read(CRATE, (), crates / CRATE / 'src' / 'lib.rt')
-    bounds = rust_bounds.Bounds(library)
+    bounds = Bounds(library)
     for module in [module for module in library.modules.values() if module.crate == CRATE and not only_laws(module)]:
         eraser = Exports(module, library, page)
         bounds.write(eraser)
@@ -119,17 +116,6 @@ def write(out: Path, crates: Path) -> None:
     formatted(out)
 
 
-def main() -> None:
-    out = Path(sys.argv[1]) if len(sys.argv) > 1 else REPOSITORY / 'rust' / 'c'
-    with tempfile.TemporaryDirectory() as made:
-        try:
-            write(Path(made), REPOSITORY / 'crates')
-        except Unknown as form:
-            sys.exit(f'make_rust_exports.py: {form}')
-        shutil.rmtree(out / 'src', ignore_errors=True)
-        out.mkdir(parents=True, exist_ok=True)
-        shutil.copytree(Path(made) / 'src', out / 'src')
-
-
-if __name__ == '__main__':
-    main()
+def make(words: list[str]) -> bool:
+    """Makes the sources anew below rust/c, or below the folder that a word names."""
+    return replace(Path(words[0]) if words else ROOT / 'rust' / 'c', lambda out: write(out, ROOT / 'crates'))

@@ -1,10 +1,10 @@
-"""The checker scripts/check_erased.py on small files, and on random changes of a token of the made crate."""
+"""The checker tools/checks/erased.py on small files, and on random changes of a token of the made crate."""
 from __future__ import annotations
 
 import random
 from pathlib import Path
 
-import check_erased
+from tools.checks import erased
 import pytest
 
 CHANGES = 2_000
@@ -52,13 +52,13 @@ HARMLESS = {',', 'Copy', 'Clone', 'Sized', '+', '*', 'core', 'std'}
 
 @pytest.mark.parametrize('source, rust, wanted', PAIRS)
 def test_grades(tmp_path: Path, source: str, rust: str, wanted: str) -> None:
-    for crate in (*check_erased.LIBRARIES, 'cellarcove_c'):
+    for crate in (*erased.LIBRARIES, 'cellarcove_c'):
         (tmp_path / 'crates' / crate / 'src').mkdir(parents=True)
         (tmp_path / 'crates' / crate / 'src/lib.rt').write_text(source if crate == 'num_integer' else '')
     for part, text in (('rust/src', rust), ('rust/c/src', '')):
         (tmp_path / part).mkdir(parents=True)
         (tmp_path / part / 'lib.rs').write_text(text)
-    items = [(one or other, *check_erased.compare(one, other)) for _, one, other in check_erased.pairs(tmp_path)]
+    items = [(one or other, *erased.compare(one, other)) for _, one, other in erased.pairs(tmp_path)]
     assert ', '.join(sorted(' '.join((item.key, grade, *used)) for item, grade, used in items if item)) == wanted
 
 
@@ -71,14 +71,14 @@ def changed(words: list[str], others: list[str], chance: random.Random) -> tuple
 
 def test_each_change_of_a_token_is_found() -> None:
     chance = random.Random(85)
-    passed = [(one, other) for _, one, other in check_erased.pairs(check_erased.REPOSITORY) if one and other
-              and check_erased.compare(one, other)[0] in ('same', 'by rules') and one.is_function]
+    passed = [(one, other) for _, one, other in erased.pairs(erased.REPOSITORY) if one and other
+              and erased.compare(one, other)[0] in ('same', 'by rules') and one.is_function]
     others = sorted({word for _, other in passed for word in other.text.split()})
     missed = []
     for _ in range(CHANGES):
         source, rust = chance.choice(passed)
         words, touched = changed(rust.text.split(), others, chance)
         if words != rust.text.split() and not touched <= HARMLESS \
-                and check_erased.compare(source, rust._replace(text=f' {" ".join(words)} '))[0] != 'changed':
+                and erased.compare(source, rust._replace(text=f' {" ".join(words)} '))[0] != 'changed':
             missed.append(f'{rust.key}: {" ".join(sorted(touched))}')
     assert not missed

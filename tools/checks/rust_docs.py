@@ -1,21 +1,18 @@
-#!/usr/bin/env python3
 """Reads the made crate of plain Rust: each public function, type and trait has an example that runs, each public function that
 panics with the place of its caller says below `# Panics` when, and no line is wider than 100 columns, but for the first of a file
 and the rows of tables. That each item has a comment, and each `Result` its `# Errors`, rustc and clippy see.
 
-    scripts/check_rust_docs.py                 prints what lacks what, and a count; status 1 if anything does
-    scripts/check_rust_docs.py --links DOC     reads the pages that rustdoc wrote: each link to a title leads to that title"""
+    tools/cellarcove check rust_docs                 prints what lacks what, and a count; status 1 if anything does
+    tools/cellarcove check rust_docs --links DOC     reads the pages that rustdoc wrote: each link to a title leads to that title"""
 from __future__ import annotations
 
 import pathlib
 import re
-import sys
 from collections.abc import Iterator
 
-REPOSITORY = pathlib.Path(__file__).resolve().parent.parent
-sys.path.append(str(REPOSITORY))
-from prose import COLUMNS
-from rattle_source import Item, Source
+from tools import ROOT
+from tools.erase.prose import COLUMNS
+from tools.erase.source import Item, Source
 from tools.pages.api import CRATE, SHOWN, Made, is_hidden
 
 
@@ -65,18 +62,15 @@ def dead_links(folder: pathlib.Path) -> Iterator[str]:
                 yield f'{path.relative_to(folder.resolve())} leads to {page}#{title}, which is not there'
 
 
-def main(words: list[str]) -> int:
+def check(words: list[str]) -> bool:
+    """Whether nothing lacks anything, or each link leads somewhere."""
     if words[:1] == ['--links']:
         folder = pathlib.Path(words[1])
         wrong, read = list(dead_links(folder)), f'{len(list(folder.rglob("*.html")))} pages'
     else:
         items = list(public_items(Made()))
         wrong = [f'{path} lacks {what}' for source, item, path in items for what in lacks(source, item)]
-        wrong += wide_lines(REPOSITORY / 'rust' / 'src')
+        wrong += wide_lines(ROOT / 'rust' / 'src')
         read = f'{len(items)} public items'
     print('\n'.join([*wrong, f'{read}: {len(wrong)} failed']))
-    return bool(wrong) or read.startswith('0 ')
-
-
-if __name__ == '__main__':
-    sys.exit(main(sys.argv[1:]))
+    return not wrong and not read.startswith('0 ')

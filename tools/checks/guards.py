@@ -1,11 +1,10 @@
-#!/usr/bin/env python3
 """Takes each guard of the crate of plain Rust out of a copy, one at a time, and sees that a test misses it.
 
-    scripts/check_guards.py             each guard; status 1 if no test misses one
-    scripts/check_guards.py --sample    a few of each kind
-    scripts/check_guards.py --list      the guards, with their numbers
+    tools/cellarcove check guards             each guard; status 1 if no test misses one
+    tools/cellarcove check guards --sample    a few of each kind
+    tools/cellarcove check guards --list      prints the guards, with their numbers
 
-A guard is a call of `check`, of `some`, or of another function that scripts/taken_out.rs has. In the copy each calls the function of
+A guard is a call of `check`, of `some`, or of another function that tools/checks/taken_out.rs has. In the copy each calls the function of
 that file, with a number, which the variable GUARD takes out: then `check` tests nothing, `some` has a value of zeros, and a sum or a
 product wraps. So the copy is built once, in release, where Rust finds no overflow. The tests are those of rust/tests/domains that name
 a call, and those of one's own types. A test that does not end is one that fails."""
@@ -16,16 +15,17 @@ import os
 import re
 import shutil
 import subprocess
-import sys
 import tempfile
 from collections.abc import Iterator
 from concurrent.futures import ThreadPoolExecutor
 from dataclasses import dataclass
 from pathlib import Path
 
-from library import Library, Module
+from tools import ROOT
+from tools.erase.library import Library, Module
+from tools.erase.source import Unknown
 
-RUST = Path(__file__).resolve().parent.parent / 'rust'
+RUST = ROOT / 'rust'
 TAKEN_OUT = Path(__file__).resolve().parent / 'taken_out.rs'
 REGISTRY = Path('/usr/share/cargo/registry')
 TESTS = ('domains', 'guards', 'own_type')        # those of rust/tests that are tried, one after the other, until one fails
@@ -114,7 +114,7 @@ def build(folder: Path) -> dict[str, str]:
     command = ['cargo', 'test', '--offline', '--release', '--config', 'profile.release.opt-level=1', *tests, '--no-run', '--message-format=json']
     made = subprocess.run(command, cwd=folder / 'rust', capture_output=True, text=True)
     if made.returncode:
-        sys.exit(f'check_guards.py: the copy is not built\n{made.stderr}')
+        raise Unknown(f'the copy without guards is not built\n{made.stderr}')
     messages = (json.loads(line) for line in made.stdout.splitlines() if line.startswith('{'))
     return {message['target']['name']: message['executable'] for message in messages if message.get('executable')}
 
@@ -132,21 +132,19 @@ def fails(programs: dict[str, str], number: int) -> bool:
     return False
 
 
-def main() -> None:
+def check(words: list[str]) -> bool:
+    """Whether a test misses each guard."""
     with tempfile.TemporaryDirectory() as name:
         crate = copy(Path(name))
-        guards = crate.sample() if '--sample' in sys.argv else crate.guards
-        if '--list' in sys.argv:
-            return print(*guards, sep='\n')
+        guards = crate.sample() if '--sample' in words else crate.guards
+        if '--list' in words:
+            print(*guards, sep='\n')
+            return True
         programs = build(Path(name))
         if fails(programs, 0):
-            sys.exit('check_guards.py: a test fails with every guard in its place')
+            raise Unknown('a test fails with every guard in its place')
         with ThreadPoolExecutor(max_workers=2) as pool:
             found = list(pool.map(lambda guard: fails(programs, guard.number), guards))
         missed = [f'no test misses {guard}' for guard, failed in zip(guards, found) if not failed]
         print(*missed, f'{len(guards)} of {len(crate.guards)} guards are taken out, one at a time: {len(missed)} are not missed', sep='\n')
-        sys.exit(bool(missed))
-
-
-if __name__ == '__main__':
-    main()
+        return not missed

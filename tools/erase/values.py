@@ -3,7 +3,7 @@ import re
 from collections.abc import Iterator, Sequence
 from typing import NamedTuple
 
-from rattle_source import Item, Source
+from tools.erase.source import Item, Source
 
 LOOPS = ('while', 'for', 'loop')
 NATIVE = re.compile(r'[iu](8|16|32|64|128|size)|bool')

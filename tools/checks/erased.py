@@ -1,25 +1,25 @@
 #!/usr/bin/env python3
 """Says which functions of rust/src and rust/c/src are the proved Rattle of crates/*/src with its contracts deleted.
 
-    scripts/check_erased.py               the counts; status 1 if scripts/erased.txt or a page says otherwise
-    scripts/check_erased.py --list        also how many functions need each rule, and all items that are not the same
+    tools/checks/erased.py               the counts; status 1 if tools/checks/erased.txt or a page says otherwise
+    tools/checks/erased.py --list        also how many functions need each rule, and all items that are not the same
 
 It shares no code with the scripts that make the Rust, so nobody has to trust those. `without_contracts` deletes from a source what only
 the prover reads. `Files` finds the items: functions, types, constants, heads of traits and implementations, each by module, type or
 trait, and name. A name that a `use` imports is compared as its path, so two functions `sum` differ. `RULES` has the differences that
 are allowed. None names an item of the library, and rustc refuses what one could let through.
 
-An item that differs otherwise is `changed`; one that Rust lacks is `absent`; one that is in Rust alone is `by hand`. scripts/erased.txt
+An item that differs otherwise is `changed`; one that Rust lacks is `absent`; one that is in Rust alone is `by hand`. tools/checks/erased.txt
 names each of these with a reason, and no other item, so none comes or goes unseen. `use` and `mod` count by what they lead to.
 tools/tests/test_check_erased.py tries it on small files, and on random changes of a token, which it has to find."""
 import collections, itertools, pathlib, re, sys
 from typing import Callable, Collection, Iterator, NamedTuple
 
-REPOSITORY = pathlib.Path(__file__).resolve().parent.parent
+REPOSITORY = pathlib.Path(__file__).resolve().parent.parent.parent
 LIBRARIES = ('integer_core', 'integer_roots', 'num_integer', 'modular', 'ratio64', 'calendar', 'applied')
 # A folder of Rust, the crates that it is made of, and the first word of its paths to the libraries.
 PARTS = (('rust/src', LIBRARIES, 'crate'), ('rust/c/src', ('cellarcove_c',), 'cellarcove'))
-TABLE, PAGES = 'scripts/erased.txt', ('rust/README.md', 'docs/TESTING.md')
+TABLE, PAGES = 'tools/checks/erased.txt', ('rust/README.md', 'docs/TESTING.md')
 WITHOUT_CODE = ('Model', 'Integral', 'FixedWidth')      # traits of Rattle that have no function
 # Attributes that change no result: of proofs, of the form of the text, of speed, of warnings, and of the place that a panic names.
 NO_RESULT = ('tactic', 'cycle', 'rattlefmt', 'rustfmt', 'inline', 'cold', 'must_use', 'allow', 'doc', 'deprecated', 'track_caller')
@@ -172,7 +172,7 @@ def pairs(root: pathlib.Path) -> Iterator[tuple[str, Item | None, Item | None]]:
                 yield key if kind == 'fn' else f'{kind} {key}', *items
 
 def table(root: pathlib.Path) -> dict[str, str]:
-    """The grade of each item that scripts/erased.txt names."""
+    """The grade of each item that tools/checks/erased.txt names."""
     grade, found = '', {}
     for line in (root / TABLE).read_text().splitlines():
         grade = grade if line[:1] in ('', ' ', '#') else line.split(':')[0]
@@ -188,7 +188,7 @@ def main(root: pathlib.Path) -> int:
         print(*(f'by the rule {rule}: {count}' for rule, count in by_rule.most_common()), sep='\n')
         print(*(f'{grade}: {name}' + f' ({", ".join(used)})' * bool(used) for name, _, grade, used in rows if grade != 'same'), sep='\n')
     sentence = (f'Of {grades.total() - grades["absent"]} functions in Rust, {grades["same"]} are their source with its contracts deleted, {grades["by rules"]} '
-                f'are it up to {len(RULES)} rules, {grades["changed"]} are by hand in its place, and {grades["by hand"]} have no source.')
+                f'are it up to {len(RULES)} rules, {grades["changed"]} are changed, and {grades["by hand"]} have no source.')
     found, known = {name: grade for name, _, grade, _ in rows if grade not in ('same', 'by rules')}, table(root)
     wrong = [f'{name} is {found.get(name, "the source")}; {TABLE} has it as {known.get(name, "the source")}'
              for name in sorted(found | known) if found.get(name) != known.get(name)]

@@ -11,12 +11,12 @@ from collections.abc import Iterator
 from dataclasses import dataclass
 from typing import TYPE_CHECKING
 
-from library import Library, Module
-from rattle_source import Item, Source
-from rust_values import Body
+from tools.erase.library import Library, Module
+from tools.erase.source import Item, Source
+from tools.erase.values import Body
 
 if TYPE_CHECKING:
-    from make_rust_crate import Eraser
+    from tools.erase.crate import Eraser
 
 INTEGER = 'Integer'
 CLONING = 'integer_core'                        # the crate that clones

@@ -1,6 +1,6 @@
 """The doc comments of the Rust crate. A comment of the sources is true in both languages, and the Rust crate has it with these
 changes: the words `In plain Rust, ` are left out, and so is a paragraph that begins with `In Rattle, `; the sentences of
-examples become the section `# Examples` (rust_examples.py); and a line links to what is proved of the item. The sections
+examples become the section `# Examples` (examples.py); and a line links to what is proved of the item. The sections
 `# Panics` and `# Errors` are those of the comment. The modules `definitions` and `definitions::contracts` have the clauses and
 their words."""
 from __future__ import annotations
@@ -11,14 +11,14 @@ from collections.abc import Iterable
 from dataclasses import dataclass, field
 from typing import TYPE_CHECKING
 
-import rust_examples
-from antt_words import Definition, Specs, cited, imported
-from library import AT_ROOT, CRATES
-from prose import wrapped
-from rattle_source import Clause, Item, Source, Unknown
+from tools.erase import examples
+from tools.erase.library import AT_ROOT, CRATES
+from tools.erase.prose import wrapped
+from tools.erase.source import Clause, Item, Source, Unknown
+from tools.erase.words import Definition, Specs, cited, imported
 
 if TYPE_CHECKING:
-    from make_rust_crate import Eraser
+    from tools.erase.crate import Eraser
 
 Place = tuple[str, ...]
 
@@ -57,7 +57,7 @@ def sections_of(lines: list[str]) -> dict[str, list[str]]:
 def of_rust(eraser: Eraser, lines: list[str]) -> list[str]:
     """The lines of a comment without what is true in Rattle alone, with links that lead somewhere in the Rust crate."""
     found: list[str] = []
-    for paragraph in rust_examples.paragraphs(lines):
+    for paragraph in examples.paragraphs(lines):
         text = ' '.join(paragraph)
         if text.startswith(IN_RATTLE):
             continue
@@ -134,9 +134,8 @@ def comment(eraser: Eraser, item: Item, owner: Item | None, place: Place, prose:
     """The lines of the comment of a public item."""
     sections = sections_of(prose)
     see_sections(eraser, item, sections)
-    head = of_rust(eraser, rust_examples.without_examples(sections['']))
-    examples = rust_examples.section(eraser, item, place, sections.pop('Examples', []))
-    parts = [head, examples]
+    head = of_rust(eraser, examples.without_examples(sections['']))
+    parts = [head, examples.section(eraser, item, place, sections.pop('Examples', []))]
     parts += [[f'# {name}', '', *of_rust(eraser, sections[name])] for name in SECTIONS if name in sections]
     parts.append(link_to_contract(eraser, item, owner, place))
     return [line for part in parts if part for line in ('', *part)][1:]

@@ -4,7 +4,7 @@ from collections.abc import Iterable, Sequence
 from dataclasses import dataclass, field
 from pathlib import Path
 
-from rattle_source import Item, Source, Unknown
+from tools.erase.source import Item, Source, Unknown
 
 Place = tuple[str, ...]                         # the names of public modules
 Public = dict[tuple[str, tuple[str, ...], str], Place]     # of items, by crate, module and name

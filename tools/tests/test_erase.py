@@ -1,13 +1,13 @@
-"""What scripts/make_rust_crate.py and scripts/make_rust_exports.py make of a source, and what they reject.
+"""What tools/erase/crate.py and tools/erase/exports.py make of a source, and what they reject.
 
-The pairs of tools/tests/golden are sources of Rattle and the Rust that is made of them. A file is named for its crate and for what it
-shows."""
+The pairs of tools/tests/golden are sources of Rattle, in files that the prover does not take for its own, and the Rust that is made
+of them. A file is named for its crate and for what it shows."""
 from __future__ import annotations
 
 from pathlib import Path
 
 import pytest
-from rattle_source import Unknown
+from tools.erase.source import Unknown
 from tools.tests import samples
 
 GOLDEN = Path(__file__).resolve().parent / 'golden'
@@ -51,9 +51,9 @@ def texts_of(crate: str, text: str) -> dict[str, str]:
     return {crate: text} if crate == 'integer_core' else {'integer_core': INTEGER, crate: text}
 
 
-@pytest.mark.parametrize('name', sorted(source.stem for source in GOLDEN.glob('*.rt')))
+@pytest.mark.parametrize('name', sorted(source.stem for source in GOLDEN.glob('*.rattle')))
 def test_rust_of_a_source(name: str) -> None:
-    source, crate = GOLDEN / f'{name}.rt', name.split('.')[0]
+    source, crate = GOLDEN / f'{name}.rattle', name.split('.')[0]
     assert samples.formatted(samples.rust_of(crate, texts_of(crate, source.read_text()))) == source.with_suffix('.rs').read_text()
 
 

@@ -6,12 +6,12 @@ import functools
 import re
 from typing import TYPE_CHECKING
 
-from library import RustLibrary
-from prose import WIDTH, wrapped
-from rattle_source import Field, Item, Source
+from tools.erase.library import RustLibrary
+from tools.erase.prose import WIDTH, wrapped
+from tools.erase.source import Field, Item, Source
 
 if TYPE_CHECKING:
-    from make_rust_crate import Eraser
+    from tools.erase.crate import Eraser
 
 Place = tuple[str, ...]
 

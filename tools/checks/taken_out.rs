@@ -1,4 +1,4 @@
-//! The guards of the copy of the crate that scripts/check_guards.py makes. Each call has a number, and the one whose number is that of
+//! The guards of the copy of the crate that tools/checks/guards.py makes. Each call has a number, and the one whose number is that of
 //! the variable GUARD tests nothing.
 
 extern crate std;

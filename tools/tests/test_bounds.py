@@ -1,8 +1,8 @@
-"""What scripts/rust_bounds.py rejects. tools/tests/golden has what it writes."""
+"""What tools/erase/bounds.py rejects. tools/tests/golden has what it writes."""
 from __future__ import annotations
 
 import pytest
-from rattle_source import Unknown
+from tools.erase.source import Unknown
 from tools.tests import samples
 
 TRAIT = 'pub trait Integer: Copy + Num {}'

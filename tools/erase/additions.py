@@ -10,7 +10,7 @@ import re
 from collections.abc import Iterable
 from pathlib import Path
 
-from rattle_source import Item, Source
+from tools.erase.source import Item, Source
 
 
 BLOCKS = ('struct', 'trait', 'impl')            # items of which the two files may have parts

@@ -4,7 +4,7 @@ from collections.abc import Container
 from dataclasses import dataclass
 from pathlib import Path
 
-from rattle_source import Unknown
+from tools.erase.source import Unknown
 
 IMPORT = re.compile(r'use Rattle\.(\w+)\.([\w.]+)\.\{([^}]*)\}')
 WORD = re.compile(r'(?<![\w.◌])[^\W\d][\w-]*')

@@ -10,8 +10,8 @@ from collections.abc import Iterator
 from dataclasses import dataclass
 from pathlib import Path
 
-from library import Library, Module
-from rattle_source import Item
+from tools.erase.library import Library, Module
+from tools.erase.source import Item
 
 Name = tuple[str, ...]                          # the path of a function, or the name of a method alone
 ATTRIBUTE = 'track_caller'

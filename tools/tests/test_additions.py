@@ -1,10 +1,10 @@
-"""How scripts/rust_additions.py puts what is by hand into a made file."""
+"""How tools/erase/additions.py puts what is by hand into a made file."""
 from __future__ import annotations
 
 from pathlib import Path
 
 import pytest
-from rust_additions import Additions
+from tools.erase.additions import Additions
 
 MADE = '''//! Made.
 
