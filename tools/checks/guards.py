@@ -36,22 +36,26 @@ FEW = 8                                         # of so many guards of a kind, o
 
 @dataclass
 class Guard:
-    """A call of a guard."""
+    """A call of a guard: the places of its path, and of the bracket behind it."""
     number: int
     module: Module
-    place: int
-    name: str
+    first: int
+    opening: int
+
+    @property
+    def name(self) -> str:
+        return self.module.source.at(self.opening - 1)
 
     def __str__(self) -> str:
         source = self.module.source
-        reason = next((source.at(k) for k in range(self.place, source.close(self.place + 1)) if source.kind(k) == 'text'), 'a reason')
-        return f'{self.number}: `{self.name}` with {reason}, {source.path}:{source.line(self.place)}'
+        reason = next((source.at(k) for k in range(self.opening, source.close(self.opening)) if source.kind(k) == 'text'), 'a reason')
+        return f'{self.number}: `{self.name}` with {reason}, {Path(*source.path.parts[1:])}:{source.line(self.first)}'
 
     def take(self) -> None:
         """Lets the call be that of taken_out.rs."""
         source = self.module.source
-        source.texts[source.code[self.place]] = f'crate::taken_out::{self.name}'
-        source.texts[source.code[self.place + 1]] = f'({self.number}, '
+        source.drop(self.first, self.opening)
+        source.texts[source.code[self.first]] = f'crate::taken_out::{self.name}({self.number}, '
 
 
 class Crate(Library):
@@ -61,17 +65,19 @@ class Crate(Library):
     def __init__(self, folder: Path) -> None:
         super().__init__(folder.parent, [folder.name])
         names = set(re.findall(r'pub\(crate\) fn (\w+)', TAKEN_OUT.read_text()))
-        found = ((module, place) for module in self.modules.values() for place in self.calls(module, names))
-        self.guards = [Guard(number, module, place, module.source.at(place)) for number, (module, place) in enumerate(found, 1)]
+        found = ((module, *places) for module in self.modules.values() for places in self.calls(module, names))
+        self.guards = [Guard(number, *call) for number, call in enumerate(found, 1)]
 
-    def calls(self, module: Module, names: set[str]) -> Iterator[int]:
-        """The places of the calls in a module."""
+    def calls(self, module: Module, names: set[str]) -> Iterator[tuple[int, int]]:
+        """The calls in a module: of each the places of its path, and of the bracket behind it."""
         at = module.source.at
         for k in range(len(module.source.code)):
-            if at(k) in names and at(k + 1) == '(' and at(k - 1) not in ('fn', '.', ':'):
-                found = self.named(module, [at(k)])
+            path = module.source.path_at(k)
+            opening = k + 3 * len(path) - 2
+            if path[-1] in names and at(opening) == '(' and at(k - 1) not in ('fn', '.', ':'):
+                found = self.named(module, path)
                 if found and found[0].path[-1:] == ('guards',):
-                    yield k
+                    yield k, opening
 
     def write(self) -> None:
         """Writes the calls of taken_out.rs, and that file."""
