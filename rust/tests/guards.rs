@@ -1,9 +1,9 @@
-//! Guards that no test of `domains` misses, since at a built-in type a later one has the same reason: the methods of one's own type need
-//! not test their domains, and two moduli are tested before their multiple.
+//! Guards that no call of `domains/forms.rs` misses, since a later one has the same reason: the methods of one's own type need not test
+//! their domains, and two moduli are tested before their multiple.
 
 use cellarcove::modular::counted::power_modulo_counted;
 use cellarcove::modular::{chinese_remainder, product_modulo, Modular};
-use cellarcove::{sqrt, Integer, Roots};
+use cellarcove::{powers, sqrt, Integer, Roots};
 use num_traits::{Num, One, Zero};
 use std::fmt::Debug;
 use std::ops::{Add, Div, Mul, Rem, Sub};
@@ -121,6 +121,17 @@ fn functions_test_before_the_methods_of_a_type() {
     assert_eq!(reason(|| product_modulo(x, x, m)), MODULUS);
     assert_eq!(reason(|| power_modulo_counted(x, 3, m)), MODULUS);
     assert_eq!((x.sqrt(), x.product_modulo(&x, &m)), (x, Bold(81)));
+}
+
+/// The multiple fits the type of the magnitudes, and a negative number is no power of degree 0.
+#[test]
+fn before_the_last_step() {
+    let (lcm, degree) = (
+        "the least common multiple does not fit",
+        "attempt to take a root of degree 0",
+    );
+    assert_eq!(reason(|| 100i8.gcd_lcm(&3)), lcm);
+    assert_eq!(reason(|| powers::is_power(-9, 0)), degree);
 }
 
 #[test]

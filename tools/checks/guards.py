@@ -6,8 +6,8 @@
 
 A guard is a call of `check`, of `some`, or of another function that tools/checks/taken_out.rs has. In the copy each calls the function of
 that file, with a number, which the variable GUARD takes out: then `check` tests nothing, `some` has a value of zeros, and a sum or a
-product wraps. So the copy is built once, in release, where Rust finds no overflow. The tests are those of rust/tests/domains and, for
-numbers of one's own type, those of rust/tests. A test that does not end is one that fails."""
+product wraps. So the copy is built once, in release, where Rust finds no overflow. The tests are those of rust/tests/domains that name
+a call, and those of one's own types. A test that does not end is one that fails."""
 from __future__ import annotations
 
 import json
@@ -28,31 +28,34 @@ from tools.erase.source import Unknown
 RUST = ROOT / 'rust'
 TAKEN_OUT = Path(__file__).resolve().parent / 'taken_out.rs'
 REGISTRY = Path('/usr/share/cargo/registry')
-# The tests that are tried, one after the other, until one fails: of each a program, and a word of the names of its tests. The first takes
-# a tenth of a second, and finds most.
-TESTS = (('domains', 'forms'), ('guards', ''), ('own_type', ''), ('domains', ''))
-SECONDS = 120                                   # that a program may take
+TESTS = ('domains', 'guards', 'own_type')        # those of rust/tests that are tried, one after the other, until one fails
+MANY = re.compile(r'mod (?:small|slices|wide);\n')      # the parts of `domains` that try many numbers, which the copy has not
+SECONDS = 60                                    # that they may take
 FEW = 8                                         # of so many guards of a kind, one is in the sample
 
 
 @dataclass
 class Guard:
-    """A call of a guard."""
+    """A call of a guard: the places of its path, and of the bracket behind it."""
     number: int
     module: Module
-    place: int
-    name: str
+    first: int
+    opening: int
+
+    @property
+    def name(self) -> str:
+        return self.module.source.at(self.opening - 1)
 
     def __str__(self) -> str:
         source = self.module.source
-        reason = next((source.at(k) for k in range(self.place, source.close(self.place + 1)) if source.kind(k) == 'text'), 'a reason')
-        return f'{self.number}: `{self.name}` with {reason}, {source.path}:{source.line(self.place)}'
+        reason = next((source.at(k) for k in range(self.opening, source.close(self.opening)) if source.kind(k) == 'text'), 'a reason')
+        return f'{self.number}: `{self.name}` with {reason}, {Path(*source.path.parts[1:])}:{source.line(self.first)}'
 
     def take(self) -> None:
         """Lets the call be that of taken_out.rs."""
         source = self.module.source
-        source.texts[source.code[self.place]] = f'crate::taken_out::{self.name}'
-        source.texts[source.code[self.place + 1]] = f'({self.number}, '
+        source.drop(self.first, self.opening)
+        source.texts[source.code[self.first]] = f'crate::taken_out::{self.name}({self.number}, '
 
 
 class Crate(Made):
@@ -61,17 +64,19 @@ class Crate(Made):
     def __init__(self, folder: Path) -> None:
         super().__init__(folder)
         names = set(re.findall(r'pub\(crate\) fn (\w+)', TAKEN_OUT.read_text()))
-        found = ((module, place) for module in self.modules.values() for place in self.calls(module, names))
-        self.guards = [Guard(number, module, place, module.source.at(place)) for number, (module, place) in enumerate(found, 1)]
+        found = ((module, *places) for module in self.modules.values() for places in self.calls(module, names))
+        self.guards = [Guard(number, *call) for number, call in enumerate(found, 1)]
 
-    def calls(self, module: Module, names: set[str]) -> Iterator[int]:
-        """The places of the calls in a module."""
+    def calls(self, module: Module, names: set[str]) -> Iterator[tuple[int, int]]:
+        """The calls in a module: of each the places of its path, and of the bracket behind it."""
         at = module.source.at
         for k in range(len(module.source.code)):
-            if at(k) in names and at(k + 1) == '(' and at(k - 1) not in ('fn', '.', ':'):
-                found = self.named(module, [at(k)])
+            path = module.source.path_at(k)
+            opening = k + 3 * len(path) - 2
+            if path[-1] in names and at(opening) == '(' and at(k - 1) not in ('fn', '.', ':'):
+                found = self.named(module, path)
                 if found and found[0].path[-1:] == ('guards',):
-                    yield k
+                    yield k, opening
 
     def write(self) -> None:
         """Writes the calls of taken_out.rs, and that file."""
@@ -96,6 +101,8 @@ def copy(folder: Path) -> Crate:
         shutil.copytree(RUST / name, folder / 'rust' / name)
     for name in ('Cargo.toml', 'README.md', 'build.rs'):
         shutil.copy(RUST / name, folder / 'rust')
+    main = folder / 'rust' / 'tests' / 'domains' / 'main.rs'
+    main.write_text(MANY.sub('', main.read_text()))
     (folder / '.cargo').mkdir()
     words = f'[source.crates-io]\nreplace-with = "debian"\n[source.debian]\ndirectory = "{REGISTRY}"\n'
     (folder / '.cargo' / 'config.toml').write_text(words if REGISTRY.is_dir() else '')
@@ -106,7 +113,7 @@ def copy(folder: Path) -> Crate:
 
 def build(folder: Path) -> dict[str, str]:
     """Builds the tests, and returns the programs by name."""
-    tests = [word for name in dict(TESTS) for word in ('--test', name)]
+    tests = [word for name in TESTS for word in ('--test', name)]
     command = ['cargo', 'test', '--offline', '--release', '--config', 'profile.release.opt-level=1', *tests, '--no-run', '--message-format=json']
     made = subprocess.run(command, cwd=folder / 'rust', capture_output=True, text=True)
     if made.returncode:
@@ -118,9 +125,9 @@ def build(folder: Path) -> dict[str, str]:
 def fails(programs: dict[str, str], number: int) -> bool:
     """Whether a test fails without the guard of this number."""
     variables = os.environ | {'GUARD': str(number), 'RUST_BACKTRACE': '0'}
-    for name, word in TESTS:
+    for name in TESTS:
         try:
-            run = subprocess.run([programs[name], '--quiet', word], env=variables, capture_output=True, timeout=SECONDS)
+            run = subprocess.run([programs[name], '--quiet'], env=variables, capture_output=True, timeout=SECONDS)
         except subprocess.TimeoutExpired:
             return True
         if run.returncode:

@@ -23,8 +23,6 @@ CLONING = 'integer_core'                        # the crate that clones
 COPIED = {'Copy', 'PrimInt'}                    # traits of other crates, all of whose types are `Copy`
 # Traits that num-integer has for types that are not `Copy`, so their methods do not copy.
 OPEN = {'Roots', 'Average'}
-# The methods of num-integer's trait that have `where Self: Clone`.
-CLONING_METHODS = {'next_multiple_of', 'prev_multiple_of', 'inc', 'dec', 'extended_gcd', 'extended_gcd_lcm'}
 Key = tuple[str, tuple[str, ...], str]
 
 
@@ -197,11 +195,8 @@ class Bounds:
                    for generic in self.generics)
 
     def write_where(self, eraser: Eraser, generic: Generic) -> None:
-        """Writes `where Self: Clone` where num-integer has it."""
+        """Writes `where Self: Clone` at a method that copies. rust/api.txt shows whether num-integer has it there."""
         item = generic.item
-        if generic.needs != (item.name in CLONING_METHODS):
-            does, other = ('copies', 'does not') if generic.needs else ('does not copy', 'does')
-            eraser.refuse(item.word, f'`{item.name}` of `{INTEGER}`, which {does}; that of num-integer {other}')
         if not generic.needs:
             return
         assert item.open is not None

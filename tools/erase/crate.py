@@ -21,7 +21,7 @@ from tools import ROOT as REPOSITORY, write as write_files
 from tools.erase import callers, documentation
 from tools.erase.additions import Additions
 from tools.erase.bounds import Bounds
-from tools.erase.library import AT_ROOT, CRATES, ROOT, Module, RustLibrary
+from tools.erase.library import AT_ROOT, CRATES, ROOT, WITHIN, Module, RustLibrary
 from tools.erase.prose import within_columns
 from tools.erase.source import Item, Unknown
 
@@ -321,6 +321,9 @@ def head_of_root(library: RustLibrary, others: Iterable[str], rust: str) -> str:
 
 def texts_of(library: RustLibrary) -> dict[str, str]:
     """The texts of the files of the crate, by their place."""
+    for crate, name in {*WITHIN, *(key[:2] for key in APART)}:
+        if (crate, (name,)) not in library.modules:
+            raise Unknown(f'tools/erase: crates/{crate} has no module `{name}`, which a table names')
     page, bounds = documentation.Page(library.folder), Bounds(library)
     additions, made = Additions(BY_HAND / 'src'), dict[str, str]()
     for module in (module for module in library.modules.values() if module.rust_file()):

@@ -66,10 +66,7 @@ REFUSED_BOUNDS = (
 # What is rejected of the trait itself.
 REFUSED_TRAITS = (
     ('pub trait Integer: Num {}', '`Integer` whose first supertrait is not `Copy`'),
-    ('pub trait Integer: Copy + Num { fn div_ceil(&self, other: &Self) -> Self { sum(*self, *other) } }',
-     '`div_ceil` of `Integer`, which copies; that of num-integer does not'),
-    ('pub trait Integer: Copy + Num { fn inc(&mut self) { *self = one(); } }',
-     '`inc` of `Integer`, which does not copy; that of num-integer does'),
+    ('pub trait Integer: Copy + Num { fn inc(&self) -> Self where T: Copy { sum(*self, *self) } }', 'a `where` of `inc` that does not begin with `Self`'),
 )
 
 
