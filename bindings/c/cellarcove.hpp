@@ -2,14 +2,23 @@
 /// @file
 /// Cellarcove for C++17: the calls of cellarcove.h with results that are a value or a status, and fractions and dates with
 /// operators. A call of two forms takes numbers that are all signed or all unsigned, of up to 64 bits.
+///
+/// A number of one type in C may have any integer type. If it is out of range, the call refuses it before all else: status::outside
+/// if it is negative, and status::not_fitting if it is too large. But a month, a week, a day or the count of a day of the week has
+/// the status that the comment of its call names. A call without a status takes only types whose numbers are all in range. No call
+/// takes a `bool`, a character or a floating point number.
 #ifndef CELLARCOVE_HPP
 #define CELLARCOVE_HPP
 
+#include <algorithm>
 #include <cassert>
+#include <charconv>
 #include <cstddef>
 #include <cstdint>
+#include <limits>
 #include <optional>
 #include <ostream>
+#include <string_view>
 #include <tuple>
 #include <type_traits>
 #include <utility>
@@ -106,15 +115,112 @@ struct week_of_year {
     friend constexpr bool operator==(const week_of_year &a, const week_of_year &b) { return a.week == b.week && a.year == b.year; }
 };
 
+namespace detail {
+
+template <class T, class... Others> constexpr bool is_one_of = (std::is_same_v<T, Others> || ...);
+template <class T>
+constexpr bool is_number = is_one_of<T, signed char, short, int, long, long long> ||
+                           is_one_of<T, unsigned char, unsigned short, unsigned, unsigned long, unsigned long long>;
+
+/// Whether each number of type `N` is one of type `T`.
+template <class T, class N>
+constexpr bool has_all_of = is_number<N> && (std::is_signed_v<T> || !std::is_signed_v<N>) &&
+                            std::numeric_limits<N>::digits <= std::numeric_limits<T>::digits;
+
+/// Whether the numbers are signed. They have to be all signed or all unsigned.
+template <class... T> constexpr bool is_signed() {
+    static_assert((is_number<T> && ...), "a call takes integers of up to 64 bits");
+    static_assert((std::is_signed_v<T> && ...) || (!std::is_signed_v<T> && ...), "the numbers of a call are all signed or all unsigned");
+    return (std::is_signed_v<T> && ...);
+}
+
+/// A number of a type that has no number outside `T`.
+template <class T> struct exact {
+    template <class N, std::enable_if_t<has_all_of<T, N>, int> = 0> constexpr exact(N number) : value(number) {}
+    T value;
+};
+
+/// The number of type `T` that is nearest to a number of any type, and the status that says whether they differ.
+template <class T> struct checked {
+    template <class N, std::enable_if_t<is_number<N>, int> = 0> constexpr checked(N number) : value(static_cast<T>(number)) {
+        if (is_negative(number)) {
+            if constexpr (!std::is_signed_v<T>) {
+                value = 0;
+                error = status::outside;
+            }
+        } else if (static_cast<std::uint64_t>(number) > static_cast<std::uint64_t>(std::numeric_limits<T>::max())) {
+            value = std::numeric_limits<T>::max();
+            error = status::not_fitting;
+        }
+    }
+    T value;
+    status error = status::answer;
+
+  private:
+    template <class N> static constexpr bool is_negative(N number) {
+        if constexpr (std::is_signed_v<N>) {
+            return number < 0;
+        } else {
+            return false;
+        }
+    }
+};
+
+/// The first status of the numbers that is none of a value.
+template <class... T> constexpr status error_of(const checked<T> &...numbers) {
+    status found = status::answer;
+    ((found = found == status::answer ? numbers.error : found), ...);
+    return found;
+}
+
+/// The text of a fraction, a date or a week. Of the settings of a stream only the width and the fill change it.
+class line {
+  public:
+    void add(char part) { *end_++ = part; }
+    /// Adds a number with at least so many digits.
+    void add(std::uint64_t number, std::ptrdiff_t digits) {
+        char found[20];
+        const char *last = std::to_chars(found, found + sizeof found, number).ptr;
+        for (auto missing = digits - (last - found); missing > 0; missing--) {
+            add('0');
+        }
+        end_ = std::copy(static_cast<const char *>(found), last, end_);
+    }
+    /// Adds a year of ISO 8601, which has a sign if it is not from 0 to 9999.
+    void add_year(std::int64_t year) {
+        if (year < 0 || year > 9999) {
+            add(year < 0 ? '-' : '+');
+        }
+        add(magnitude(year), 4);
+    }
+    static constexpr std::uint64_t magnitude(std::int64_t number) {
+        return number < 0 ? 0 - static_cast<std::uint64_t>(number) : static_cast<std::uint64_t>(number);
+    }
+    friend std::ostream &operator<<(std::ostream &out, const line &all) {
+        return out << std::string_view(all.text_, static_cast<std::size_t>(all.end_ - all.text_));
+    }
+
+  private:
+    char text_[48];
+    char *end_ = text_;
+};
+
+} // namespace detail
+
 /// A fraction, which is reduced; its denominator is positive.
 class fraction {
   public:
-    /// The integer `whole`.
-    constexpr fraction(std::int64_t whole = 0) : num_(whole), den_(1) {}
+    /// The integer 0.
+    constexpr fraction() : num_(0), den_(1) {}
+    /// The integer `whole`, of a type whose numbers all fit `std::int64_t`.
+    template <class N, std::enable_if_t<detail::has_all_of<std::int64_t, N>, int> = 0> constexpr fraction(N whole) : num_(whole), den_(1) {}
     /// The fraction `num / den`, reduced. status::zero_denominator if den is 0, and status::not_fitting if a part of it does
     /// not fit.
-    [[nodiscard]] static result<fraction> make(std::int64_t num, std::int64_t den) {
-        auto r = cellarcove_fraction_new(num, den);
+    [[nodiscard]] static result<fraction> make(detail::checked<std::int64_t> num, detail::checked<std::int64_t> den) {
+        if (auto error = detail::error_of(num, den); error != status::answer) {
+            return result<fraction>(error);
+        }
+        auto r = cellarcove_fraction_new(num.value, den.value);
         return r.status == CELLARCOVE_ANSWER ? result<fraction>(from_c(r.value)) : result<fraction>(static_cast<status>(r.status));
     }
     /// A fraction that the calls for C returned.
@@ -131,9 +237,14 @@ class fraction {
 /// A date of the proleptic Gregorian calendar, of any year. The year before year 1 is year 0.
 class date {
   public:
-    /// The date of a year, a month and a day of the month. status::no_date if there is none.
-    [[nodiscard]] static result<date> make(std::int64_t year, std::uint8_t month, std::uint8_t day_of_month) {
-        date made(year, month, day_of_month);
+    /// The date of a year, a month and a day of the month. status::not_fitting if the year does not fit, and status::no_date if
+    /// there is no such date.
+    [[nodiscard]] static result<date> make(detail::checked<std::int64_t> year, detail::checked<std::uint8_t> month,
+                                           detail::checked<std::uint8_t> day_of_month) {
+        if (year.error != status::answer) {
+            return result<date>(year.error);
+        }
+        date made(year.value, month.value, day_of_month.value);
         return cellarcove_day_of_year(made.to_c()).status == CELLARCOVE_ANSWER ? result<date>(made) : result<date>(status::no_date);
     }
     /// A date that the calls for C returned.
@@ -152,19 +263,6 @@ class date {
 /// The numbers that are `residue` modulo `modulus`.
 using i64_congruence = cellarcove_i64_congruence;
 using u64_congruence = cellarcove_u64_congruence;
-
-namespace detail {
-
-template <class T> constexpr bool is_number = std::is_integral_v<T> && !std::is_same_v<std::remove_cv_t<T>, bool> && sizeof(T) <= 8;
-
-/// Whether the numbers are signed. They have to be all signed or all unsigned.
-template <class... T> constexpr bool is_signed() {
-    static_assert((is_number<T> && ...), "a call takes integers of up to 64 bits");
-    static_assert((std::is_signed_v<T> && ...) || (!std::is_signed_v<T> && ...), "the numbers of a call are all signed or all unsigned");
-    return (std::is_signed_v<T> && ...);
-}
-
-} // namespace detail
 
 /// a + b. For 2 and 3 it is 5. status::not_fitting if the sum does not fit.
 template <class N0, class N1> [[nodiscard]] auto checked_sum(N0 a, N1 b) {
@@ -344,22 +442,31 @@ template <class N0, class N1> [[nodiscard]] auto gcd_lcm(N0 x, N1 y) {
 /// The greatest common divisor, and small coefficients x and y: x times the first number and y times the second add
 /// up to it. For 240 and 46 they are 2, -9 and 47. In C the two products may overflow. status::not_fitting if the
 /// divisor is 2^63.
-[[nodiscard]] inline result<bezout> extended_gcd(std::int64_t x, std::int64_t y) {
-    auto r = cellarcove_extended_gcd_i64(x, y);
+[[nodiscard]] inline result<bezout> extended_gcd(detail::checked<std::int64_t> x, detail::checked<std::int64_t> y) {
+    if (auto error = detail::error_of(x, y); error != status::answer) {
+        return result<bezout>(error);
+    }
+    auto r = cellarcove_extended_gcd_i64(x.value, y.value);
     return r.status == CELLARCOVE_ANSWER ? result<bezout>(bezout{r.gcd, r.x, r.y}) : result<bezout>(static_cast<status>(r.status));
 }
 
 /// The greatest common divisor of the numbers, which is not negative. That of -12, 18 and 8 is 2, and that of no
 /// numbers is 0. status::not_fitting if it is 2^63, as that of -2^63 and 0.
-[[nodiscard]] inline result<std::int64_t> gcd_of(const std::int64_t *numbers, std::size_t length) {
-    auto r = cellarcove_gcd_of_i64(numbers, length);
+[[nodiscard]] inline result<std::int64_t> gcd_of(const std::int64_t *numbers, detail::checked<std::size_t> length) {
+    if (auto error = detail::error_of(length); error != status::answer) {
+        return result<std::int64_t>(error);
+    }
+    auto r = cellarcove_gcd_of_i64(numbers, length.value);
     return r.status == CELLARCOVE_ANSWER ? result<std::int64_t>(r.value) : result<std::int64_t>(static_cast<status>(r.status));
 }
 
 /// The greatest common divisor of the numbers, which always fits. That of 12, 18 and 8 is 2, and that of no numbers
 /// is 0.
-[[nodiscard]] inline result<std::uint64_t> gcd_of(const std::uint64_t *numbers, std::size_t length) {
-    auto r = cellarcove_gcd_of_u64(numbers, length);
+[[nodiscard]] inline result<std::uint64_t> gcd_of(const std::uint64_t *numbers, detail::checked<std::size_t> length) {
+    if (auto error = detail::error_of(length); error != status::answer) {
+        return result<std::uint64_t>(error);
+    }
+    auto r = cellarcove_gcd_of_u64(numbers, length.value);
     return r.status == CELLARCOVE_ANSWER ? result<std::uint64_t>(r.value) : result<std::uint64_t>(static_cast<status>(r.status));
 }
 
@@ -371,15 +478,21 @@ template <class Items>
 
 /// The least common multiple of the numbers, which is not negative. That of -4, 6 and 10 is 60, that of numbers of
 /// which one is 0 is 0, and that of no numbers is 1. status::not_fitting if the multiple does not fit.
-[[nodiscard]] inline result<std::int64_t> lcm_of(const std::int64_t *numbers, std::size_t length) {
-    auto r = cellarcove_lcm_of_i64(numbers, length);
+[[nodiscard]] inline result<std::int64_t> lcm_of(const std::int64_t *numbers, detail::checked<std::size_t> length) {
+    if (auto error = detail::error_of(length); error != status::answer) {
+        return result<std::int64_t>(error);
+    }
+    auto r = cellarcove_lcm_of_i64(numbers, length.value);
     return r.status == CELLARCOVE_ANSWER ? result<std::int64_t>(r.value) : result<std::int64_t>(static_cast<status>(r.status));
 }
 
 /// The least common multiple of the numbers. That of 4, 6 and 10 is 60, that of numbers of which one is 0 is 0, and
 /// that of no numbers is 1. status::not_fitting if the multiple does not fit.
-[[nodiscard]] inline result<std::uint64_t> lcm_of(const std::uint64_t *numbers, std::size_t length) {
-    auto r = cellarcove_lcm_of_u64(numbers, length);
+[[nodiscard]] inline result<std::uint64_t> lcm_of(const std::uint64_t *numbers, detail::checked<std::size_t> length) {
+    if (auto error = detail::error_of(length); error != status::answer) {
+        return result<std::uint64_t>(error);
+    }
+    auto r = cellarcove_lcm_of_u64(numbers, length.value);
     return r.status == CELLARCOVE_ANSWER ? result<std::uint64_t>(r.value) : result<std::uint64_t>(static_cast<status>(r.status));
 }
 
@@ -435,12 +548,18 @@ template <class N0> [[nodiscard]] auto cbrt(N0 x) {
 
 /// The root of a degree, rounded toward 0. That of -9 of degree 3 is -2. status::outside if degree is 0, and if it is
 /// even and x is negative.
-template <class N0> [[nodiscard]] auto nth_root(N0 x, std::uint32_t degree) {
+template <class N0> [[nodiscard]] auto nth_root(N0 x, detail::checked<std::uint32_t> degree) {
     if constexpr (detail::is_signed<N0>()) {
-        auto r = cellarcove_nth_root_i64(static_cast<std::int64_t>(x), degree);
+        if (auto error = detail::error_of(degree); error != status::answer) {
+            return result<std::int64_t>(error);
+        }
+        auto r = cellarcove_nth_root_i64(static_cast<std::int64_t>(x), degree.value);
         return r.status == CELLARCOVE_ANSWER ? result<std::int64_t>(r.value) : result<std::int64_t>(static_cast<status>(r.status));
     } else {
-        auto r = cellarcove_nth_root_u64(static_cast<std::uint64_t>(x), degree);
+        if (auto error = detail::error_of(degree); error != status::answer) {
+            return result<std::uint64_t>(error);
+        }
+        auto r = cellarcove_nth_root_u64(static_cast<std::uint64_t>(x), degree.value);
         return r.status == CELLARCOVE_ANSWER ? result<std::uint64_t>(r.value) : result<std::uint64_t>(static_cast<status>(r.status));
     }
 }
@@ -458,19 +577,19 @@ template <class N0> [[nodiscard]] auto is_square(N0 x) {
 
 /// Whether x is an integer to the power degree. For -243 and 5 it is true, and for 244 and 5 it is false; for the
 /// degree 0 it is true at 1 alone.
-template <class N0> [[nodiscard]] auto is_power(N0 x, std::uint32_t degree) {
+template <class N0> [[nodiscard]] auto is_power(N0 x, detail::exact<std::uint32_t> degree) {
     if constexpr (detail::is_signed<N0>()) {
-        auto r = cellarcove_is_power_i64(static_cast<std::int64_t>(x), degree);
+        auto r = cellarcove_is_power_i64(static_cast<std::int64_t>(x), degree.value);
         return r;
     } else {
-        auto r = cellarcove_is_power_u64(static_cast<std::uint64_t>(x), degree);
+        auto r = cellarcove_is_power_u64(static_cast<std::uint64_t>(x), degree.value);
         return r;
     }
 }
 
 /// Whether x is a square, a cube or a higher power of an integer. 128 is one, and 72 is not.
-[[nodiscard]] inline bool is_perfect_power(std::uint64_t x) {
-    auto r = cellarcove_is_perfect_power_u64(x);
+[[nodiscard]] inline bool is_perfect_power(detail::exact<std::uint64_t> x) {
+    auto r = cellarcove_is_perfect_power_u64(x.value);
     return r;
 }
 
@@ -488,8 +607,11 @@ template <class N0, class N1> [[nodiscard]] auto binomial(N0 n, N1 k) {
 
 /// How many ways there are to order things of several kinds, the multinomial of their counts. That of 2, 1 and 2 is
 /// 30, and that of no counts is 1. status::not_fitting if the coefficient does not fit.
-[[nodiscard]] inline result<std::uint64_t> multinomial(const std::uint64_t *counts, std::size_t length) {
-    auto r = cellarcove_multinomial_u64(counts, length);
+[[nodiscard]] inline result<std::uint64_t> multinomial(const std::uint64_t *counts, detail::checked<std::size_t> length) {
+    if (auto error = detail::error_of(length); error != status::answer) {
+        return result<std::uint64_t>(error);
+    }
+    auto r = cellarcove_multinomial_u64(counts, length.value);
     return r.status == CELLARCOVE_ANSWER ? result<std::uint64_t>(r.value) : result<std::uint64_t>(static_cast<status>(r.status));
 }
 
@@ -502,27 +624,33 @@ template <class Items>
 /// The rank of a choice of numbers below n: how many choices of as many numbers come before it. They are ordered by
 /// their last number, then by the one before it, and so on. For 0, 2 and 3, and 5, it is 2. status::outside if the
 /// numbers do not increase or are not all below n. status::not_fitting if the rank does not fit.
-[[nodiscard]] inline result<std::uint64_t> rank(const std::uint64_t *choice, std::size_t length, std::uint64_t n) {
-    auto r = cellarcove_rank_u64(choice, length, n);
+[[nodiscard]] inline result<std::uint64_t> rank(const std::uint64_t *choice, detail::checked<std::size_t> length, detail::checked<std::uint64_t> n) {
+    if (auto error = detail::error_of(length, n); error != status::answer) {
+        return result<std::uint64_t>(error);
+    }
+    auto r = cellarcove_rank_u64(choice, length.value, n.value);
     return r.status == CELLARCOVE_ANSWER ? result<std::uint64_t>(r.value) : result<std::uint64_t>(static_cast<status>(r.status));
 }
 
 /// The same for a container of `std::uint64_t` in one piece.
 template <class Items>
-[[nodiscard]] auto rank(const Items &choice, std::uint64_t n) -> decltype(rank(choice.data(), choice.size(), n)) {
+[[nodiscard]] auto rank(const Items &choice, detail::checked<std::uint64_t> n) -> decltype(rank(choice.data(), choice.size(), n)) {
     return rank(choice.data(), choice.size(), n);
 }
 
 /// Writes the choice of numbers below n that has the rank, of as many numbers as choice has, and returns the status.
 /// For 2, 5 and three numbers it is 0, 2 and 3. If the status is not 0, choice stays as it is. status::outside if the
 /// rank is not below the number of these choices.
-[[nodiscard]] inline status choice_of_rank(std::uint64_t rank, std::uint64_t n, std::uint64_t *choice, std::size_t length) {
-    return static_cast<status>(cellarcove_choice_of_rank_u64(rank, n, choice, length));
+[[nodiscard]] inline status choice_of_rank(detail::checked<std::uint64_t> rank, detail::checked<std::uint64_t> n, std::uint64_t *choice, detail::checked<std::size_t> length) {
+    if (auto error = detail::error_of(rank, n, length); error != status::answer) {
+        return error;
+    }
+    return static_cast<status>(cellarcove_choice_of_rank_u64(rank.value, n.value, choice, length.value));
 }
 
 /// The same for a container of `std::uint64_t` in one piece.
 template <class Items>
-[[nodiscard]] auto choice_of_rank(std::uint64_t rank, std::uint64_t n, Items &choice) -> decltype(choice_of_rank(rank, n, choice.data(), choice.size())) {
+[[nodiscard]] auto choice_of_rank(detail::checked<std::uint64_t> rank, detail::checked<std::uint64_t> n, Items &choice) -> decltype(choice_of_rank(rank, n, choice.data(), choice.size())) {
     return choice_of_rank(rank, n, choice.data(), choice.size());
 }
 
@@ -561,12 +689,18 @@ template <class N0, class N1, class N2> [[nodiscard]] auto product_modulo(N0 a, 
 
 /// a to the power exponent modulo m, from 0 to m - 1. For 3, 4 and 7 it is 4. status::bad_modulus if m is not
 /// positive.
-template <class N0, class N2> [[nodiscard]] auto power_modulo(N0 a, std::uint64_t exponent, N2 m) {
+template <class N0, class N2> [[nodiscard]] auto power_modulo(N0 a, detail::checked<std::uint64_t> exponent, N2 m) {
     if constexpr (detail::is_signed<N0, N2>()) {
-        auto r = cellarcove_power_modulo_i64(static_cast<std::int64_t>(a), exponent, static_cast<std::int64_t>(m));
+        if (auto error = detail::error_of(exponent); error != status::answer) {
+            return result<std::int64_t>(error);
+        }
+        auto r = cellarcove_power_modulo_i64(static_cast<std::int64_t>(a), exponent.value, static_cast<std::int64_t>(m));
         return r.status == CELLARCOVE_ANSWER ? result<std::int64_t>(r.value) : result<std::int64_t>(static_cast<status>(r.status));
     } else {
-        auto r = cellarcove_power_modulo_u64(static_cast<std::uint64_t>(a), exponent, static_cast<std::uint64_t>(m));
+        if (auto error = detail::error_of(exponent); error != status::answer) {
+            return result<std::uint64_t>(error);
+        }
+        auto r = cellarcove_power_modulo_u64(static_cast<std::uint64_t>(a), exponent.value, static_cast<std::uint64_t>(m));
         return r.status == CELLARCOVE_ANSWER ? result<std::uint64_t>(r.value) : result<std::uint64_t>(static_cast<status>(r.status));
     }
 }
@@ -673,8 +807,11 @@ template <class N0, class N1, class N2, class N3, class N4> [[nodiscard]] auto n
 /// For 10, and 1 modulo 4, 3 modulo 6 and 0 modulo 7, it is 21. status::outside if there are more congruences.
 /// status::bad_modulus if a modulus is not positive. status::no_solution if there is no such number.
 /// status::not_fitting if it does not fit.
-[[nodiscard]] inline result<std::int64_t> next_common_solution_of(std::int64_t from, const i64_congruence *congruences, std::size_t length) {
-    auto r = cellarcove_next_common_solution_of_i64(from, congruences, length);
+[[nodiscard]] inline result<std::int64_t> next_common_solution_of(detail::checked<std::int64_t> from, const i64_congruence *congruences, detail::checked<std::size_t> length) {
+    if (auto error = detail::error_of(from, length); error != status::answer) {
+        return result<std::int64_t>(error);
+    }
+    auto r = cellarcove_next_common_solution_of_i64(from.value, congruences, length.value);
     return r.status == CELLARCOVE_ANSWER ? result<std::int64_t>(r.value) : result<std::int64_t>(static_cast<status>(r.status));
 }
 
@@ -682,8 +819,11 @@ template <class N0, class N1, class N2, class N3, class N4> [[nodiscard]] auto n
 /// For 10, and 1 modulo 4, 3 modulo 6 and 0 modulo 7, it is 21. status::outside if there are more congruences.
 /// status::bad_modulus if a modulus is 0. status::no_solution if there is no such number. status::not_fitting if it
 /// does not fit.
-[[nodiscard]] inline result<std::uint64_t> next_common_solution_of(std::uint64_t from, const u64_congruence *congruences, std::size_t length) {
-    auto r = cellarcove_next_common_solution_of_u64(from, congruences, length);
+[[nodiscard]] inline result<std::uint64_t> next_common_solution_of(detail::checked<std::uint64_t> from, const u64_congruence *congruences, detail::checked<std::size_t> length) {
+    if (auto error = detail::error_of(from, length); error != status::answer) {
+        return result<std::uint64_t>(error);
+    }
+    auto r = cellarcove_next_common_solution_of_u64(from.value, congruences, length.value);
     return r.status == CELLARCOVE_ANSWER ? result<std::uint64_t>(r.value) : result<std::uint64_t>(static_cast<status>(r.status));
 }
 
@@ -731,8 +871,11 @@ template <class N0, class Items>
 /// The nearest fraction whose denominator is at most max. That of 3/10 and 5 is 1/3. status::outside if max is not
 /// positive, whatever a is. status::zero_denominator if the denominator is 0. status::not_fitting if a part of the
 /// reduced fraction does not fit.
-[[nodiscard]] inline result<fraction> fraction_limit_denominator(const fraction &a, std::int64_t max) {
-    auto r = cellarcove_fraction_limit_denominator(a.to_c(), max);
+[[nodiscard]] inline result<fraction> fraction_limit_denominator(const fraction &a, detail::checked<std::int64_t> max) {
+    if (auto error = detail::error_of(max); error != status::answer) {
+        return result<fraction>(error);
+    }
+    auto r = cellarcove_fraction_limit_denominator(a.to_c(), max.value);
     return r.status == CELLARCOVE_ANSWER ? result<fraction>(fraction::from_c(r.value)) : result<fraction>(static_cast<status>(r.status));
 }
 
@@ -760,29 +903,38 @@ template <class N0, class Items>
 
 /// The fraction times n, rounded down. That of 2/3 and 100 is 66. status::zero_denominator if the denominator is 0.
 /// status::not_fitting if a part of the reduced fraction does not fit, or the result.
-[[nodiscard]] inline result<std::int64_t> fraction_floor_times(const fraction &a, std::int64_t n) {
-    auto r = cellarcove_fraction_floor_times(a.to_c(), n);
+[[nodiscard]] inline result<std::int64_t> fraction_floor_times(const fraction &a, detail::checked<std::int64_t> n) {
+    if (auto error = detail::error_of(n); error != status::answer) {
+        return result<std::int64_t>(error);
+    }
+    auto r = cellarcove_fraction_floor_times(a.to_c(), n.value);
     return r.status == CELLARCOVE_ANSWER ? result<std::int64_t>(r.value) : result<std::int64_t>(static_cast<status>(r.status));
 }
 
 /// The fraction times n, rounded up. That of 2/3 and 100 is 67. status::zero_denominator if the denominator is 0.
 /// status::not_fitting if a part of the reduced fraction does not fit, or the result.
-[[nodiscard]] inline result<std::int64_t> fraction_ceil_times(const fraction &a, std::int64_t n) {
-    auto r = cellarcove_fraction_ceil_times(a.to_c(), n);
+[[nodiscard]] inline result<std::int64_t> fraction_ceil_times(const fraction &a, detail::checked<std::int64_t> n) {
+    if (auto error = detail::error_of(n); error != status::answer) {
+        return result<std::int64_t>(error);
+    }
+    auto r = cellarcove_fraction_ceil_times(a.to_c(), n.value);
     return r.status == CELLARCOVE_ANSWER ? result<std::int64_t>(r.value) : result<std::int64_t>(static_cast<status>(r.status));
 }
 
 /// The integer nearest to the fraction times n, and of two that are equally near the one farther from 0. That of 1/2
 /// and -3 is -2. status::zero_denominator if the denominator is 0. status::not_fitting if a part of the reduced
 /// fraction does not fit, or the result.
-[[nodiscard]] inline result<std::int64_t> fraction_round_times(const fraction &a, std::int64_t n) {
-    auto r = cellarcove_fraction_round_times(a.to_c(), n);
+[[nodiscard]] inline result<std::int64_t> fraction_round_times(const fraction &a, detail::checked<std::int64_t> n) {
+    if (auto error = detail::error_of(n); error != status::answer) {
+        return result<std::int64_t>(error);
+    }
+    auto r = cellarcove_fraction_round_times(a.to_c(), n.value);
     return r.status == CELLARCOVE_ANSWER ? result<std::int64_t>(r.value) : result<std::int64_t>(static_cast<status>(r.status));
 }
 
 /// The date of a day, counted from 1970-01-01, which is day 0. That of -1 is 1969-12-31.
-[[nodiscard]] inline date date_from_day(std::int64_t day) {
-    auto r = cellarcove_date_from_day(day);
+[[nodiscard]] inline date date_from_day(detail::exact<std::int64_t> day) {
+    auto r = cellarcove_date_from_day(day.value);
     return date::from_c(r);
 }
 
@@ -795,8 +947,11 @@ template <class N0, class Items>
 
 /// The date days days after a date, or before it if days is negative. That of 2000-03-01 and -1 is 2000-02-29.
 /// status::no_date if there is no such date. status::not_fitting if the year of the result does not fit.
-[[nodiscard]] inline result<date> plus_days(const date &of, std::int64_t days) {
-    auto r = cellarcove_plus_days(of.to_c(), days);
+[[nodiscard]] inline result<date> plus_days(const date &of, detail::checked<std::int64_t> days) {
+    if (auto error = detail::error_of(days); error != status::answer) {
+        return result<date>(error);
+    }
+    auto r = cellarcove_plus_days(of.to_c(), days.value);
     return r.status == CELLARCOVE_ANSWER ? result<date>(date::from_c(r.date)) : result<date>(static_cast<status>(r.status));
 }
 
@@ -810,8 +965,11 @@ template <class N0, class Items>
 /// The date months months after a date, or before it if months is negative. Its day of the month is the same, or the
 /// last one if its month is shorter. That of 2000-01-31 and 1 is 2000-02-29. status::no_date if there is no such
 /// date. status::not_fitting if the year of the result does not fit.
-[[nodiscard]] inline result<date> plus_months(const date &of, std::int64_t months) {
-    auto r = cellarcove_plus_months(of.to_c(), months);
+[[nodiscard]] inline result<date> plus_months(const date &of, detail::checked<std::int64_t> months) {
+    if (auto error = detail::error_of(months); error != status::answer) {
+        return result<date>(error);
+    }
+    auto r = cellarcove_plus_months(of.to_c(), months.value);
     return r.status == CELLARCOVE_ANSWER ? result<date>(date::from_c(r.date)) : result<date>(static_cast<status>(r.status));
 }
 
@@ -833,54 +991,66 @@ template <class N0, class Items>
 /// The date of a day of a week of ISO 8601. The days of the week are from 1 for Monday to 7 for Sunday. That of 2009,
 /// 53 and 7 is 2010-01-03. status::outside if weekday is not from 1 to 7, whatever the week. status::no_date if the
 /// year has no such week. status::not_fitting if the year of the date does not fit.
-[[nodiscard]] inline result<date> date_from_iso_week(std::int64_t year, std::uint8_t week, std::uint8_t weekday) {
-    auto r = cellarcove_date_from_iso_week(year, week, weekday);
+[[nodiscard]] inline result<date> date_from_iso_week(detail::checked<std::int64_t> year, detail::checked<std::uint8_t> week, detail::checked<std::uint8_t> weekday) {
+    if (auto error = detail::error_of(year); error != status::answer) {
+        return result<date>(error);
+    }
+    auto r = cellarcove_date_from_iso_week(year.value, week.value, weekday.value);
     return r.status == CELLARCOVE_ANSWER ? result<date>(date::from_c(r.date)) : result<date>(static_cast<status>(r.status));
 }
 
 /// The date of Easter Sunday of a year, by the rules of today. That of 2024 is 2024-03-31.
-[[nodiscard]] inline date easter(std::int64_t year) {
-    auto r = cellarcove_easter(year);
+[[nodiscard]] inline date easter(detail::exact<std::int64_t> year) {
+    auto r = cellarcove_easter(year.value);
     return date::from_c(r);
 }
 
 /// The day of the week of a day, from 1 for Monday to 7 for Sunday. That of 0 is 4.
-[[nodiscard]] inline std::uint8_t weekday(std::int64_t day) {
-    auto r = cellarcove_weekday(day);
+[[nodiscard]] inline std::uint8_t weekday(detail::exact<std::int64_t> day) {
+    auto r = cellarcove_weekday(day.value);
     return r;
 }
 
 /// The date of the n-th day of a month that is this day of the week, from 1 for Monday to 7 for Sunday. The first one
 /// has n 1. The date for 2026, 11, 4 and 4 is 2026-11-26. status::outside if weekday is not from 1 to 7, whatever the
 /// month. status::no_date if there is no such date.
-[[nodiscard]] inline result<date> nth_weekday_of_month(std::int64_t year, std::uint8_t month, std::uint8_t weekday, std::uint8_t n) {
-    auto r = cellarcove_nth_weekday_of_month(year, month, weekday, n);
+[[nodiscard]] inline result<date> nth_weekday_of_month(detail::checked<std::int64_t> year, detail::checked<std::uint8_t> month, detail::checked<std::uint8_t> weekday, detail::checked<std::uint8_t> n) {
+    if (auto error = detail::error_of(year); error != status::answer) {
+        return result<date>(error);
+    }
+    auto r = cellarcove_nth_weekday_of_month(year.value, month.value, weekday.value, n.value);
     return r.status == CELLARCOVE_ANSWER ? result<date>(date::from_c(r.date)) : result<date>(static_cast<status>(r.status));
 }
 
 /// The date of the last day of a month that is this day of the week, from 1 for Monday to 7 for Sunday. The date for
 /// 2026, 10 and 5 is 2026-10-30. status::outside if weekday is not from 1 to 7, whatever the month. status::no_date
 /// if month is not from 1 to 12.
-[[nodiscard]] inline result<date> last_weekday_of_month(std::int64_t year, std::uint8_t month, std::uint8_t weekday) {
-    auto r = cellarcove_last_weekday_of_month(year, month, weekday);
+[[nodiscard]] inline result<date> last_weekday_of_month(detail::checked<std::int64_t> year, detail::checked<std::uint8_t> month, detail::checked<std::uint8_t> weekday) {
+    if (auto error = detail::error_of(year); error != status::answer) {
+        return result<date>(error);
+    }
+    auto r = cellarcove_last_weekday_of_month(year.value, month.value, weekday.value);
     return r.status == CELLARCOVE_ANSWER ? result<date>(date::from_c(r.date)) : result<date>(static_cast<status>(r.status));
 }
 
 /// Whether the year has a 29 February. 2000 and 0 have one, and 1900 and -1 do not.
-[[nodiscard]] inline bool is_leap_year(std::int64_t year) {
-    auto r = cellarcove_is_leap_year(year);
+[[nodiscard]] inline bool is_leap_year(detail::exact<std::int64_t> year) {
+    auto r = cellarcove_is_leap_year(year.value);
     return r;
 }
 
 /// How many weeks of ISO 8601 the year has: 52 or 53. 2020 has 53.
-[[nodiscard]] inline std::uint8_t weeks_in_year(std::int64_t year) {
-    auto r = cellarcove_weeks_in_year(year);
+[[nodiscard]] inline std::uint8_t weeks_in_year(detail::exact<std::int64_t> year) {
+    auto r = cellarcove_weeks_in_year(year.value);
     return r;
 }
 
 /// How many days the month has; January is 1. February 1900 has 28. status::no_date if month is not from 1 to 12.
-[[nodiscard]] inline result<std::uint64_t> days_in_month(std::int64_t year, std::uint8_t month) {
-    auto r = cellarcove_days_in_month(year, month);
+[[nodiscard]] inline result<std::uint64_t> days_in_month(detail::checked<std::int64_t> year, detail::checked<std::uint8_t> month) {
+    if (auto error = detail::error_of(year); error != status::answer) {
+        return result<std::uint64_t>(error);
+    }
+    auto r = cellarcove_days_in_month(year.value, month.value);
     return r.status == CELLARCOVE_ANSWER ? result<std::uint64_t>(r.value) : result<std::uint64_t>(static_cast<status>(r.status));
 }
 
@@ -903,10 +1073,21 @@ template <class N0, class Items>
 [[nodiscard]] inline bool operator>(const fraction &a, const fraction &b) { return b < a; }
 [[nodiscard]] inline bool operator<=(const fraction &a, const fraction &b) { return !(b < a); }
 [[nodiscard]] inline bool operator>=(const fraction &a, const fraction &b) { return !(a < b); }
-inline std::ostream &operator<<(std::ostream &out, const fraction &a) { return out << a.num() << '/' << a.den(); }
+inline std::ostream &operator<<(std::ostream &out, const fraction &a) {
+    detail::line line;
+    if (a.num() < 0) {
+        line.add('-');
+    }
+    line.add(detail::line::magnitude(a.num()), 1);
+    if (a.den() != 1) {
+        line.add('/');
+        line.add(detail::line::magnitude(a.den()), 1);
+    }
+    return out << line;
+}
 
 /// The date some days later.
-[[nodiscard]] inline result<date> operator+(const date &a, std::int64_t days) { return plus_days(a, days); }
+[[nodiscard]] inline result<date> operator+(const date &a, detail::checked<std::int64_t> days) { return plus_days(a, days); }
 /// The days from `b` to `a`.
 [[nodiscard]] inline result<std::int64_t> operator-(const date &a, const date &b) { return days_between(b, a); }
 [[nodiscard]] constexpr bool operator==(const date &a, const date &b) {
@@ -920,10 +1101,21 @@ inline std::ostream &operator<<(std::ostream &out, const fraction &a) { return o
 [[nodiscard]] constexpr bool operator<=(const date &a, const date &b) { return !(b < a); }
 [[nodiscard]] constexpr bool operator>=(const date &a, const date &b) { return !(a < b); }
 inline std::ostream &operator<<(std::ostream &out, const date &a) {
-    auto two = [&out](unsigned part) -> std::ostream & { return out << (part < 10 ? "-0" : "-") << part; };
-    out << a.year();
-    two(a.month());
-    return two(a.day_of_month());
+    detail::line line;
+    line.add_year(a.year());
+    for (std::uint8_t part : {a.month(), a.day_of_month()}) {
+        line.add('-');
+        line.add(part, 2);
+    }
+    return out << line;
+}
+inline std::ostream &operator<<(std::ostream &out, const week_of_year &a) {
+    detail::line line;
+    line.add_year(a.year);
+    line.add('-');
+    line.add('W');
+    line.add(a.week, 2);
+    return out << line;
 }
 
 } // namespace cellarcove

@@ -1,8 +1,10 @@
-// The header for C++: each template with both signs, each class with its operators, and what it rejects.
+// The header for C++: each template with both signs, each class with its operators and its text, and what it refuses.
 #include "cellarcove.hpp"
 
 #include <cstdio>
+#include <iomanip>
 #include <sstream>
+#include <string>
 #include <vector>
 
 static int failed = 0;
@@ -57,8 +59,8 @@ static void numbers() {
     std::vector<cellarcove::i64_congruence> congruences{{1, 4}, {3, 6}, {0, 7}};
     CHECK(*cellarcove::next_common_solution_of(10, congruences) == 21 && *cellarcove::next_common_solution_of(-100, congruences) == -63);
     CHECK(cellarcove::next_common_solution_of(0U, std::vector<cellarcove::u64_congruence>{{1, 4}, {2, 6}}) == status::no_solution);
-    CHECK(cellarcove::is_square(144) && cellarcove::is_power(-243, 5) && !cellarcove::is_power(244U, 5));
-    CHECK(cellarcove::is_perfect_power(128));
+    CHECK(cellarcove::is_square(144) && cellarcove::is_power(-243, 5U) && !cellarcove::is_power(244U, 5U));
+    CHECK(cellarcove::is_perfect_power(128U));
     CHECK(*cellarcove::checked_product(1 << 20, 1 << 20).and_then([](std::int64_t x) { return cellarcove::checked_sum(x, 1); })
         == (INT64_C(1) << 40) + 1);
     CHECK(cellarcove::checked_product(INT64_MAX, 2).and_then([](std::int64_t x) { return cellarcove::checked_sum(x, 1); })
@@ -72,6 +74,68 @@ static void numbers() {
     CHECK(thrown);
 }
 
+// A number out of the range of its parameter is refused, and never taken for another one.
+static void ranges() {
+    const std::uint64_t large = (UINT64_C(1) << 63) + 2;
+    int negative = -3, month = 258;
+    CHECK(cellarcove::power_modulo(3, -1, 7) == status::outside && cellarcove::power_modulo(3U, -1, 7U) == status::outside);
+    CHECK(*cellarcove::power_modulo(3, UINT64_MAX, 7) == 6);
+    CHECK(cellarcove::nth_root(8, negative) == status::outside && cellarcove::nth_root(8U, UINT64_C(1) << 32) == status::not_fitting);
+    CHECK(*cellarcove::nth_root(8, UINT32_MAX) == 1);
+    CHECK(cellarcove::extended_gcd(large, 6ULL) == status::not_fitting && cellarcove::extended_gcd(6, large) == status::not_fitting);
+    CHECK(*cellarcove::extended_gcd(240U, short(46)) == cellarcove::bezout{2, -9, 47});
+    std::vector<std::uint64_t> choice(2);
+    CHECK(cellarcove::choice_of_rank(negative, 5, choice) == status::outside);
+    CHECK(cellarcove::choice_of_rank(0, negative, choice) == status::outside);
+    CHECK(cellarcove::rank(choice.data(), -1, 5) == status::outside && cellarcove::rank(choice, negative) == status::outside);
+    std::vector<cellarcove::i64_congruence> congruences{{1, 4}};
+    CHECK(cellarcove::next_common_solution_of(large, congruences) == status::not_fitting);
+    CHECK(cellarcove::next_common_solution_of(negative, std::vector<cellarcove::u64_congruence>{{1, 4}}) == status::outside);
+
+    CHECK(fraction::make(large, 4) == status::not_fitting && fraction::make(1, large) == status::not_fitting);
+    CHECK(cellarcove::fraction_round_times(1, large) == status::not_fitting);
+    CHECK(cellarcove::fraction_limit_denominator(1, large) == status::not_fitting);
+
+    auto day = *date::make(2024, 1, 1);
+    CHECK(date::make(2024, month, 1) == status::no_date && date::make(2024, 1, 257) == status::no_date);
+    CHECK(date::make(2024, -254, 1) == status::no_date && date::make(2024, 1, -255) == status::no_date);
+    CHECK(date::make(large, 1, 1) == status::not_fitting && *date::make(2024U, 1L, std::uint8_t{1}) == day);
+    CHECK(day + large == status::not_fitting && cellarcove::plus_months(day, large) == status::not_fitting);
+    CHECK(cellarcove::days_in_month(2024, month) == status::no_date && cellarcove::days_in_month(2024, -254) == status::no_date);
+    CHECK(cellarcove::nth_weekday_of_month(2024, month, 1, 1) == status::no_date);
+    CHECK(cellarcove::nth_weekday_of_month(2024, month, 257, 1) == status::outside);
+    CHECK(cellarcove::nth_weekday_of_month(2024, 1, 1, 257) == status::no_date);
+    CHECK(cellarcove::nth_weekday_of_month(2024, 1, 1, -255) == status::no_date);
+    CHECK(cellarcove::last_weekday_of_month(2024, 1, -255) == status::outside);
+    CHECK(cellarcove::date_from_iso_week(2024, 257, 1) == status::no_date);
+    CHECK(cellarcove::date_from_iso_week(2024, 1, 257) == status::outside);
+    CHECK(cellarcove::date_from_iso_week(large, 1, 1) == status::not_fitting);
+}
+
+// What a stream gets of a value, whatever it is set to but for the width and the fill.
+template <class T> static std::string text_of(const T &value) {
+    std::ostringstream plain, set;
+    plain << value;
+    set << std::hex << std::showpos << std::showbase << std::setw(50) << std::setfill('*') << value;
+    CHECK(set.str() == std::string(50 - plain.str().size(), '*') + plain.str());
+    return plain.str();
+}
+
+// The texts are those that Rust and Python print, and that Rust reads.
+static void texts() {
+    CHECK(text_of(*fraction::make(6, -4)) == "-3/2" && text_of(fraction(7)) == "7" && text_of(fraction()) == "0");
+    CHECK(text_of(fraction(INT64_MIN)) == "-9223372036854775808");
+    CHECK(text_of(*fraction::make(INT64_MIN, INT64_MAX)) == "-9223372036854775808/9223372036854775807");
+    CHECK(text_of(*date::make(2000, 2, 29)) == "2000-02-29" && text_of(*date::make(9999, 12, 31)) == "9999-12-31");
+    CHECK(text_of(cellarcove::easter(12000)) == "+12000-04-02" && text_of(cellarcove::easter(5)) == "0005-04-17");
+    CHECK(text_of(*date::make(0, 1, 1)) == "0000-01-01" && text_of(*date::make(-1, 12, 3)) == "-0001-12-03");
+    CHECK(text_of(*date::make(-12345, 10, 9)) == "-12345-10-09");
+    CHECK(text_of(*date::make(INT64_MIN, 12, 31)) == "-9223372036854775808-12-31");
+    CHECK(text_of(*date::make(INT64_MAX, 12, 31)) == "+9223372036854775807-12-31");
+    CHECK(text_of(*cellarcove::iso_week(*date::make(2005, 1, 1))) == "2004-W53");
+    CHECK(text_of(*cellarcove::iso_week(*date::make(-3, 1, 10))) == "-0003-W02");
+}
+
 static void fractions() {
     auto half = *fraction::make(1, 2), third = *fraction::make(-1, -3);
     CHECK(*(half + third) == *fraction::make(5, 6) && *(half - third) == *fraction::make(1, 6));
@@ -82,9 +146,6 @@ static void fractions() {
     CHECK(fraction::make(INT64_MIN, -1) == status::not_fitting);
     CHECK(*cellarcove::fraction_floor(*fraction::make(-3, 2)) == -2 && *cellarcove::fraction_ceil(*fraction::make(-3, 2)) == -1);
     CHECK(*cellarcove::fraction_limit_denominator(*fraction::make(3, 10), 5) == third);
-    std::ostringstream out;
-    out << *fraction::make(6, -4);
-    CHECK(out.str() == "-3/2");
 }
 
 static void dates() {
@@ -96,14 +157,13 @@ static void dates() {
     CHECK(cellarcove::easter(2024) == *date::make(2024, 3, 31) && cellarcove::date_from_day(-1) == *date::make(1969, 12, 31));
     CHECK(cellarcove::weekday(0) == 4);
     CHECK(*cellarcove::iso_week(*date::make(2005, 1, 1)) == cellarcove::week_of_year{53, 2004});
-    std::ostringstream out;
-    out << leap << ' ' << *date::make(-1, 12, 3);
-    CHECK(out.str() == "2000-02-29 -1-12-03");
 }
 
 int main() {
     CHECK(std::string(cellarcove::text(status::no_date)) == "there is no such date");
     numbers();
+    ranges();
+    texts();
     fractions();
     dates();
     std::printf("%d results right, %d wrong\n", passed, failed);

@@ -12,6 +12,7 @@ RESULTS = {
 }
 PLAIN = {'i64': 'std::int64_t', 'u64': 'std::uint64_t', 'u32': 'std::uint32_t', 'u8': 'std::uint8_t', 'bool': 'bool', 'Date': 'date',
          'Fraction': 'fraction', 'I64Congruence': 'i64_congruence', 'U64Congruence': 'u64_congruence'}
+CLASSES = ('Fraction', 'Date')
 FROM_C = {'FractionAnswer': 'fraction::from_c(r.value)', 'DateAnswer': 'date::from_c(r.date)', 'Date': 'date::from_c(r)'}
 
 
@@ -41,55 +42,64 @@ def named(parameter: Field) -> str:
     return 'of' if parameter.name == 'date' else parameter.name
 
 
+def taken(call: Call, parameter: Field) -> str:
+    """A parameter that is no template: a class, a slice, or a number, which a call without a status takes only of an exact type."""
+    number = 'checked' if EXPORTS().has_status(call) else 'exact'
+    if parameter.item:
+        constant = '' if parameter.is_written else 'const '
+        return f'{constant}{PLAIN[parameter.item]} *{parameter.name}, detail::{number}<std::size_t> length'
+    if parameter.kind in CLASSES:
+        return f'const {PLAIN[parameter.kind]} &{named(parameter)}'
+    return f'detail::{number}<{PLAIN[parameter.kind]}> {named(parameter)}'
+
+
 def given(parameter: Field) -> str:
-    return f'{named(parameter)}.to_c()' if parameter.kind in ('Fraction', 'Date') else named(parameter)
+    """What the call for C gets of a parameter."""
+    if parameter.item:
+        return f'{parameter.name}, length.value'
+    return f'{named(parameter)}.{"to_c()" if parameter.kind in CLASSES else "value"}'
+
+
+def refusal(call: Call, parameters: list[Field]) -> list[str]:
+    """The statement that refuses a number out of the range of its parameter. The call for C itself refuses the largest `u8`."""
+    numbers = ['length' if p.item else named(p) for p in parameters if p.kind not in (*CLASSES, 'u8')]
+    if not numbers or not EXPORTS().has_status(call):
+        return []
+    returned = 'error' if call.writes else f'{of(call)[0]}(error)'
+    return [f'if (auto error = detail::error_of({", ".join(numbers)}); error != status::answer) {{', f'    return {returned};', '}']
 
 
 def body(call: Call) -> str:
     """The statements of a form."""
-    _, made = of(call)
-    return f'auto r = {call.symbol}({", ".join(map(given, call.parameters))});\n    return {made};'
+    called = f'{call.symbol}({", ".join(map(given, call.parameters))})'
+    last = [f'return static_cast<status>({called});'] if call.writes else [f'auto r = {called};', f'return {of(call)[1]};']
+    return '\n    '.join(refusal(call, call.parameters) + last)
 
 
 def plain_function(call: Call) -> str:
     """A function of one form."""
-    taken = ', '.join(f'{"const " + PLAIN[p.kind] + " &" if p.kind in ("Fraction", "Date") else PLAIN[p.kind] + " "}{named(p)}' for p in call.parameters)
-    return f'{comment(call)}[[nodiscard]] inline {of(call)[0]} {call.name}({taken}) {{\n    {body(call)}\n}}\n'
-
-
-def pointer(parameter: Field) -> tuple[str, str]:
-    """The parameters of a slice, and what they pass on."""
-    constant = '' if parameter.is_written else 'const '
-    return f'{constant}{PLAIN[parameter.item]} *{parameter.name}, std::size_t length', f'{parameter.name}, length'
+    parameters = ', '.join(taken(call, parameter) for parameter in call.parameters)
+    return f'{comment(call)}[[nodiscard]] inline {of(call)[0]} {call.name}({parameters}) {{\n    {body(call)}\n}}\n'
 
 
 def slice_functions(forms: list[Call]) -> str:
     """The functions of a call with a slice, one for each form, and one for a container."""
     call = forms[0]
-    text = ''
-    for form in forms:
-        pairs = [pointer(p) if p.item else (f'{PLAIN[p.kind]} {p.name}', p.name) for p in form.parameters]
-        called = f'{form.symbol}({", ".join(passed for _, passed in pairs)})'
-        inner = f'return static_cast<status>({called});' if call.writes else f'auto r = {called};\n    return {of(form)[1]};'
-        text += f'''{comment(form)}[[nodiscard]] inline {of(form)[0]} {form.name}({", ".join(taken for taken, _ in pairs)}) {{
-    {inner}
-}}
-
-'''
-    taken, passed, types = [], [], []
+    text = ''.join(plain_function(form) + '\n' for form in forms)
+    parameters, passed, types = [], [], []
     for k, (p, q) in enumerate(zip(call.parameters, forms[-1].parameters)):
         if p.item:
             types.append('Items')
-            taken.append(f'{"" if p.is_written else "const "}Items &{p.name}')
+            parameters.append(f'{"" if p.is_written else "const "}Items &{p.name}')
             passed.append(f'{p.name}.data(), {p.name}.size()')
         else:
             types += [f'N{k}'] if p.kind != q.kind else []
-            taken.append(f'{f"N{k}" if p.kind != q.kind else PLAIN[p.kind]} {p.name}')
+            parameters.append(f'N{k} {p.name}' if p.kind != q.kind else taken(call, p))
             passed.append(p.name)
     items = ' or '.join(f'`{PLAIN[p.item]}`' for form in forms for p in form.parameters if p.item)
     return text + f'''/// The same for a container of {items} in one piece.
 template <{", ".join("class " + kind for kind in types)}>
-[[nodiscard]] auto {call.name}({", ".join(taken)}) -> decltype({call.name}({", ".join(passed)})) {{
+[[nodiscard]] auto {call.name}({", ".join(parameters)}) -> decltype({call.name}({", ".join(passed)})) {{
     return {call.name}({", ".join(passed)});
 }}
 '''
@@ -99,18 +109,18 @@ def template(signed: Call, unsigned: Call) -> str:
     """A function of both forms."""
     follows = [a.kind != b.kind for a, b in zip(signed.parameters, unsigned.parameters)]
     types = [f'N{k}' for k, follow in enumerate(follows) if follow]
-    taken = ', '.join(f'{f"N{k}" if follow else PLAIN[p.kind]} {p.name}' for k, (p, follow) in enumerate(zip(signed.parameters, follows)))
+    parameters = ', '.join(f'N{k} {p.name}' if follow else taken(signed, p) for k, (p, follow) in enumerate(zip(signed.parameters, follows)))
+    others = [p for p, follow in zip(signed.parameters, follows) if not follow]
     uses = f'detail::is_signed<{", ".join(types)}>()'
 
-    def arguments(call: Call) -> str:
-        return ', '.join(f'static_cast<{PLAIN[p.kind]}>({p.name})' if follow else given(p) for p, follow in zip(call.parameters, follows))
-    return f'''{comment(signed)}template <{", ".join("class " + kind for kind in types)}> [[nodiscard]] auto {signed.name}({taken}) {{
+    def statements(call: Call) -> str:
+        arguments = ', '.join(f'static_cast<{PLAIN[p.kind]}>({p.name})' if follow else given(p) for p, follow in zip(call.parameters, follows))
+        return '\n        '.join([*refusal(call, others), f'auto r = {call.symbol}({arguments});', f'return {of(call)[1]};'])
+    return f'''{comment(signed)}template <{", ".join("class " + kind for kind in types)}> [[nodiscard]] auto {signed.name}({parameters}) {{
     if constexpr ({uses}) {{
-        auto r = {signed.symbol}({arguments(signed)});
-        return {of(signed)[1]};
+        {statements(signed)}
     }} else {{
-        auto r = {unsigned.symbol}({arguments(unsigned)});
-        return {of(unsigned)[1]};
+        {statements(unsigned)}
     }}
 }}
 '''

@@ -81,8 +81,26 @@ cpp_with() {
     has "$1" "C++ with $1" || return 0
     languages=$((languages + 1))
     check "C++ with $1" runs test.cpp "$1" -std=c++17 -Wconversion -O1 -x c++
+    check "what does not compile in C++ with $1" rejects_conversions "$1"
     check "the example of the page in C++ with $1" page_holds bindings/README.md cpp "$1" -std=c++17
     check "the header for C in C++ with $1" runs test.c "$1" -std=c++17 -O0 -x c++
+}
+
+# compiles COMPILER <EXPRESSIONS: the header for C++ has these expressions, one on each line.
+compiles() {
+    { echo '#include "cellarcove.hpp"
+        namespace cellarcove { void tried(fraction half, date day, std::array<std::uint64_t, 2> choice) {' &&
+        sed 's/.*/(void)(&);/' && echo '} }'; } |
+        "$1" -std=c++17 -include array -fsyntax-only -I bindings/c -x c++ -
+}
+
+# rejects_conversions COMPILER: no first expression of a line of the list compiles, and each second one does.
+rejects_conversions() {
+    local expressions
+    expressions=$(grep -v '^#' bindings/c/rejected.txt) && cut -d '|' -f 2 <<<"$expressions" | compiles "$1" &&
+        cut -d '|' -f 1 <<<"$expressions" | while read -r expression; do
+            ! compiles "$1" <<<"$expression" 2>/dev/null || { echo "it compiles: $expression"; return 1; }
+        done
 }
 
 # page_holds PAGE LANGUAGE COMPILER FLAG..: the example of a page is compiled, and prints what its comments say.

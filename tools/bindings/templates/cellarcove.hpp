@@ -2,14 +2,23 @@
 /// @file
 /// Cellarcove for C++17: the calls of cellarcove.h with results that are a value or a status, and fractions and dates with
 /// operators. A call of two forms takes numbers that are all signed or all unsigned, of up to 64 bits.
+///
+/// A number of one type in C may have any integer type. If it is out of range, the call refuses it before all else: status::outside
+/// if it is negative, and status::not_fitting if it is too large. But a month, a week, a day or the count of a day of the week has
+/// the status that the comment of its call names. A call without a status takes only types whose numbers are all in range. No call
+/// takes a `bool`, a character or a floating point number.
 #ifndef CELLARCOVE_HPP
 #define CELLARCOVE_HPP
 
+#include <algorithm>
 #include <cassert>
+#include <charconv>
 #include <cstddef>
 #include <cstdint>
+#include <limits>
 #include <optional>
 #include <ostream>
+#include <string_view>
 #include <tuple>
 #include <type_traits>
 #include <utility>
@@ -100,15 +109,112 @@ struct week_of_year {
     friend constexpr bool operator==(const week_of_year &a, const week_of_year &b) { return a.week == b.week && a.year == b.year; }
 };
 
+namespace detail {
+
+template <class T, class... Others> constexpr bool is_one_of = (std::is_same_v<T, Others> || ...);
+template <class T>
+constexpr bool is_number = is_one_of<T, signed char, short, int, long, long long> ||
+                           is_one_of<T, unsigned char, unsigned short, unsigned, unsigned long, unsigned long long>;
+
+/// Whether each number of type `N` is one of type `T`.
+template <class T, class N>
+constexpr bool has_all_of = is_number<N> && (std::is_signed_v<T> || !std::is_signed_v<N>) &&
+                            std::numeric_limits<N>::digits <= std::numeric_limits<T>::digits;
+
+/// Whether the numbers are signed. They have to be all signed or all unsigned.
+template <class... T> constexpr bool is_signed() {
+    static_assert((is_number<T> && ...), "a call takes integers of up to 64 bits");
+    static_assert((std::is_signed_v<T> && ...) || (!std::is_signed_v<T> && ...), "the numbers of a call are all signed or all unsigned");
+    return (std::is_signed_v<T> && ...);
+}
+
+/// A number of a type that has no number outside `T`.
+template <class T> struct exact {
+    template <class N, std::enable_if_t<has_all_of<T, N>, int> = 0> constexpr exact(N number) : value(number) {}
+    T value;
+};
+
+/// The number of type `T` that is nearest to a number of any type, and the status that says whether they differ.
+template <class T> struct checked {
+    template <class N, std::enable_if_t<is_number<N>, int> = 0> constexpr checked(N number) : value(static_cast<T>(number)) {
+        if (is_negative(number)) {
+            if constexpr (!std::is_signed_v<T>) {
+                value = 0;
+                error = status::outside;
+            }
+        } else if (static_cast<std::uint64_t>(number) > static_cast<std::uint64_t>(std::numeric_limits<T>::max())) {
+            value = std::numeric_limits<T>::max();
+            error = status::not_fitting;
+        }
+    }
+    T value;
+    status error = status::answer;
+
+  private:
+    template <class N> static constexpr bool is_negative(N number) {
+        if constexpr (std::is_signed_v<N>) {
+            return number < 0;
+        } else {
+            return false;
+        }
+    }
+};
+
+/// The first status of the numbers that is none of a value.
+template <class... T> constexpr status error_of(const checked<T> &...numbers) {
+    status found = status::answer;
+    ((found = found == status::answer ? numbers.error : found), ...);
+    return found;
+}
+
+/// The text of a fraction, a date or a week. Of the settings of a stream only the width and the fill change it.
+class line {
+  public:
+    void add(char part) { *end_++ = part; }
+    /// Adds a number with at least so many digits.
+    void add(std::uint64_t number, std::ptrdiff_t digits) {
+        char found[20];
+        const char *last = std::to_chars(found, found + sizeof found, number).ptr;
+        for (auto missing = digits - (last - found); missing > 0; missing--) {
+            add('0');
+        }
+        end_ = std::copy(static_cast<const char *>(found), last, end_);
+    }
+    /// Adds a year of ISO 8601, which has a sign if it is not from 0 to 9999.
+    void add_year(std::int64_t year) {
+        if (year < 0 || year > 9999) {
+            add(year < 0 ? '-' : '+');
+        }
+        add(magnitude(year), 4);
+    }
+    static constexpr std::uint64_t magnitude(std::int64_t number) {
+        return number < 0 ? 0 - static_cast<std::uint64_t>(number) : static_cast<std::uint64_t>(number);
+    }
+    friend std::ostream &operator<<(std::ostream &out, const line &all) {
+        return out << std::string_view(all.text_, static_cast<std::size_t>(all.end_ - all.text_));
+    }
+
+  private:
+    char text_[48];
+    char *end_ = text_;
+};
+
+} // namespace detail
+
 /// A fraction, which is reduced; its denominator is positive.
 class fraction {
   public:
-    /// The integer `whole`.
-    constexpr fraction(std::int64_t whole = 0) : num_(whole), den_(1) {}
+    /// The integer 0.
+    constexpr fraction() : num_(0), den_(1) {}
+    /// The integer `whole`, of a type whose numbers all fit `std::int64_t`.
+    template <class N, std::enable_if_t<detail::has_all_of<std::int64_t, N>, int> = 0> constexpr fraction(N whole) : num_(whole), den_(1) {}
     /// The fraction `num / den`, reduced. status::zero_denominator if den is 0, and status::not_fitting if a part of it does
     /// not fit.
-    [[nodiscard]] static result<fraction> make(std::int64_t num, std::int64_t den) {
-        auto r = cellarcove_fraction_new(num, den);
+    [[nodiscard]] static result<fraction> make(detail::checked<std::int64_t> num, detail::checked<std::int64_t> den) {
+        if (auto error = detail::error_of(num, den); error != status::answer) {
+            return result<fraction>(error);
+        }
+        auto r = cellarcove_fraction_new(num.value, den.value);
         return r.status == CELLARCOVE_ANSWER ? result<fraction>(from_c(r.value)) : result<fraction>(static_cast<status>(r.status));
     }
     /// A fraction that the calls for C returned.
@@ -125,9 +231,14 @@ class fraction {
 /// A date of the proleptic Gregorian calendar, of any year. The year before year 1 is year 0.
 class date {
   public:
-    /// The date of a year, a month and a day of the month. status::no_date if there is none.
-    [[nodiscard]] static result<date> make(std::int64_t year, std::uint8_t month, std::uint8_t day_of_month) {
-        date made(year, month, day_of_month);
+    /// The date of a year, a month and a day of the month. status::not_fitting if the year does not fit, and status::no_date if
+    /// there is no such date.
+    [[nodiscard]] static result<date> make(detail::checked<std::int64_t> year, detail::checked<std::uint8_t> month,
+                                           detail::checked<std::uint8_t> day_of_month) {
+        if (year.error != status::answer) {
+            return result<date>(year.error);
+        }
+        date made(year.value, month.value, day_of_month.value);
         return cellarcove_day_of_year(made.to_c()).status == CELLARCOVE_ANSWER ? result<date>(made) : result<date>(status::no_date);
     }
     /// A date that the calls for C returned.
@@ -147,19 +258,6 @@ class date {
 using i64_congruence = cellarcove_i64_congruence;
 using u64_congruence = cellarcove_u64_congruence;
 
-namespace detail {
-
-template <class T> constexpr bool is_number = std::is_integral_v<T> && !std::is_same_v<std::remove_cv_t<T>, bool> && sizeof(T) <= 8;
-
-/// Whether the numbers are signed. They have to be all signed or all unsigned.
-template <class... T> constexpr bool is_signed() {
-    static_assert((is_number<T> && ...), "a call takes integers of up to 64 bits");
-    static_assert((std::is_signed_v<T> && ...) || (!std::is_signed_v<T> && ...), "the numbers of a call are all signed or all unsigned");
-    return (std::is_signed_v<T> && ...);
-}
-
-} // namespace detail
-
 {calls}
 
 // ---- operators
@@ -174,10 +272,21 @@ template <class... T> constexpr bool is_signed() {
 [[nodiscard]] inline bool operator>(const fraction &a, const fraction &b) { return b < a; }
 [[nodiscard]] inline bool operator<=(const fraction &a, const fraction &b) { return !(b < a); }
 [[nodiscard]] inline bool operator>=(const fraction &a, const fraction &b) { return !(a < b); }
-inline std::ostream &operator<<(std::ostream &out, const fraction &a) { return out << a.num() << '/' << a.den(); }
+inline std::ostream &operator<<(std::ostream &out, const fraction &a) {
+    detail::line line;
+    if (a.num() < 0) {
+        line.add('-');
+    }
+    line.add(detail::line::magnitude(a.num()), 1);
+    if (a.den() != 1) {
+        line.add('/');
+        line.add(detail::line::magnitude(a.den()), 1);
+    }
+    return out << line;
+}
 
 /// The date some days later.
-[[nodiscard]] inline result<date> operator+(const date &a, std::int64_t days) { return plus_days(a, days); }
+[[nodiscard]] inline result<date> operator+(const date &a, detail::checked<std::int64_t> days) { return plus_days(a, days); }
 /// The days from `b` to `a`.
 [[nodiscard]] inline result<std::int64_t> operator-(const date &a, const date &b) { return days_between(b, a); }
 [[nodiscard]] constexpr bool operator==(const date &a, const date &b) {
@@ -191,10 +300,21 @@ inline std::ostream &operator<<(std::ostream &out, const fraction &a) { return o
 [[nodiscard]] constexpr bool operator<=(const date &a, const date &b) { return !(b < a); }
 [[nodiscard]] constexpr bool operator>=(const date &a, const date &b) { return !(a < b); }
 inline std::ostream &operator<<(std::ostream &out, const date &a) {
-    auto two = [&out](unsigned part) -> std::ostream & { return out << (part < 10 ? "-0" : "-") << part; };
-    out << a.year();
-    two(a.month());
-    return two(a.day_of_month());
+    detail::line line;
+    line.add_year(a.year());
+    for (std::uint8_t part : {a.month(), a.day_of_month()}) {
+        line.add('-');
+        line.add(part, 2);
+    }
+    return out << line;
+}
+inline std::ostream &operator<<(std::ostream &out, const week_of_year &a) {
+    detail::line line;
+    line.add_year(a.year);
+    line.add('-');
+    line.add('W');
+    line.add(a.week, 2);
+    return out << line;
 }
 
 } // namespace cellarcove
