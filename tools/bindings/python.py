@@ -281,7 +281,7 @@ def scalar_result(call: Call) -> str:
 
 
 def array_result(call: Call) -> str:
-    arrays = ['array[int]'] * (len(results(call)) + EXPORTS().has_status(call))
+    arrays = ['memoryview' if kind == 'bool' else 'array[int]' for _, kind in results(call)] + ['array[int]'] * EXPORTS().has_status(call)
     return arrays[0] if len(arrays) == 1 else f'tuple[{", ".join(arrays)}]'
 
 

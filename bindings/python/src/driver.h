@@ -72,8 +72,6 @@ static Py_ssize_t size_of(char kind) {
     return kind == 'q' || kind == 'Q' ? 8 : kind == 'i' || kind == 'I' ? 4 : 1;
 }
 
-static char letter(char kind) { return kind == '?' ? 'B' : kind; }
-
 /* ---- results ---- */
 
 /* An object of a class whose base is a tuple, or a tuple, of items that are given away. */
@@ -303,7 +301,7 @@ typedef struct {
     int said;
 } column;
 
-/* Whether the items of an array have a type. */
+/* Whether the items of an array have a type. Those of a result that is a bool are bools, or bytes. */
 static bool has_items(const Py_buffer *view, char kind) {
     const char *format = view->format == NULL ? "B" : view->format;
     const uint16_t one = 1;
@@ -311,7 +309,7 @@ static bool has_items(const Py_buffer *view, char kind) {
     if (*format == '@' || *format == '=' || *format == (little ? '<' : '>')) {
         format++;
     }
-    const char *letters = kind == 'q' || kind == 'i' ? "bhilqn" : "BHILQN";
+    const char *letters = kind == 'q' || kind == 'i' ? "bhilqn" : kind == '?' ? "?B" : "BHILQN";
     return view->itemsize == size_of(kind) && *format != 0 && format[1] == 0 && strchr(letters, *format) != NULL;
 }
 
@@ -326,6 +324,7 @@ static const char *words_of(char kind) {
     case 'Q': return "the items of the array are not uint64";
     case 'I': return "the items of the array are not uint32";
     case 'i': return "the items of the array are not int32";
+    case '?': return "the items of the array are not bool or uint8";
     default: return "the items of the array are not uint8";
     }
 }
@@ -424,12 +423,21 @@ static PyObject *new_zeros(char kind, Py_ssize_t length) {
     return *one == NULL ? NULL : PySequence_Repeat(*one, length);
 }
 
+/* A new buffer of bools that are false. `array` has no type for them, and numpy takes an array of bytes for positions. */
+static PyObject *new_mask(Py_ssize_t length) {
+    PyObject *bytes = new_zeros('B', length), *view = bytes == NULL ? NULL : PyMemoryView_FromObject(bytes);
+    PyObject *mask = view == NULL ? NULL : PyObject_CallMethod(view, "cast", "s", "?");
+    Py_XDECREF(bytes);
+    Py_XDECREF(view);
+    return mask;
+}
+
 /* New arrays for the results. */
 static PyObject *new_outputs(const form *f, Py_ssize_t length) {
     Py_ssize_t results = (Py_ssize_t)strlen(f->results);
     PyObject *outputs = PyTuple_New(results);
     for (Py_ssize_t k = 0; outputs != NULL && k < results; k++) {
-        PyObject *array = new_zeros(letter(f->results[k]), length);
+        PyObject *array = f->results[k] == '?' ? new_mask(length) : new_zeros(f->results[k], length);
         if (array == NULL) {
             Py_CLEAR(outputs);
         } else {
@@ -455,8 +463,8 @@ static int take_outputs(const call *c, const form *f, PyObject *outputs, const c
         if (views[k].shape[0] != length) {
             return wrong("an output has another length than the arrays", c->name);
         }
-        if (!has_items(&views[k], letter(f->results[k]))) {
-            return wrong(words_of(letter(f->results[k])), c->name);
+        if (!has_items(&views[k], f->results[k])) {
+            return wrong(words_of(f->results[k]), c->name);
         }
         for (Py_ssize_t other = 0; other < k; other++) {
             if (overlap(&views[k], &views[other]) || (length > 0 && views[k].buf == views[other].buf)) {

@@ -591,6 +591,25 @@ class Arrays(unittest.TestCase):
         average = array.array('q', [0, 0])
         self.assertIs(cellarcove.average_floor(x, 0, out=(average,)), average)
 
+    def test_masks(self):
+        """The results that are bools are a buffer of bools, so that no one takes them for positions, and may be one of bytes."""
+        years = array.array('q', [1999, 2000, 2001, 2004])
+        numbers, degrees = array.array('Q', [3, 4, 8, 9]), array.array('I', [2, 2, 3, 3])
+        masks = ((cellarcove.is_leap_year(years), [False, True, False, True]), (cellarcove.is_square(numbers), [False, True, False, True]),
+                 (cellarcove.is_power(numbers, degrees), [False, True, True, False]),
+                 (cellarcove.is_perfect_power(numbers), [False, True, True, True]),
+                 (cellarcove.is_multiple_of(numbers, 4), [False, True, True, False]), (cellarcove.is_leap_year(array.array('q')), []))
+        for mask, wanted in masks:
+            self.assertEqual((mask.format, mask.itemsize, mask.readonly, mask.tolist()), ('?', 1, False, wanted))
+        for output in (memoryview(bytearray(4)).cast('?'), bytearray(4), array.array('B', bytes(4))):
+            self.assertIs(cellarcove.is_leap_year(years, out=(output,)), output)
+            self.assertEqual(list(output), [0, 1, 0, 1])
+        for output in (array.array('b', bytes(4)), memoryview(bytearray(3)).cast('?'), memoryview(bytes(4)).cast('?')):
+            with self.assertRaises(ValueError):
+                cellarcove.is_leap_year(years, out=(output,))
+        with self.assertRaisesRegex(ValueError, 'uint8'):
+            cellarcove.gcd(years, 2, out=(years, memoryview(bytearray(4)).cast('?')))
+
     def test_bad_outputs(self):
         """A buffer of another length, item or dimension, or one that cannot be written: nothing is written."""
         x, y = array.array('q', [12, 18]), array.array('q', [8, 8])
@@ -651,6 +670,9 @@ class Arrays(unittest.TestCase):
         self.assertIs(cellarcove.gcd(x, numpy.int64(8), out=out)[0], out[0])
         self.assertEqual(out[0].tolist(), [8, 8, 4, 8])
         self.assertEqual(cellarcove.gcd(numpy.int64(12), numpy.uint64(18)), 6)
+        years, mask = numpy.array([1999, 2000, 2001, 2004]), numpy.zeros(4, bool)
+        for found in (cellarcove.is_leap_year(years), cellarcove.is_leap_year(years, out=(mask,)), mask):
+            self.assertEqual((numpy.asarray(found).dtype, years[found].tolist()), (bool, [2000, 2004]))
         for bad in (x[::2], x.reshape(2, 2), x.astype(float), x.astype(numpy.int32), x.astype('>i8')):
             with self.assertRaises(ValueError):
                 cellarcove.gcd(bad, 8)
