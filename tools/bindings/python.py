@@ -12,6 +12,7 @@ RENAMED = {'fraction_limit_denominator': 'limit_denominator'}
 ALIASES = {'comb': 'binomial', 'isqrt': 'sqrt'}
 PARAMETERS = {'from': 'start', 'to': 'end', 'max': 'max_denominator'}
 OF_MANY = ('gcd', 'lcm')  # which take any count of numbers
+WEEKDAY = 'weekday'        # the parameter that may be a `Weekday`
 WRITTEN = 'count'          # the parameter in place of an array that is written
 # What a call does that returns in Python what C writes.
 DOCS = {
@@ -157,7 +158,7 @@ def call_text(name: str, forms: list[Call]) -> str:
     follows = [two and a != b for a, b in zip(cells(forms[0]), cells(forms[-1]))]
     named = {form.form: f'&form_{form.symbol.removeprefix("cellarcove_")}' for form in forms}
     forms_text = f'NULL, {named["i64"]}, {named["u64"]}' if two else f'&form_{call.symbol.removeprefix("cellarcove_")}, NULL, NULL'
-    shapes = ''.join(SHAPES.get(parameter.kind, 'n') for parameter in call.parameters)
+    shapes = ''.join('w' if parameter.name == WEEKDAY else SHAPES.get(parameter.kind, 'n') for parameter in call.parameters)
     names = ', '.join(f'"{parameter}"' for parameter in parameter_names(call))
     of_many = f'''    if (count != 2 && names == NULL) {{
         return of_any_count(py_{name}_of, args, count);
@@ -285,14 +286,19 @@ def array_result(call: Call) -> str:
     return arrays[0] if len(arrays) == 1 else f'tuple[{", ".join(arrays)}]'
 
 
-def array_types(kind: str, chosen: bool) -> str:
+def scalar_type(parameter: Field) -> str:
+    """The type of a parameter that has no array."""
+    return f'Weekday | {NUMBER}' if parameter.name == WEEKDAY else PYTHON.get(parameter.kind, NUMBER)
+
+
+def array_types(parameter: Field, chosen: bool) -> str:
     """The type of a parameter of which one number is an array, or may be one."""
-    leaves = len(EXPORTS().leaves(kind))
+    leaves = len(EXPORTS().leaves(parameter.kind))
     each = f'{ARRAY} | {NUMBER}'
     if leaves == 1:
-        return ARRAY if chosen else each
+        return ARRAY if chosen else f'{ARRAY} | {scalar_type(parameter)}'
     if not chosen:
-        return f'{PYTHON[kind]} | tuple[{", ".join([each] * leaves)}]'
+        return f'{PYTHON[parameter.kind]} | tuple[{", ".join([each] * leaves)}]'
     return ' | '.join(f'tuple[{", ".join([NUMBER] * first + [ARRAY] + [each] * (leaves - first - 1))}]' for first in range(leaves))
 
 
@@ -320,10 +326,9 @@ def {name}(*numbers: {NUMBER}) -> int: ...
 '''
     overloads = []
     for first in range(len(names)):
-        kinds = [PYTHON.get(parameter.kind, NUMBER) if k < first else array_types(parameter.kind, k == first)
-                 for k, parameter in enumerate(call.parameters)]
+        kinds = [scalar_type(parameter) if k < first else array_types(parameter, k == first) for k, parameter in enumerate(call.parameters)]
         overloads.append((', '.join(f'{parameter}: {kind}' for parameter, kind in zip(names, kinds)) + ', *, out: Outputs = ...', array_result(call)))
-    overloads.append((', '.join(f'{parameter}: {PYTHON.get(kind.kind, NUMBER)}' for parameter, kind in zip(names, call.parameters)), scalar_result(call)))
+    overloads.append((', '.join(f'{name}: {scalar_type(parameter)}' for name, parameter in zip(names, call.parameters)), scalar_result(call)))
     return ''.join(f'@overload\ndef {name}({taken}) -> {result}: ...\n' for taken, result in overloads)
 
 

@@ -26,7 +26,7 @@ from ._calls import *
 __version__ = _calls.VERSION
 __all__ = [
     'BUILT_BY', 'Date', 'DivisionByZero', 'ExtendedGcd', 'IsoWeek', 'NotFitting', 'Refused', 'Solutions', 'Status',
-    'SupportsDate', 'SupportsFraction',
+    'SupportsDate', 'SupportsFraction', 'Weekday',
 ]
 __all__ += _calls.__all__
 
@@ -133,6 +133,29 @@ class IsoWeek(NamedTuple):
     week: int
 
 
+class Weekday(enum.Enum):
+    """A day of the week. Its `value` is its number in ISO 8601, from 1 for Monday to 7 for Sunday.
+
+    A parameter `weekday` takes either. It is no `int`, and raises `TypeError` if it is compared with one, since `weekday` of
+    `datetime.date` counts from 0.
+    """
+
+    MONDAY = 1
+    TUESDAY = 2
+    WEDNESDAY = 3
+    THURSDAY = 4
+    FRIDAY = 5
+    SATURDAY = 6
+    SUNDAY = 7
+
+    def __eq__(self, other: object) -> bool:
+        if isinstance(other, SupportsIndex):
+            raise TypeError(f'a Weekday is no number: compare it with a Weekday, such as {self}, or compare its value, which is from 1 to 7')
+        return self is other
+
+    __hash__ = enum.Enum.__hash__
+
+
 class _Tuple(tuple[int, ...]):
     """A class of tuples, by which the calls make those of the others."""
 
@@ -171,9 +194,9 @@ class Date(_Parts):
             raise OverflowError(f'year {self.year} is not from {datetime.MINYEAR} to {datetime.MAXYEAR}')
         return datetime.date(self.year, self.month, self.day)
 
-    def weekday(self) -> int:
-        """The day of the week, from 0 for Monday to 6 for Sunday, as that of `datetime.date`."""
-        return self.isoweekday() - 1
+    def weekday(self) -> Weekday:
+        """The day of the week. That of `datetime.date` is a number from 0 for Monday to 6 for Sunday."""
+        return Weekday(self.isoweekday())
 
     def isoweekday(self) -> int:
         """The day of the week, from 1 for Monday to 7 for Sunday, as that of `datetime.date`."""
@@ -204,5 +227,5 @@ def _out_of_range(number: SupportsIndex, kind: str) -> OverflowError:
 
 _calls._install({
     'refusal': _refusal, 'out_of_range': _out_of_range, 'Fraction': Fraction, 'Tuple': _Tuple, 'array': array.array, 'Date': Date,
-    'ExtendedGcd': ExtendedGcd, 'Solutions': Solutions, 'IsoWeek': IsoWeek,
+    'ExtendedGcd': ExtendedGcd, 'Solutions': Solutions, 'IsoWeek': IsoWeek, 'Weekday': Weekday,
 })

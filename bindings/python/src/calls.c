@@ -2052,7 +2052,7 @@ static void many_date_from_iso_week(Py_ssize_t count, char *const *in, const Py_
 
 static const form form_date_from_iso_week = {"qBB", "qBBB", true, one_date_from_iso_week, many_date_from_iso_week};
 
-static const call call_date_from_iso_week = {"date_from_iso_week", 3, {"year", "week", "weekday"}, "nnn",
+static const call call_date_from_iso_week = {"date_from_iso_week", 3, {"year", "week", "weekday"}, "nnw",
     (const bool[]){false, false, false}, (const bool[]){false, false, false}, &form_date_from_iso_week, NULL, NULL};
 
 static PyObject *py_date_from_iso_week(PyObject *module, PyObject *const *args, Py_ssize_t count, PyObject *names) {
@@ -2129,7 +2129,7 @@ static void many_nth_weekday_of_month(Py_ssize_t count, char *const *in, const P
 
 static const form form_nth_weekday_of_month = {"qBBB", "qBBB", true, one_nth_weekday_of_month, many_nth_weekday_of_month};
 
-static const call call_nth_weekday_of_month = {"nth_weekday_of_month", 4, {"year", "month", "weekday", "n"}, "nnnn",
+static const call call_nth_weekday_of_month = {"nth_weekday_of_month", 4, {"year", "month", "weekday", "n"}, "nnwn",
     (const bool[]){false, false, false, false}, (const bool[]){false, false, false, false}, &form_nth_weekday_of_month, NULL, NULL};
 
 static PyObject *py_nth_weekday_of_month(PyObject *module, PyObject *const *args, Py_ssize_t count, PyObject *names) {
@@ -2158,7 +2158,7 @@ static void many_last_weekday_of_month(Py_ssize_t count, char *const *in, const 
 
 static const form form_last_weekday_of_month = {"qBB", "qBBB", true, one_last_weekday_of_month, many_last_weekday_of_month};
 
-static const call call_last_weekday_of_month = {"last_weekday_of_month", 3, {"year", "month", "weekday"}, "nnn",
+static const call call_last_weekday_of_month = {"last_weekday_of_month", 3, {"year", "month", "weekday"}, "nnw",
     (const bool[]){false, false, false}, (const bool[]){false, false, false}, &form_last_weekday_of_month, NULL, NULL};
 
 static PyObject *py_last_weekday_of_month(PyObject *module, PyObject *const *args, Py_ssize_t count, PyObject *names) {

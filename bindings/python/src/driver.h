@@ -56,7 +56,7 @@ typedef struct {
     const char *name;
     Py_ssize_t count;
     const char *names[MAX_PARAMETERS];
-    const char *shapes;         /* of the parameters: a number, a fraction or a date */
+    const char *shapes;         /* of the parameters: a number, a day of the week, a fraction or a date */
     const bool *divides;        /* whether the call divides by the number of a cell */
     const bool *follows;        /* whether a cell has the type of the form */
     const form *only, *forms_i64, *forms_u64;
@@ -64,9 +64,9 @@ typedef struct {
 
 /* What the package installs. */
 static PyObject *refusal, *out_of_range, *new_fraction, *new_array;
-static PyObject *class_date, *class_gcd, *class_solutions, *class_week;
+static PyObject *class_date, *class_gcd, *class_solutions, *class_week, *class_weekday;
 static newfunc new_tuple;
-static PyObject *name_numerator, *name_denominator, *name_year, *name_month, *name_day, *name_out;
+static PyObject *name_numerator, *name_denominator, *name_year, *name_month, *name_day, *name_value, *name_out;
 
 static Py_ssize_t size_of(char kind) {
     return kind == 'q' || kind == 'Q' ? 8 : kind == 'i' || kind == 'I' ? 4 : 1;
@@ -536,7 +536,7 @@ static bool are_ints(const call *c, PyObject *const *args, Py_ssize_t count, PyO
         return false;
     }
     for (Py_ssize_t p = 0; p < count; p++) {
-        if (c->shapes[p] != 'n' || Py_TYPE(args[p]) != &PyLong_Type) {
+        if (strchr("nw", c->shapes[p]) == NULL || Py_TYPE(args[p]) != &PyLong_Type) {
             return false;
         }
     }
@@ -549,6 +549,15 @@ static void release(PyObject **objects, Py_ssize_t count) {
     }
 }
 
+/* The number of a day of the week, or the object itself if it is no `Weekday`. It is owned. */
+static PyObject *number_of_weekday(PyObject *object) {
+    if ((PyObject *)Py_TYPE(object) == class_weekday) {
+        return PyObject_GetAttr(object, name_value);
+    }
+    Py_INCREF(object);
+    return object;
+}
+
 /* The objects of the cells, which are owned, and how many there are. It is -1 after an error. */
 static Py_ssize_t cells_of(const call *c, PyObject *const *bound, PyObject **objects) {
     Py_ssize_t cells = 0;
@@ -556,6 +565,13 @@ static Py_ssize_t cells_of(const call *c, PyObject *const *bound, PyObject **obj
         if (c->shapes[p] == 'n') {
             objects[cells] = bound[p];
             Py_INCREF(bound[p]);
+            cells += 1;
+        } else if (c->shapes[p] == 'w') {
+            objects[cells] = number_of_weekday(bound[p]);
+            if (objects[cells] == NULL) {
+                release(objects, cells);
+                return -1;
+            }
             cells += 1;
         } else if (parts(bound[p], c->shapes[p], &objects[cells]) != 0) {
             release(objects, cells);
@@ -832,7 +848,8 @@ static PyObject *install(PyObject *module, PyObject *from) {
     static PyObject *class_tuple;
     if (keep(from, "refusal", &refusal) || keep(from, "out_of_range", &out_of_range) || keep(from, "Fraction", &new_fraction) ||
         keep(from, "Tuple", &class_tuple) || keep(from, "array", &new_array) || keep(from, "Date", &class_date) ||
-        keep(from, "ExtendedGcd", &class_gcd) || keep(from, "Solutions", &class_solutions) || keep(from, "IsoWeek", &class_week)) {
+        keep(from, "ExtendedGcd", &class_gcd) || keep(from, "Solutions", &class_solutions) || keep(from, "IsoWeek", &class_week) ||
+        keep(from, "Weekday", &class_weekday)) {
         return NULL;
     }
     /* `tuple.__new__` without its test of the class. The stable ABI of 3.9 gives the slots of classes that Python makes. */
@@ -864,6 +881,7 @@ static int intern_names(void) {
     name_year = PyUnicode_InternFromString("year");
     name_month = PyUnicode_InternFromString("month");
     name_day = PyUnicode_InternFromString("day");
+    name_value = PyUnicode_InternFromString("value");
     name_out = PyUnicode_InternFromString("out");
-    return name_numerator && name_denominator && name_year && name_month && name_day && name_out ? 0 : -1;
+    return name_numerator && name_denominator && name_year && name_month && name_day && name_value && name_out ? 0 : -1;
 }

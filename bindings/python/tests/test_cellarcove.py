@@ -372,7 +372,7 @@ class Dates(Refusals):
     def test_class(self):
         """A date of any year, in the order of the days, which can be pickled."""
         far = Date(2**63 - 1, 12, 31)
-        self.assertEqual((far.isoweekday(), far.weekday()), (4, 3))
+        self.assertEqual((far.isoweekday(), far.weekday()), (4, cellarcove.Weekday.THURSDAY))
         self.assertEqual((str(Date(2000, 2, 29)), str(Date(-5, 1, 1)), str(Date(12000, 1, 1))), ('2000-02-29', '-0005-01-01', '+12000-01-01'))
         self.assertLess(Date(-1, 12, 31), Date(0, 1, 1))
         for date in (far, Date(2000, 2, 29)):
@@ -388,8 +388,31 @@ class Dates(Refusals):
         for _ in range(1000):
             date = datetime.date.fromordinal(random.randint(1, datetime.date.max.toordinal()))
             same = Date.from_date(date)
-            self.assertEqual((same.to_date(), same.weekday(), same.isoweekday()), (date, date.weekday(), date.isoweekday()))
+            self.assertEqual((same.to_date(), same.weekday().value, same.isoweekday()), (date, date.weekday() + 1, date.isoweekday()))
             self.assertEqual(same.isoformat(), date.isoformat())
+
+    def test_weekday_of_a_date(self):
+        """The day of the week that a date gives is the one that the calls take. It is not taken for a number from 0."""
+        tuesday = Date(2024, 1, 2)
+        self.assertEqual(cellarcove.nth_weekday_of_month(2024, 1, tuesday.weekday(), 1), tuesday)
+        for days in range(7):
+            date = cellarcove.plus_days(tuesday, days)
+            year, week = cellarcove.iso_week(date)
+            weekday, number = date.weekday(), date.isoweekday()
+            self.assertIs(weekday, cellarcove.Weekday(cellarcove.weekday(cellarcove.day_from_date(date))))
+            for same in (number, weekday):
+                self.assertEqual(cellarcove.date_from_iso_week(year, week, same), date)
+                self.assertEqual(cellarcove.nth_weekday_of_month(2024, 1, weekday=same, n=(date.day + 6) // 7), date)
+                self.assertEqual(cellarcove.last_weekday_of_month(2024, 2, same).isoweekday(), number)
+                found = cellarcove.last_weekday_of_month(array.array('q', [2024]), 2, same)
+                self.assertEqual(found[3][0], 0)
+            for wrong in (lambda: weekday == number, lambda: number != weekday, lambda: weekday < 5, lambda: 'MTWTFSS'[weekday],
+                          lambda: weekday + 1, lambda: cellarcove.nth_weekday_of_month(2024, weekday, 1, 1), lambda: cellarcove.gcd(weekday, 1)):
+                self.assertRaises(TypeError, wrong)
+            for other in (copy.deepcopy(weekday), pickle.loads(pickle.dumps(weekday))):
+                self.assertIs(other, weekday)
+            self.assertEqual({weekday: 1}[weekday], 1)
+            self.assertFalse(weekday == 'MONDAY')
 
     def test_last_and_first_week(self):
         """The last day of all is the Thursday of its week, and the first but one a Monday."""
@@ -773,7 +796,8 @@ class Names(unittest.TestCase):
     def test_any_argument(self):
         """An argument of any type is an error of Python, and never a crash."""
         odd = [None, 1.5, 'x', b'', b'12345678', [], (), (1, 2), (1, 2, 3), {}, object(), array.array('d', [1.0]), memoryview(b'x'),
-               Fraction(1, 3), datetime.date(2000, 1, 1), types.SimpleNamespace(year=None, month=1, day=1), float('nan'), 2**64, -(2**63) - 1, True]
+               Fraction(1, 3), datetime.date(2000, 1, 1), types.SimpleNamespace(year=None, month=1, day=1), float('nan'), 2**64, -(2**63) - 1, True,
+               cellarcove.Weekday.MONDAY]
         for name in cellarcove.__all__:
             call = getattr(cellarcove, name)
             if not callable(call) or isinstance(call, type):
