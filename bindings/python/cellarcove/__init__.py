@@ -17,6 +17,7 @@ import array
 import datetime
 import enum
 import operator
+from collections.abc import Iterable
 from fractions import Fraction
 from typing import NamedTuple, Protocol, SupportsIndex
 
@@ -182,6 +183,14 @@ class Date(_Parts):
             days_in_month(parts[0], 1)  # raises if the year is out of range
             raise Refused(Status.NO_DATE)
         return super().__new__(cls, *parts)
+
+    @classmethod
+    def _make(cls, iterable: Iterable[SupportsIndex]) -> 'Date':  # type: ignore[override]
+        """A date of its year, month and day. `_replace` and `copy.replace` call it."""
+        parts = tuple(iterable)
+        if len(parts) != len(cls._fields):
+            raise TypeError(f'a date has {len(cls._fields)} parts, and not {len(parts)}')
+        return cls(*parts)
 
     @classmethod
     def from_date(cls, date: datetime.date) -> 'Date':

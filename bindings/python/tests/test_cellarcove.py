@@ -391,6 +391,28 @@ class Dates(Refusals):
             self.assertEqual((same.to_date(), same.weekday().value, same.isoweekday()), (date, date.weekday() + 1, date.isoweekday()))
             self.assertEqual(same.isoformat(), date.isoformat())
 
+    def test_changed_dates(self):
+        """A date that is made of another one, or of a list, exists."""
+        date = Date(2024, 2, 29)
+        self.assertEqual((date._replace(day=28), date._replace(year=2**62), Date._make(iter((2024, 2, 29)))), ((2024, 2, 28), (2**62, 2, 29), date))
+        for changed in (date._replace(day=1), Date._make([2024, 3, 1])):
+            self.assertIs(type(changed), Date)
+        replaces = [lambda **parts: date._replace(**parts)]
+        if hasattr(copy, 'replace'):
+            replaces.append(lambda **parts: copy.replace(date, **parts))
+        for replace in replaces:
+            self.assertEqual(replace(year=2028, day=1), (2028, 2, 1))
+            for parts in ({'day': 31}, {'year': 2023}, {'month': 13}, {'month': 0}, {'day': 0}, {'day': 2**70}):
+                with self.assertRaises(Refused) as refusal:
+                    replace(**parts)
+                self.assertEqual(refusal.exception.status, Status.NO_DATE)
+            for parts, error in (({'year': 2**63}, OverflowError), ({'day': 1.0}, TypeError), ({'days': 1}, (TypeError, ValueError))):
+                with self.assertRaises(error):
+                    replace(**parts)
+        for parts, error in (((2024, 2, 31), Refused), ((2024, 2), TypeError), ((2024, 2, 1, 1), TypeError), ((2024, 2, '1'), TypeError)):
+            with self.assertRaises(error):
+                Date._make(parts)
+
     def test_weekday_of_a_date(self):
         """The day of the week that a date gives is the one that the calls take. It is not taken for a number from 0."""
         tuesday = Date(2024, 1, 2)
