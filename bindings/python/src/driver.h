@@ -329,6 +329,12 @@ static const char *words_of(char kind) {
     }
 }
 
+/* Whether the items of an array lie where C may read them, as they do not in a part of a packed record. */
+static bool is_aligned(const Py_buffer *view) {
+    size_t step = view->itemsize == 8 ? _Alignof(int64_t) : view->itemsize == 4 ? _Alignof(int32_t) : 1;
+    return view->len == 0 || (uintptr_t)view->buf % step == 0;
+}
+
 /* Takes the buffer of an array. */
 static int take(PyObject *object, Py_buffer *view, int flags, const char *name) {
     if (PyObject_GetBuffer(object, view, flags | PyBUF_FORMAT | PyBUF_ND) != 0) {
@@ -341,6 +347,11 @@ static int take(PyObject *object, Py_buffer *view, int flags, const char *name) 
     if (view->ndim != 1) {
         PyBuffer_Release(view);
         return wrong("the array has not one dimension", name);
+    }
+    if (!is_aligned(view)) {
+        PyBuffer_Release(view);
+        return wrong(flags & PyBUF_WRITABLE ? "the items of an output are not aligned: pass a new array, and copy it" :
+                                              "the items of the array are not aligned: pass a copy of it", name);
     }
     return 0;
 }
@@ -643,8 +654,8 @@ static int take_list(PyObject *object, const char *name, bool has_signed, list *
         return wrong(has_signed ? "the items of the array are neither int64 nor uint64" : words_of('Q'), name);
     }
     to->copy = NULL;
-    to->items = to->view.buf;
     to->count = to->view.shape[0];
+    to->items = to->count == 0 ? NULL : to->view.buf; /* an empty one need not be aligned */
     return 0;
 }
 

@@ -3,6 +3,7 @@
 import array
 import calendar
 import copy
+import ctypes
 import datetime
 import functools
 import itertools
@@ -50,6 +51,10 @@ def numbers(how_many):
         return -size if signed and random.random() < 0.5 else size
 
     return [number() for _ in range(how_many)]
+
+
+def address(buffer):
+    return ctypes.addressof(ctypes.c_char.from_buffer(buffer))
 
 
 def bounds(arguments):
@@ -690,6 +695,31 @@ class Arrays(unittest.TestCase):
                      lambda: cellarcove.div_floor(x, y, x=1), lambda: cellarcove.day_from_date((x, 1))):
             self.assertRaises((TypeError, ValueError), call)
 
+    def test_misaligned(self):
+        """Numbers that do not lie at a multiple of their size are refused, as inputs and as outputs, with what to do."""
+        room = bytearray(8 * 9)
+        off = next(start for start in range(1, 8) if (address(room) + start) % 8 not in (0, 4))
+        wide, narrow, aligned = memoryview(room)[off:off + 64].cast('q'), memoryview(room)[off:off + 32].cast('I'), array.array('q', range(8))
+        unsigned = memoryview(room)[off:off + 64].cast('Q')
+        statuses = bytearray(8)
+        refused = [
+            lambda: cellarcove.gcd(wide, 6), lambda: cellarcove.gcd(aligned, wide), lambda: cellarcove.gcd(wide, wide, out=(wide, statuses)),
+            lambda: cellarcove.gcd(aligned, 6, out=(wide, statuses)), lambda: cellarcove.nth_root(aligned, narrow),
+            lambda: cellarcove.easter(wide), lambda: cellarcove.day_from_date((wide, 1, 1)), lambda: cellarcove.gcd_of(wide),
+            lambda: cellarcove.lcm_of(unsigned), lambda: cellarcove.multinomial(unsigned), lambda: cellarcove.rank(unsigned, 5),
+            lambda: cellarcove.fraction_round((aligned, wide)),
+        ]
+        for number, call in enumerate(refused):
+            with self.assertRaisesRegex(ValueError, 'aligned.* copy', msg=number):
+                call()
+        self.assertEqual((room, statuses), (bytes(72), bytes(8)))
+        copied = array.array('q', wide)
+        self.assertEqual(cellarcove.gcd(copied, 6)[0].tolist(), [6] * 8)
+        bytes_off = memoryview(bytearray(9))[off:off + 1]
+        self.assertEqual(list(cellarcove.days_in_month(array.array('q', [2000]), bytes_off)[1]), [6])
+        for nothing in (array.array('q'), array.array('Q'), memoryview(room)[off:off].cast('q'), memoryview(b'').cast('q')):
+            self.assertEqual((list(cellarcove.gcd(nothing, 6)[0]), cellarcove.gcd_of(nothing), cellarcove.lcm_of(nothing)), ([], 0, 1))
+
     def test_threads(self):
         """Calls of several threads at a time, over arrays and over numbers."""
         x, y, z = self.columns(3, 2000, signed=False)
@@ -718,6 +748,11 @@ class Arrays(unittest.TestCase):
         years, mask = numpy.array([1999, 2000, 2001, 2004]), numpy.zeros(4, bool)
         for found in (cellarcove.is_leap_year(years), cellarcove.is_leap_year(years, out=(mask,)), mask):
             self.assertEqual((numpy.asarray(found).dtype, years[found].tolist()), (bool, [2000, 2004]))
+        off = numpy.frombuffer(bytearray(8 * 9), 'i8', offset=1, count=8)
+        self.assertFalse(off.flags.aligned)
+        for call in (lambda: cellarcove.gcd(off, 8), lambda: cellarcove.gcd_of(off), lambda: cellarcove.gcd(off.copy(), 8, out=(off, bytearray(8)))):
+            self.assertRaisesRegex(ValueError, 'aligned', call)
+        self.assertEqual(cellarcove.gcd(off.copy(), 8)[0].tolist(), [8] * 8)
         for bad in (x[::2], x.reshape(2, 2), x.astype(float), x.astype(numpy.int32), x.astype('>i8')):
             with self.assertRaises(ValueError):
                 cellarcove.gcd(bad, 8)
