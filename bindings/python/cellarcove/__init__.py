@@ -1,8 +1,10 @@
 """Proved integer arithmetic, fractions and dates.
 
-If all numbers of a call are at least 0, they lie below 2**64, and otherwise from -2**63 to 2**63 - 1. `extended_gcd`,
-the parts of fractions, and days, months and years are always from -2**63 to 2**63 - 1; those of `multinomial`, `rank`,
-`choice_of_rank` and `is_perfect_power`, and exponents, are always from 0 to 2**64 - 1, and degrees from 0 to 2**32 - 1. A number out of its range raises `OverflowError`, and what is no integer raises `TypeError`.
+If all numbers of a call are at least 0, they lie below 2**64, and otherwise from -2**63 to 2**63 - 1. If they lie from 0 to
+2**63 - 1, the result may be negative. `extended_gcd`, the parts of fractions, and days, months and years are always from
+-2**63 to 2**63 - 1; those of `multinomial`, `rank`, `choice_of_rank` and `is_perfect_power`, and exponents, are always from
+0 to 2**64 - 1, and degrees from 0 to 2**32 - 1. A number out of its range raises `OverflowError`, and what is no integer
+raises `TypeError`.
 
 If a call has no result, it raises `Refused`, a `ValueError` that has the status. If the reason is that a divisor, a modulus
 or a denominator is 0, it is `DivisionByZero`, which is a `ZeroDivisionError` too. If the reason is that the result does not
@@ -10,7 +12,7 @@ fit, it is `NotFitting`, which is an `OverflowError` too.
 
 Each number of a call may be an array of 64-bit numbers: a buffer, such as an `array.array` or an array of numpy. The call
 returns arrays of the same length, and then the array of the statuses, if it has statuses: an element of status 0 has a
-result. The GIL is free meanwhile.
+result. What is true or false is a `memoryview` of bools, which numpy takes for a mask. The GIL is free meanwhile.
 """
 
 import array

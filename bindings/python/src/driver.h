@@ -261,6 +261,17 @@ static PyObject *refused(uint32_t status, bool by_zero) {
     return NULL;
 }
 
+/* Which number does not fit its cell of a form, or the count. */
+static Py_ssize_t misfit(const form *f, const cell *cells, const int *said, Py_ssize_t count) {
+    Py_ssize_t k = 0;
+    while (k < count && fits(&cells[k], said[k], f->cells[k])) {
+        k++;
+    }
+    return k;
+}
+
+/* Runs a call of numbers. If no number is negative it is the unsigned form, and the signed one if the result of that does not fit, as a
+ * negative one does not. */
 static PyObject *run_one(const call *c, PyObject *const *objects, Py_ssize_t count) {
     cell cells[MAX_CELLS];
     int said[MAX_CELLS];
@@ -273,14 +284,17 @@ static PyObject *run_one(const call *c, PyObject *const *objects, Py_ssize_t cou
         negative |= c->follows[k] && is_negative(objects[k], &cells[k], said[k]);
     }
     const form *f = c->only != NULL ? c->only : negative ? c->forms_i64 : c->forms_u64;
-    for (Py_ssize_t k = 0; k < count; k++) {
-        if (!fits(&cells[k], said[k], f->cells[k])) {
-            beyond(objects[k], f->cells[k]);
-            return NULL;
-        }
+    Py_ssize_t place = misfit(f, cells, said, count);
+    if (place < count) {
+        beyond(objects[place], f->cells[place]);
+        return NULL;
     }
     uint32_t status = 0;
     PyObject *result = f->one(cells, &status);
+    if (status == CELLARCOVE_NOT_FITTING && f == c->forms_u64 && misfit(c->forms_i64, cells, said, count) == count) {
+        status = 0;
+        result = c->forms_i64->one(cells, &status);
+    }
     if (status != 0) {
         bool by_zero = false;
         for (Py_ssize_t k = 0; k < count; k++) {

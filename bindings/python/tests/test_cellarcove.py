@@ -5,6 +5,7 @@ import calendar
 import copy
 import ctypes
 import datetime
+import doctest
 import functools
 import itertools
 import math
@@ -212,6 +213,23 @@ class Numbers(Refusals):
             self.assertTrue(cellarcove.is_square(root**2))
             self.assertFalse(cellarcove.is_square(root**2 - 1))
         self.assertEqual(list(cellarcove.is_square(array.array('q', [-4, 4, 5]))), [False, True, False])
+
+    def test_differences(self):
+        """The result of numbers that are not negative may be negative: then the signed call runs."""
+        for _ in range(TURNS // 10):
+            a, b = numbers(2)
+            wanted = a - b if max(a, b) <= I64[1] and I64[0] <= a - b <= I64[1] or fits(a - b, (a, b)) else None
+            if wanted is None:
+                self.refuses(Status.NOT_FITTING, cellarcove.checked_difference, a, b)
+            else:
+                self.assertEqual(cellarcove.checked_difference(a, b), wanted, (a, b))
+            end, first, step = random.randrange(100), random.randrange(200), random.randrange(1, 200)
+            self.assertEqual(cellarcove.previous_congruent(end, first, step), end - (end - first) % step)
+        self.assertEqual((cellarcove.checked_difference(2, 3), cellarcove.previous_congruent(2, 7, 28)), (-1, -21))
+        self.assertEqual((cellarcove.checked_difference(0, I64[1]), cellarcove.checked_difference(U64[1], 0)), (-I64[1], U64[1]))
+        for a, b in ((0, 2**63), (2**63, 2**64 - 1)):
+            self.refuses(Status.NOT_FITTING, cellarcove.checked_difference, a, b)
+        self.refuses(Status.NOT_FITTING, cellarcove.checked_product, 2**63, 2)
 
     def test_averages_and_roots(self):
         for _ in range(TURNS // 4):
@@ -558,7 +576,8 @@ class Arrays(unittest.TestCase):
             result = call(*arguments)
         except Refused as refusal:
             return None, refusal.status
-        beyond = signed and any(number > I64[1] for number in (result if isinstance(result, tuple) else (result,)))
+        low, high = I64 if signed else U64
+        beyond = not all(low <= number <= high for number in (result if isinstance(result, tuple) else (result,)))
         return (None, Status.NOT_FITTING) if beyond else (result, 0)
 
     def agree(self, call, *columns):
@@ -838,9 +857,22 @@ class Names(unittest.TestCase):
         self.assertIn(cellarcove.BUILT_BY, ('rattle', 'cargo'))
 
     def test_docstrings(self):
-        """Each call says what it does."""
+        """Each call says what it does, with examples, which are run."""
+        runner, parser = doctest.DocTestRunner(verbose=False), doctest.DocTestParser()
         for name in cellarcove.__all__:
-            self.assertTrue(getattr(cellarcove, name).__doc__, name)
+            found = getattr(cellarcove, name)
+            self.assertTrue(found.__doc__, name)
+            if not callable(found):
+                continue
+            members = [found, *vars(found).values()] if isinstance(found, type) and issubclass(found, Date) else [found]
+            texts = [text for text in (getattr(member, '__doc__', None) for member in members) if text]
+            tests = [parser.get_doctest(text, vars(cellarcove).copy(), name, None, 0) for text in texts]
+            if not isinstance(found, type):
+                self.assertTrue(all(test.examples for test in tests), name)
+            for test in tests:
+                said = []
+                self.assertEqual(runner.run(test, out=said.append).failed, 0, ''.join(said))
+        self.assertGreater(runner.tries, 60)
 
     def test_keywords(self):
         self.assertEqual(cellarcove.div_floor(y=3, x=-8), -3)
