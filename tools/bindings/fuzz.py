@@ -21,7 +21,7 @@ from typing import Any
 
 import cellarcove
 
-from tools.bindings.by_python import I64, PROPERTIES, RESULTS, U64
+from tools.bindings.by_python import I64, NOT_FITTING, PROPERTIES, RESULTS, U64
 from tools.bindings.exports import EXPORTS, Call
 from tools.bindings.python import LETTERS, cells, public_calls, results
 
@@ -106,14 +106,21 @@ def of_arrays(name: str, call: Call) -> tuple[int, list[array.array[int]]]:
     return COUNT, taken
 
 
+def in_ranges(call: Call, numbers: Sequence[int]) -> bool:
+    """Whether the numbers fit the cells of a call."""
+    return all(RANGES[kind][0] <= value <= RANGES[kind][1] for value, kind in zip(numbers, cells(call)))
+
+
 def alone(name: str, forms: list[Call], numbers: Sequence[int]) -> int:
-    """A call of numbers that are no arrays, by the form that fits them."""
+    """A call of numbers that are no arrays, by the form that fits them: the unsigned one, and the signed one if its result does not fit."""
     arguments = grouped(forms[0], numbers)
     two = len(forms) == 2
     follows = [value for value, kinds in zip(numbers, zip(*map(cells, forms))) if two and kinds[0] != kinds[1]]
     call = next(form for form in forms if not two or (form.form == 'i64') == any(value < 0 for value in follows))
-    if not all(RANGES[kind][0] <= value <= RANGES[kind][1] for value, kind in zip(numbers, cells(call))):
+    if not in_ranges(call, numbers):
         return 0
+    if two and call.form == 'u64' and call.name in RESULTS and RESULTS[call.name](U64, *arguments) == NOT_FITTING and in_ranges(forms[0], numbers):
+        call = forms[0]
     judge_one(name, call, arguments, arguments)
     return 1
 

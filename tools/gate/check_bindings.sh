@@ -200,7 +200,8 @@ makes_a_wheel_of_the_sources() {
 has_types() {
     printf '%s\n' 'from array import array' 'import cellarcove as c' 'x: int = c.gcd(12, 18)' \
         "y: array[int] = c.gcd(array('q', [12]), 8)[0]" 'z: c.Date = c.plus_months(c.Date(2000, 1, 31), 1)' \
-        "d: array[int] = c.days_between((array('q', [2000]), 1, 1), z)[0]" >"$work/typed.py" &&
+        "d: array[int] = c.days_between((array('q', [2000]), 1, 1), z)[0]" "m: memoryview = c.is_leap_year(array('q', [2000]))" \
+        'w: c.Date = c.nth_weekday_of_month(2024, 1, z.weekday(), 1)' >"$work/typed.py" &&
         MYPYPATH=bindings/python mypy --strict --cache-dir="$work/mypy" "$work/typed.py"
 }
 

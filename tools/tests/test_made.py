@@ -1,11 +1,12 @@
 """A slip in the sources changes what is made of them."""
+import re
 import shutil
 from pathlib import Path
 
 import pytest
 
 from tools import ROOT, as_made, write
-from tools.bindings import exports, files
+from tools.bindings import exports, files, python
 from tools.pages import reference
 
 # A file of cellarcove_c, an old text and a new one: a type, a result, the order of fields, a name, a status, a comment.
@@ -45,6 +46,19 @@ def test_exports(tmp_path: Path, monkeypatch: pytest.MonkeyPatch, name: str, old
     monkeypatch.undo()
     exports.EXPORTS.cache_clear()
     assert before != after
+
+
+def test_examples_of_python() -> None:
+    """Each example of a comment is one that the tests of the package run, and no sentence has another one."""
+    for name, forms in python.public_calls():
+        words, mark, _ = python.docstring(name, forms).partition('>>> ')
+        assert mark and not re.search(r'\b(?:That|Those) (?:of|for) [-\d]|\b(?:For|From) [-\d]', words), name
+
+
+def test_comment_without_its_example() -> None:
+    forms = [form._replace(doc='Returns the quotient.') for form in dict(python.public_calls())['div_floor']]
+    with pytest.raises(AssertionError, match='div_floor: the comment has no example'):
+        python.docstring('div_floor', forms)
 
 
 def test_reference(tmp_path: Path, monkeypatch: pytest.MonkeyPatch) -> None:

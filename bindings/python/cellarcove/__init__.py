@@ -1,8 +1,10 @@
 """Proved integer arithmetic, fractions and dates.
 
-If all numbers of a call are at least 0, they lie below 2**64, and otherwise from -2**63 to 2**63 - 1. `extended_gcd`,
-the parts of fractions, and days, months and years are always from -2**63 to 2**63 - 1; those of `multinomial`, `rank`,
-`choice_of_rank` and `is_perfect_power`, and exponents, are always from 0 to 2**64 - 1, and degrees from 0 to 2**32 - 1. A number out of its range raises `OverflowError`, and what is no integer raises `TypeError`.
+If all numbers of a call are at least 0, they lie below 2**64, and otherwise from -2**63 to 2**63 - 1. If they lie from 0 to
+2**63 - 1, the result may be negative. `extended_gcd`, the parts of fractions, and days, months and years are always from
+-2**63 to 2**63 - 1; those of `multinomial`, `rank`, `choice_of_rank` and `is_perfect_power`, and exponents, are always from
+0 to 2**64 - 1, and degrees from 0 to 2**32 - 1. A number out of its range raises `OverflowError`, and what is no integer
+raises `TypeError`.
 
 If a call has no result, it raises `Refused`, a `ValueError` that has the status. If the reason is that a divisor, a modulus
 or a denominator is 0, it is `DivisionByZero`, which is a `ZeroDivisionError` too. If the reason is that the result does not
@@ -10,13 +12,14 @@ fit, it is `NotFitting`, which is an `OverflowError` too.
 
 Each number of a call may be an array of 64-bit numbers: a buffer, such as an `array.array` or an array of numpy. The call
 returns arrays of the same length, and then the array of the statuses, if it has statuses: an element of status 0 has a
-result. The GIL is free meanwhile.
+result. What is true or false is a `memoryview` of bools, which numpy takes for a mask. The GIL is free meanwhile.
 """
 
 import array
 import datetime
 import enum
 import operator
+from collections.abc import Iterable
 from fractions import Fraction
 from typing import NamedTuple, Protocol, SupportsIndex
 
@@ -26,7 +29,7 @@ from ._calls import *
 __version__ = _calls.VERSION
 __all__ = [
     'BUILT_BY', 'Date', 'DivisionByZero', 'ExtendedGcd', 'IsoWeek', 'NotFitting', 'Refused', 'Solutions', 'Status',
-    'SupportsDate', 'SupportsFraction',
+    'SupportsDate', 'SupportsFraction', 'Weekday',
 ]
 __all__ += _calls.__all__
 
@@ -133,6 +136,29 @@ class IsoWeek(NamedTuple):
     week: int
 
 
+class Weekday(enum.Enum):
+    """A day of the week. Its `value` is its number in ISO 8601, from 1 for Monday to 7 for Sunday.
+
+    A parameter `weekday` takes either. It is no `int`, and raises `TypeError` if it is compared with one, since `weekday` of
+    `datetime.date` counts from 0.
+    """
+
+    MONDAY = 1
+    TUESDAY = 2
+    WEDNESDAY = 3
+    THURSDAY = 4
+    FRIDAY = 5
+    SATURDAY = 6
+    SUNDAY = 7
+
+    def __eq__(self, other: object) -> bool:
+        if isinstance(other, SupportsIndex):
+            raise TypeError(f'a Weekday is no number: compare it with a Weekday, such as {self}, or compare its value, which is from 1 to 7')
+        return self is other
+
+    __hash__ = enum.Enum.__hash__
+
+
 class _Tuple(tuple[int, ...]):
     """A class of tuples, by which the calls make those of the others."""
 
@@ -161,6 +187,14 @@ class Date(_Parts):
         return super().__new__(cls, *parts)
 
     @classmethod
+    def _make(cls, iterable: Iterable[SupportsIndex]) -> 'Date':  # type: ignore[override]
+        """A date of its year, month and day. `_replace` and `copy.replace` call it."""
+        parts = tuple(iterable)
+        if len(parts) != len(cls._fields):
+            raise TypeError(f'a date has {len(cls._fields)} parts, and not {len(parts)}')
+        return cls(*parts)
+
+    @classmethod
     def from_date(cls, date: datetime.date) -> 'Date':
         """The same date as one of `datetime`."""
         return cls(date.year, date.month, date.day)
@@ -171,9 +205,9 @@ class Date(_Parts):
             raise OverflowError(f'year {self.year} is not from {datetime.MINYEAR} to {datetime.MAXYEAR}')
         return datetime.date(self.year, self.month, self.day)
 
-    def weekday(self) -> int:
-        """The day of the week, from 0 for Monday to 6 for Sunday, as that of `datetime.date`."""
-        return self.isoweekday() - 1
+    def weekday(self) -> Weekday:
+        """The day of the week. That of `datetime.date` is a number from 0 for Monday to 6 for Sunday."""
+        return Weekday(self.isoweekday())
 
     def isoweekday(self) -> int:
         """The day of the week, from 1 for Monday to 7 for Sunday, as that of `datetime.date`."""
@@ -204,5 +238,5 @@ def _out_of_range(number: SupportsIndex, kind: str) -> OverflowError:
 
 _calls._install({
     'refusal': _refusal, 'out_of_range': _out_of_range, 'Fraction': Fraction, 'Tuple': _Tuple, 'array': array.array, 'Date': Date,
-    'ExtendedGcd': ExtendedGcd, 'Solutions': Solutions, 'IsoWeek': IsoWeek,
+    'ExtendedGcd': ExtendedGcd, 'Solutions': Solutions, 'IsoWeek': IsoWeek, 'Weekday': Weekday,
 })

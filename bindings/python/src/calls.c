@@ -2052,7 +2052,7 @@ static void many_date_from_iso_week(Py_ssize_t count, char *const *in, const Py_
 
 static const form form_date_from_iso_week = {"qBB", "qBBB", true, one_date_from_iso_week, many_date_from_iso_week};
 
-static const call call_date_from_iso_week = {"date_from_iso_week", 3, {"year", "week", "weekday"}, "nnn",
+static const call call_date_from_iso_week = {"date_from_iso_week", 3, {"year", "week", "weekday"}, "nnw",
     (const bool[]){false, false, false}, (const bool[]){false, false, false}, &form_date_from_iso_week, NULL, NULL};
 
 static PyObject *py_date_from_iso_week(PyObject *module, PyObject *const *args, Py_ssize_t count, PyObject *names) {
@@ -2129,7 +2129,7 @@ static void many_nth_weekday_of_month(Py_ssize_t count, char *const *in, const P
 
 static const form form_nth_weekday_of_month = {"qBBB", "qBBB", true, one_nth_weekday_of_month, many_nth_weekday_of_month};
 
-static const call call_nth_weekday_of_month = {"nth_weekday_of_month", 4, {"year", "month", "weekday", "n"}, "nnnn",
+static const call call_nth_weekday_of_month = {"nth_weekday_of_month", 4, {"year", "month", "weekday", "n"}, "nnwn",
     (const bool[]){false, false, false, false}, (const bool[]){false, false, false, false}, &form_nth_weekday_of_month, NULL, NULL};
 
 static PyObject *py_nth_weekday_of_month(PyObject *module, PyObject *const *args, Py_ssize_t count, PyObject *names) {
@@ -2158,7 +2158,7 @@ static void many_last_weekday_of_month(Py_ssize_t count, char *const *in, const 
 
 static const form form_last_weekday_of_month = {"qBB", "qBBB", true, one_last_weekday_of_month, many_last_weekday_of_month};
 
-static const call call_last_weekday_of_month = {"last_weekday_of_month", 3, {"year", "month", "weekday"}, "nnn",
+static const call call_last_weekday_of_month = {"last_weekday_of_month", 3, {"year", "month", "weekday"}, "nnw",
     (const bool[]){false, false, false}, (const bool[]){false, false, false}, &form_last_weekday_of_month, NULL, NULL};
 
 static PyObject *py_last_weekday_of_month(PyObject *module, PyObject *const *args, Py_ssize_t count, PyObject *names) {
@@ -2271,495 +2271,700 @@ static PyMethodDef methods[] = {
     "checked_sum($module, /, a, b, *, out=None)\n"
     "--\n"
     "\n"
-    "`a + b`. For 2 and 3 it is 5.\n"
+    "`a + b`.\n"
     "\n"
-    "Raises `NotFitting` if the sum does not fit.\n"},
+    "Raises `NotFitting` if the sum does not fit.\n"
+    "\n"
+    ">>> checked_sum(2, 3)\n"
+    "5\n"},
     {"checked_difference", (PyCFunction)(void (*)(void))py_checked_difference, METH_FASTCALL | METH_KEYWORDS,
     "checked_difference($module, /, a, b, *, out=None)\n"
     "--\n"
     "\n"
-    "`a - b`. For 2 and 3 it is -1.\n"
+    "`a - b`.\n"
     "\n"
-    "Raises `NotFitting` if the difference does not fit.\n"},
+    "Raises `NotFitting` if the difference does not fit.\n"
+    "\n"
+    ">>> checked_difference(2, 3)\n"
+    "-1\n"},
     {"checked_product", (PyCFunction)(void (*)(void))py_checked_product, METH_FASTCALL | METH_KEYWORDS,
     "checked_product($module, /, a, b, *, out=None)\n"
     "--\n"
     "\n"
-    "`a * b`. For 2 and 3 it is 6.\n"
+    "`a * b`.\n"
     "\n"
-    "Raises `NotFitting` if the product does not fit.\n"},
+    "Raises `NotFitting` if the product does not fit.\n"
+    "\n"
+    ">>> checked_product(2, 3)\n"
+    "6\n"},
     {"div_rem", (PyCFunction)(void (*)(void))py_div_rem, METH_FASTCALL | METH_KEYWORDS,
     "div_rem($module, /, x, y, *, out=None)\n"
     "--\n"
     "\n"
-    "The quotient rounded toward 0, and its remainder, as `/` and `%` of C. Those of -8 by 3\n"
-    "are -2 and -2.\n"
+    "The quotient rounded toward 0, and its remainder, as `/` and `%` of C.\n"
     "\n"
-    "Raises `DivisionByZero` if `y` is 0. Raises `NotFitting` if the quotient does not fit.\n"},
+    "Raises `DivisionByZero` if `y` is 0. Raises `NotFitting` if the quotient does not fit.\n"
+    "\n"
+    ">>> div_rem(-8, 3)\n"
+    "(-2, -2)\n"},
     {"div_floor", (PyCFunction)(void (*)(void))py_div_floor, METH_FASTCALL | METH_KEYWORDS,
     "div_floor($module, /, x, y, *, out=None)\n"
     "--\n"
     "\n"
-    "The quotient rounded down. That of -8 by 3 is -3.\n"
+    "The quotient rounded down.\n"
     "\n"
-    "Raises `DivisionByZero` if `y` is 0. Raises `NotFitting` if the quotient does not fit.\n"},
+    "Raises `DivisionByZero` if `y` is 0. Raises `NotFitting` if the quotient does not fit.\n"
+    "\n"
+    ">>> div_floor(-8, 3)\n"
+    "-3\n"},
     {"div_ceil", (PyCFunction)(void (*)(void))py_div_ceil, METH_FASTCALL | METH_KEYWORDS,
     "div_ceil($module, /, x, y, *, out=None)\n"
     "--\n"
     "\n"
-    "The quotient rounded up. That of 8 by 3 is 3.\n"
+    "The quotient rounded up.\n"
     "\n"
-    "Raises `DivisionByZero` if `y` is 0. Raises `NotFitting` if the quotient does not fit.\n"},
+    "Raises `DivisionByZero` if `y` is 0. Raises `NotFitting` if the quotient does not fit.\n"
+    "\n"
+    ">>> div_ceil(8, 3)\n"
+    "3\n"},
     {"mod_floor", (PyCFunction)(void (*)(void))py_mod_floor, METH_FASTCALL | METH_KEYWORDS,
     "mod_floor($module, /, x, y, *, out=None)\n"
     "--\n"
     "\n"
-    "The remainder of the quotient rounded down, which is 0 or has the sign of `y`. That of\n"
-    "-8 by 3 is 1. It always fits.\n"
+    "The remainder of the quotient rounded down, which is 0 or has the sign of `y`. It always\n"
+    "fits.\n"
     "\n"
-    "Raises `DivisionByZero` if `y` is 0.\n"},
+    "Raises `DivisionByZero` if `y` is 0.\n"
+    "\n"
+    ">>> mod_floor(-8, 3)\n"
+    "1\n"},
     {"div_mod_floor", (PyCFunction)(void (*)(void))py_div_mod_floor, METH_FASTCALL | METH_KEYWORDS,
     "div_mod_floor($module, /, x, y, *, out=None)\n"
     "--\n"
     "\n"
-    "The quotient rounded down, and its remainder. Those of -8 by 3 are -3 and 1.\n"
+    "The quotient rounded down, and its remainder.\n"
     "\n"
-    "Raises `DivisionByZero` if `y` is 0. Raises `NotFitting` if the quotient does not fit.\n"},
+    "Raises `DivisionByZero` if `y` is 0. Raises `NotFitting` if the quotient does not fit.\n"
+    "\n"
+    ">>> div_mod_floor(-8, 3)\n"
+    "(-3, 1)\n"},
     {"product_div_mod_floor", (PyCFunction)(void (*)(void))py_product_div_mod_floor, METH_FASTCALL | METH_KEYWORDS,
     "product_div_mod_floor($module, /, a, b, d, *, out=None)\n"
     "--\n"
     "\n"
     "The quotient of `a * b` by `d`, rounded down, and its remainder. The product need not\n"
-    "fit. Those for -7, 3 and 2 are -11 and 1.\n"
+    "fit.\n"
     "\n"
-    "Raises `DivisionByZero` if `d` is 0. Raises `NotFitting` if the quotient does not fit.\n"},
+    "Raises `DivisionByZero` if `d` is 0. Raises `NotFitting` if the quotient does not fit.\n"
+    "\n"
+    ">>> product_div_mod_floor(-7, 3, 2)\n"
+    "(-11, 1)\n"},
     {"next_multiple_of", (PyCFunction)(void (*)(void))py_next_multiple_of, METH_FASTCALL | METH_KEYWORDS,
     "next_multiple_of($module, /, x, y, *, out=None)\n"
     "--\n"
     "\n"
     "The quotient rounded up, times `y`: if `y` is positive, the smallest multiple of it that\n"
-    "is at least `x`. For 23 and 8 it is 24.\n"
+    "is at least `x`.\n"
     "\n"
-    "Raises `DivisionByZero` if `y` is 0. Raises `NotFitting` if the multiple does not fit.\n"},
+    "Raises `DivisionByZero` if `y` is 0. Raises `NotFitting` if the multiple does not fit.\n"
+    "\n"
+    ">>> next_multiple_of(23, 8)\n"
+    "24\n"},
     {"prev_multiple_of", (PyCFunction)(void (*)(void))py_prev_multiple_of, METH_FASTCALL | METH_KEYWORDS,
     "prev_multiple_of($module, /, x, y, *, out=None)\n"
     "--\n"
     "\n"
     "The quotient rounded down, times `y`: if `y` is positive, the largest multiple of it\n"
-    "that is at most `x`. For 23 and 8 it is 16.\n"
+    "that is at most `x`.\n"
     "\n"
-    "Raises `DivisionByZero` if `y` is 0. Raises `NotFitting` if the multiple does not fit.\n"},
+    "Raises `DivisionByZero` if `y` is 0. Raises `NotFitting` if the multiple does not fit.\n"
+    "\n"
+    ">>> prev_multiple_of(23, 8)\n"
+    "16\n"},
     {"is_multiple_of", (PyCFunction)(void (*)(void))py_is_multiple_of, METH_FASTCALL | METH_KEYWORDS,
     "is_multiple_of($module, /, x, y, *, out=None)\n"
     "--\n"
     "\n"
-    "Whether `x` is a multiple of `y`. Of 0 only 0 is one.\n"},
+    "Whether `x` is a multiple of `y`. Of 0 only 0 is one.\n"
+    "\n"
+    ">>> is_multiple_of(12, 4)\n"
+    "True\n"
+    ">>> is_multiple_of(0, 0)\n"
+    "True\n"
+    ">>> is_multiple_of(4, 0)\n"
+    "False\n"},
     {"gcd", (PyCFunction)(void (*)(void))py_gcd, METH_FASTCALL | METH_KEYWORDS,
     "gcd($module, /, *numbers, out=None)\n"
     "--\n"
     "\n"
-    "The greatest common divisor, which is not negative. That of -56 and 42 is 14.\n"
+    "The greatest common divisor, which is not negative.\n"
     "\n"
     "Raises `NotFitting` if it is 2^63.\n"
     "\n"
-    "It takes any count of numbers.\n"},
+    "It takes any count of numbers.\n"
+    "\n"
+    ">>> gcd(-56, 42)\n"
+    "14\n"},
     {"lcm", (PyCFunction)(void (*)(void))py_lcm, METH_FASTCALL | METH_KEYWORDS,
     "lcm($module, /, *numbers, out=None)\n"
     "--\n"
     "\n"
-    "The least common multiple, which is not negative. That of -4 and 6 is 12.\n"
+    "The least common multiple, which is not negative.\n"
     "\n"
     "Raises `NotFitting` if the multiple does not fit.\n"
     "\n"
-    "It takes any count of numbers.\n"},
+    "It takes any count of numbers.\n"
+    "\n"
+    ">>> lcm(-4, 6)\n"
+    "12\n"},
     {"gcd_lcm", (PyCFunction)(void (*)(void))py_gcd_lcm, METH_FASTCALL | METH_KEYWORDS,
     "gcd_lcm($module, /, x, y, *, out=None)\n"
     "--\n"
     "\n"
-    "The greatest common divisor and the least common multiple. Those of -10 and 4 are 2 and\n"
-    "20.\n"
+    "The greatest common divisor and the least common multiple.\n"
     "\n"
-    "Raises `NotFitting` if one of the two does not fit.\n"},
+    "Raises `NotFitting` if one of the two does not fit.\n"
+    "\n"
+    ">>> gcd_lcm(-10, 4)\n"
+    "(2, 20)\n"},
     {"extended_gcd", (PyCFunction)(void (*)(void))py_extended_gcd, METH_FASTCALL | METH_KEYWORDS,
     "extended_gcd($module, /, x, y, *, out=None)\n"
     "--\n"
     "\n"
     "The greatest common divisor, and small coefficients `x` and `y`: `x` times the first\n"
-    "number and `y` times the second add up to it. For 240 and 46 they are 2, -9 and 47. In C\n"
-    "the two products may overflow.\n"
+    "number and `y` times the second add up to it. In C the two products may overflow.\n"
     "\n"
-    "Raises `NotFitting` if the divisor is 2^63.\n"},
+    "Raises `NotFitting` if the divisor is 2^63.\n"
+    "\n"
+    ">>> extended_gcd(240, 46)\n"
+    "ExtendedGcd(gcd=2, x=-9, y=47)\n"},
     {"gcd_of", py_gcd_of, METH_O,
     "gcd_of($module, numbers, /)\n"
     "--\n"
     "\n"
-    "The greatest common divisor of the numbers, which is not negative. That of -12, 18 and 8\n"
-    "is 2, and that of no numbers is 0.\n"
+    "The greatest common divisor of the numbers, which is not negative.\n"
     "\n"
-    "Raises `NotFitting` if it is 2^63, as that of -2^63 and 0.\n"},
+    "Raises `NotFitting` if it is 2^63, as that of -2^63 and 0.\n"
+    "\n"
+    ">>> gcd_of([-12, 18, 8])\n"
+    "2\n"
+    ">>> gcd_of([])\n"
+    "0\n"},
     {"lcm_of", py_lcm_of, METH_O,
     "lcm_of($module, numbers, /)\n"
     "--\n"
     "\n"
-    "The least common multiple of the numbers, which is not negative. That of -4, 6 and 10 is\n"
-    "60, that of numbers of which one is 0 is 0, and that of no numbers is 1.\n"
+    "The least common multiple of the numbers, which is not negative.\n"
     "\n"
-    "Raises `NotFitting` if the multiple does not fit.\n"},
+    "Raises `NotFitting` if the multiple does not fit.\n"
+    "\n"
+    ">>> lcm_of([-4, 6, 10])\n"
+    "60\n"
+    ">>> lcm_of([4, 0])\n"
+    "0\n"
+    ">>> lcm_of([])\n"
+    "1\n"},
     {"average_floor", (PyCFunction)(void (*)(void))py_average_floor, METH_FASTCALL | METH_KEYWORDS,
     "average_floor($module, /, x, y, *, out=None)\n"
     "--\n"
     "\n"
-    "The average rounded down. That of 3 and 10 is 6.\n"},
+    "The average rounded down.\n"
+    "\n"
+    ">>> average_floor(3, 10)\n"
+    "6\n"},
     {"average_ceil", (PyCFunction)(void (*)(void))py_average_ceil, METH_FASTCALL | METH_KEYWORDS,
     "average_ceil($module, /, x, y, *, out=None)\n"
     "--\n"
     "\n"
-    "The average rounded up. That of 3 and 10 is 7.\n"},
+    "The average rounded up.\n"
+    "\n"
+    ">>> average_ceil(3, 10)\n"
+    "7\n"},
     {"sqrt", (PyCFunction)(void (*)(void))py_sqrt, METH_FASTCALL | METH_KEYWORDS,
     "sqrt($module, /, x, *, out=None)\n"
     "--\n"
     "\n"
-    "The square root rounded down. That of 99 is 9.\n"
+    "The square root rounded down.\n"
     "\n"
-    "Raises `Refused` with `OUTSIDE` if `x` is negative.\n"},
+    "Raises `Refused` with `OUTSIDE` if `x` is negative.\n"
+    "\n"
+    ">>> sqrt(99)\n"
+    "9\n"},
     {"cbrt", (PyCFunction)(void (*)(void))py_cbrt, METH_FASTCALL | METH_KEYWORDS,
     "cbrt($module, /, x, *, out=None)\n"
     "--\n"
     "\n"
-    "The cube root rounded toward 0. That of -9 is -2.\n"},
+    "The cube root rounded toward 0.\n"
+    "\n"
+    ">>> cbrt(-9)\n"
+    "-2\n"},
     {"nth_root", (PyCFunction)(void (*)(void))py_nth_root, METH_FASTCALL | METH_KEYWORDS,
     "nth_root($module, /, x, degree, *, out=None)\n"
     "--\n"
     "\n"
-    "The root of a degree, rounded toward 0. That of -9 of degree 3 is -2.\n"
+    "The root of a degree, rounded toward 0.\n"
     "\n"
-    "Raises `Refused` with `OUTSIDE` if `degree` is 0, and if it is even and `x` is negative.\n"},
+    "Raises `Refused` with `OUTSIDE` if `degree` is 0, and if it is even and `x` is negative.\n"
+    "\n"
+    ">>> nth_root(-9, 3)\n"
+    "-2\n"},
     {"is_square", (PyCFunction)(void (*)(void))py_is_square, METH_FASTCALL | METH_KEYWORDS,
     "is_square($module, /, x, *, out=None)\n"
     "--\n"
     "\n"
-    "Whether `x` is the square of an integer. 144 is one, and -144 is not.\n"},
+    "Whether `x` is the square of an integer.\n"
+    "\n"
+    ">>> is_square(144)\n"
+    "True\n"
+    ">>> is_square(-144)\n"
+    "False\n"},
     {"is_power", (PyCFunction)(void (*)(void))py_is_power, METH_FASTCALL | METH_KEYWORDS,
     "is_power($module, /, x, degree, *, out=None)\n"
     "--\n"
     "\n"
-    "Whether `x` is an integer to the power `degree`. For -243 and 5 it is `true`, and for\n"
-    "244 and 5 it is `false`; for the degree 0 it is `true` at 1 alone.\n"},
+    "Whether `x` is an integer to the power `degree`.\n"
+    "\n"
+    ">>> is_power(-243, 5)\n"
+    "True\n"
+    ">>> is_power(244, 5)\n"
+    "False\n"
+    ">>> is_power(1, 0)\n"
+    "True\n"
+    ">>> is_power(2, 0)\n"
+    "False\n"},
     {"is_perfect_power", (PyCFunction)(void (*)(void))py_is_perfect_power, METH_FASTCALL | METH_KEYWORDS,
     "is_perfect_power($module, /, x, *, out=None)\n"
     "--\n"
     "\n"
-    "Whether `x` is a square, a cube or a higher power of an integer. 128 is one, and 72 is\n"
-    "not.\n"},
+    "Whether `x` is a square, a cube or a higher power of an integer.\n"
+    "\n"
+    ">>> is_perfect_power(128)\n"
+    "True\n"
+    ">>> is_perfect_power(72)\n"
+    "False\n"},
     {"binomial", (PyCFunction)(void (*)(void))py_binomial, METH_FASTCALL | METH_KEYWORDS,
     "binomial($module, /, n, k, *, out=None)\n"
     "--\n"
     "\n"
-    "How many ways there are to choose `k` of `n`, the binomial coefficient. That of 11 and 3\n"
-    "is 165, and that of 3 and 11 is 0.\n"
+    "How many ways there are to choose `k` of `n`, the binomial coefficient.\n"
     "\n"
     "Raises `Refused` with `OUTSIDE` if a number is negative. Raises `NotFitting` if the\n"
-    "coefficient does not fit.\n"},
+    "coefficient does not fit.\n"
+    "\n"
+    ">>> binomial(11, 3)\n"
+    "165\n"
+    ">>> binomial(3, 11)\n"
+    "0\n"},
     {"multinomial", py_multinomial, METH_O,
     "multinomial($module, counts, /)\n"
     "--\n"
     "\n"
     "How many ways there are to order things of several kinds, the multinomial of their\n"
-    "counts. That of 2, 1 and 2 is 30, and that of no counts is 1.\n"
+    "counts.\n"
     "\n"
-    "Raises `NotFitting` if the coefficient does not fit.\n"},
+    "Raises `NotFitting` if the coefficient does not fit.\n"
+    "\n"
+    ">>> multinomial([2, 1, 2])\n"
+    "30\n"
+    ">>> multinomial([])\n"
+    "1\n"},
     {"rank", (PyCFunction)(void (*)(void))py_rank, METH_FASTCALL,
     "rank($module, choice, n, /)\n"
     "--\n"
     "\n"
     "The rank of a choice of numbers below `n`: how many choices of as many numbers come\n"
     "before it. They are ordered by their last number, then by the one before it, and so on.\n"
-    "For 0, 2 and 3, and 5, it is 2.\n"
     "\n"
     "Raises `Refused` with `OUTSIDE` if the numbers do not increase or are not all below `n`.\n"
-    "Raises `NotFitting` if the rank does not fit.\n"},
+    "Raises `NotFitting` if the rank does not fit.\n"
+    "\n"
+    ">>> rank([0, 2, 3], 5)\n"
+    "2\n"},
     {"choice_of_rank", (PyCFunction)(void (*)(void))py_choice_of_rank, METH_FASTCALL,
     "choice_of_rank($module, rank, n, count, /)\n"
     "--\n"
     "\n"
     "The choice of `count` numbers below `n` that has the rank, as a tuple: it is the inverse\n"
-    "of `rank`. For 2, 5 and 3 it is (0, 2, 3).\n"
+    "of `rank`.\n"
     "\n"
-    "Raises `Refused` with `OUTSIDE` if the rank is not below the number of these choices.\n"},
+    "Raises `Refused` with `OUTSIDE` if the rank is not below the number of these choices.\n"
+    "\n"
+    ">>> choice_of_rank(2, 5, 3)\n"
+    "(0, 2, 3)\n"},
     {"sum_modulo", (PyCFunction)(void (*)(void))py_sum_modulo, METH_FASTCALL | METH_KEYWORDS,
     "sum_modulo($module, /, a, b, m, *, out=None)\n"
     "--\n"
     "\n"
-    "`a + b` modulo `m`, from 0 to `m` - 1. For 5, 4 and 7 it is 2.\n"
+    "`a + b` modulo `m`, from 0 to `m` - 1.\n"
     "\n"
-    "Raises `Refused` with `BAD_MODULUS` if `m` is not positive.\n"},
+    "Raises `Refused` with `BAD_MODULUS` if `m` is not positive.\n"
+    "\n"
+    ">>> sum_modulo(5, 4, 7)\n"
+    "2\n"},
     {"difference_modulo", (PyCFunction)(void (*)(void))py_difference_modulo, METH_FASTCALL | METH_KEYWORDS,
     "difference_modulo($module, /, a, b, m, *, out=None)\n"
     "--\n"
     "\n"
-    "`a - b` modulo `m`, from 0 to `m` - 1. For 2, 5 and 7 it is 4.\n"
+    "`a - b` modulo `m`, from 0 to `m` - 1.\n"
     "\n"
-    "Raises `Refused` with `BAD_MODULUS` if `m` is not positive.\n"},
+    "Raises `Refused` with `BAD_MODULUS` if `m` is not positive.\n"
+    "\n"
+    ">>> difference_modulo(2, 5, 7)\n"
+    "4\n"},
     {"product_modulo", (PyCFunction)(void (*)(void))py_product_modulo, METH_FASTCALL | METH_KEYWORDS,
     "product_modulo($module, /, a, b, m, *, out=None)\n"
     "--\n"
     "\n"
-    "`a * b` modulo `m`, from 0 to `m` - 1. For 4, 5 and 7 it is 6.\n"
+    "`a * b` modulo `m`, from 0 to `m` - 1.\n"
     "\n"
-    "Raises `Refused` with `BAD_MODULUS` if `m` is not positive.\n"},
+    "Raises `Refused` with `BAD_MODULUS` if `m` is not positive.\n"
+    "\n"
+    ">>> product_modulo(4, 5, 7)\n"
+    "6\n"},
     {"power_modulo", (PyCFunction)(void (*)(void))py_power_modulo, METH_FASTCALL | METH_KEYWORDS,
     "power_modulo($module, /, a, exponent, m, *, out=None)\n"
     "--\n"
     "\n"
-    "`a` to the power `exponent` modulo `m`, from 0 to `m` - 1. For 3, 4 and 7 it is 4.\n"
+    "`a` to the power `exponent` modulo `m`, from 0 to `m` - 1.\n"
     "\n"
-    "Raises `Refused` with `BAD_MODULUS` if `m` is not positive.\n"},
+    "Raises `Refused` with `BAD_MODULUS` if `m` is not positive.\n"
+    "\n"
+    ">>> power_modulo(3, 4, 7)\n"
+    "4\n"},
     {"inverse_modulo", (PyCFunction)(void (*)(void))py_inverse_modulo, METH_FASTCALL | METH_KEYWORDS,
     "inverse_modulo($module, /, a, m, *, out=None)\n"
     "--\n"
     "\n"
-    "The number that times `a` is 1 modulo `m`, from 0 to `m` - 1. For 3 and 7 it is 5.\n"
+    "The number that times `a` is 1 modulo `m`, from 0 to `m` - 1.\n"
     "\n"
     "Raises `Refused` with `BAD_MODULUS` if `m` is not positive. Raises `Refused` with\n"
-    "`NO_SOLUTION` if there is no inverse.\n"},
+    "`NO_SOLUTION` if there is no inverse.\n"
+    "\n"
+    ">>> inverse_modulo(3, 7)\n"
+    "5\n"},
     {"quotient_modulo", (PyCFunction)(void (*)(void))py_quotient_modulo, METH_FASTCALL | METH_KEYWORDS,
     "quotient_modulo($module, /, a, b, m, *, out=None)\n"
     "--\n"
     "\n"
-    "The number that times `b` is `a` modulo `m`, from 0 to `m` - 1. For 2, 3 and 7 it is 3.\n"
+    "The number that times `b` is `a` modulo `m`, from 0 to `m` - 1.\n"
     "\n"
     "Raises `Refused` with `BAD_MODULUS` if `m` is not positive. Raises `Refused` with\n"
-    "`NO_SOLUTION` if `b` has no inverse modulo `m`.\n"},
+    "`NO_SOLUTION` if `b` has no inverse modulo `m`.\n"
+    "\n"
+    ">>> quotient_modulo(2, 3, 7)\n"
+    "3\n"},
     {"solutions", (PyCFunction)(void (*)(void))py_solutions, METH_FASTCALL | METH_KEYWORDS,
     "solutions($module, /, a, b, m, *, out=None)\n"
     "--\n"
     "\n"
-    "The numbers that times `a` are `b` modulo `m`. For 6, 4 and 10 they are 4 and those in\n"
-    "steps of 5 from it.\n"
+    "The numbers that times `a` are `b` modulo `m`.\n"
     "\n"
     "Raises `Refused` with `BAD_MODULUS` if `m` is not positive. Raises `Refused` with\n"
-    "`NO_SOLUTION` if there is no such number.\n"},
+    "`NO_SOLUTION` if there is no such number.\n"
+    "\n"
+    ">>> solutions(6, 4, 10)\n"
+    "Solutions(first=4, step=5)\n"},
     {"chinese_remainder", (PyCFunction)(void (*)(void))py_chinese_remainder, METH_FASTCALL | METH_KEYWORDS,
     "chinese_remainder($module, /, a, m, b, n, *, out=None)\n"
     "--\n"
     "\n"
-    "The numbers that are `a` modulo `m` and `b` modulo `n`. For 1, 4, 3 and 6 they are 9 and\n"
-    "those in steps of 12 from it.\n"
+    "The numbers that are `a` modulo `m` and `b` modulo `n`.\n"
     "\n"
     "Raises `Refused` with `BAD_MODULUS` if `m` or `n` is not positive. Raises `Refused` with\n"
     "`NO_SOLUTION` if there is no such number. Raises `NotFitting` if there is one, and the\n"
-    "step does not fit.\n"},
+    "step does not fit.\n"
+    "\n"
+    ">>> chinese_remainder(1, 4, 3, 6)\n"
+    "Solutions(first=9, step=12)\n"},
     {"next_congruent", (PyCFunction)(void (*)(void))py_next_congruent, METH_FASTCALL | METH_KEYWORDS,
     "next_congruent($module, /, start, first, step, *, out=None)\n"
     "--\n"
     "\n"
-    "The smallest number from `start` on that is `first` modulo `step`. For 10, 1 and 4 it is\n"
-    "13.\n"
+    "The smallest number from `start` on that is `first` modulo `step`.\n"
     "\n"
     "Raises `Refused` with `BAD_MODULUS` if `step` is not positive. Raises `NotFitting` if\n"
-    "the number does not fit.\n"},
+    "the number does not fit.\n"
+    "\n"
+    ">>> next_congruent(10, 1, 4)\n"
+    "13\n"},
     {"previous_congruent", (PyCFunction)(void (*)(void))py_previous_congruent, METH_FASTCALL | METH_KEYWORDS,
     "previous_congruent($module, /, end, first, step, *, out=None)\n"
     "--\n"
     "\n"
-    "The largest number up to `end` that is `first` modulo `step`. For 10, 1 and 4 it is 9.\n"
+    "The largest number up to `end` that is `first` modulo `step`.\n"
     "\n"
     "Raises `Refused` with `BAD_MODULUS` if `step` is not positive. Raises `NotFitting` if\n"
-    "the number does not fit.\n"},
+    "the number does not fit.\n"
+    "\n"
+    ">>> previous_congruent(2, 7, 28)\n"
+    "-21\n"
+    ">>> previous_congruent(10, 1, 4)\n"
+    "9\n"},
     {"count_congruent", (PyCFunction)(void (*)(void))py_count_congruent, METH_FASTCALL | METH_KEYWORDS,
     "count_congruent($module, /, start, end, first, step, *, out=None)\n"
     "--\n"
     "\n"
-    "How many numbers from `start` to `end` are `first` modulo `step`. For 1, 10, 1 and 4 it\n"
-    "is 3.\n"
+    "How many numbers from `start` to `end` are `first` modulo `step`.\n"
     "\n"
     "Raises `Refused` with `BAD_MODULUS` if `step` is not positive. Raises `NotFitting` if\n"
-    "the count does not fit.\n"},
+    "the count does not fit.\n"
+    "\n"
+    ">>> count_congruent(1, 10, 1, 4)\n"
+    "3\n"},
     {"next_common_solution", (PyCFunction)(void (*)(void))py_next_common_solution, METH_FASTCALL | METH_KEYWORDS,
     "next_common_solution($module, /, start, a, m, b, n, *, out=None)\n"
     "--\n"
     "\n"
     "The smallest number from `start` on that is `a` modulo `m` and `b` modulo `n`. The least\n"
-    "common multiple of `m` and `n` need not fit. For 10, 1, 4, 3 and 6 it is 21.\n"
+    "common multiple of `m` and `n` need not fit.\n"
     "\n"
     "Raises `Refused` with `BAD_MODULUS` if `m` or `n` is not positive. Raises `Refused` with\n"
-    "`NO_SOLUTION` if there is no such number. Raises `NotFitting` if it does not fit.\n"},
+    "`NO_SOLUTION` if there is no such number. Raises `NotFitting` if it does not fit.\n"
+    "\n"
+    ">>> next_common_solution(10, 1, 4, 3, 6)\n"
+    "21\n"},
     {"next_common_solution_of", (PyCFunction)(void (*)(void))py_next_common_solution_of, METH_FASTCALL,
     "next_common_solution_of($module, start, congruences, /)\n"
     "--\n"
     "\n"
     "The smallest number from `start` on that solves each of up to 64 congruences, which are\n"
-    "pairs of a residue and a modulus. No product of the moduli need fit. For 10 and [(1, 4),\n"
-    "(3, 6), (0, 7)] it is 21.\n"
+    "pairs of a residue and a modulus. No product of the moduli need fit.\n"
     "\n"
     "Raises `Refused` with `OUTSIDE` if there are more congruences. Raises `Refused` with\n"
     "`BAD_MODULUS` if a modulus is not positive. Raises `Refused` with `NO_SOLUTION` if there\n"
-    "is no such number. Raises `NotFitting` if it does not fit.\n"},
+    "is no such number. Raises `NotFitting` if it does not fit.\n"
+    "\n"
+    ">>> next_common_solution_of(10, [(1, 4), (3, 6), (0, 7)])\n"
+    "21\n"},
     {"limit_denominator", (PyCFunction)(void (*)(void))py_limit_denominator, METH_FASTCALL | METH_KEYWORDS,
     "limit_denominator($module, /, a, max_denominator, *, out=None)\n"
     "--\n"
     "\n"
-    "The nearest fraction whose denominator is at most `max_denominator`. That of 3/10 and 5\n"
-    "is 1/3.\n"
+    "The nearest fraction whose denominator is at most `max_denominator`.\n"
     "\n"
     "Raises `Refused` with `OUTSIDE` if `max_denominator` is not positive, whatever `a` is.\n"
     "Raises `DivisionByZero` if the denominator is 0. Raises `NotFitting` if a part of the\n"
-    "reduced fraction does not fit.\n"},
+    "reduced fraction does not fit.\n"
+    "\n"
+    ">>> limit_denominator((3, 10), 5)\n"
+    "Fraction(1, 3)\n"},
     {"fraction_round", (PyCFunction)(void (*)(void))py_fraction_round, METH_FASTCALL | METH_KEYWORDS,
     "fraction_round($module, /, a, *, out=None)\n"
     "--\n"
     "\n"
-    "The nearest integer, and of two that are equally near the one farther from 0. That of\n"
-    "-3/2 is -2.\n"
+    "The nearest integer, and of two that are equally near the one farther from 0.\n"
     "\n"
     "Raises `DivisionByZero` if the denominator is 0. Raises `NotFitting` if a part of the\n"
-    "reduced fraction does not fit.\n"},
+    "reduced fraction does not fit.\n"
+    "\n"
+    ">>> fraction_round((-3, 2))\n"
+    "-2\n"},
     {"fraction_round_times", (PyCFunction)(void (*)(void))py_fraction_round_times, METH_FASTCALL | METH_KEYWORDS,
     "fraction_round_times($module, /, a, n, *, out=None)\n"
     "--\n"
     "\n"
     "The integer nearest to the fraction times `n`, and of two that are equally near the one\n"
-    "farther from 0. That of 1/2 and -3 is -2.\n"
+    "farther from 0.\n"
     "\n"
     "Raises `DivisionByZero` if the denominator is 0. Raises `NotFitting` if a part of the\n"
-    "reduced fraction does not fit, or the result.\n"},
+    "reduced fraction does not fit, or the result.\n"
+    "\n"
+    ">>> fraction_round_times((1, 2), -3)\n"
+    "-2\n"},
     {"date_from_day", (PyCFunction)(void (*)(void))py_date_from_day, METH_FASTCALL | METH_KEYWORDS,
     "date_from_day($module, /, day, *, out=None)\n"
     "--\n"
     "\n"
-    "The date of a day, counted from 1970-01-01, which is day 0. That of -1 is 1969-12-31.\n"},
+    "The date of a day, counted from 1970-01-01, which is day 0.\n"
+    "\n"
+    ">>> date_from_day(-1)\n"
+    "Date(year=1969, month=12, day=31)\n"},
     {"day_from_date", (PyCFunction)(void (*)(void))py_day_from_date, METH_FASTCALL | METH_KEYWORDS,
     "day_from_date($module, /, date, *, out=None)\n"
     "--\n"
     "\n"
-    "The day of a date, counted from 1970-01-01, which is day 0. That of 1969-12-31 is -1.\n"
+    "The day of a date, counted from 1970-01-01, which is day 0.\n"
     "\n"
     "Raises `Refused` with `NO_DATE` if there is no such date. Raises `NotFitting` if its day\n"
-    "does not fit.\n"},
+    "does not fit.\n"
+    "\n"
+    ">>> day_from_date(Date(1969, 12, 31))\n"
+    "-1\n"},
     {"plus_days", (PyCFunction)(void (*)(void))py_plus_days, METH_FASTCALL | METH_KEYWORDS,
     "plus_days($module, /, date, days, *, out=None)\n"
     "--\n"
     "\n"
-    "The date `days` days after a date, or before it if `days` is negative. That of\n"
-    "2000-03-01 and -1 is 2000-02-29.\n"
+    "The date `days` days after a date, or before it if `days` is negative.\n"
     "\n"
     "Raises `Refused` with `NO_DATE` if there is no such date. Raises `NotFitting` if the\n"
-    "year of the result does not fit.\n"},
+    "year of the result does not fit.\n"
+    "\n"
+    ">>> plus_days(Date(2000, 3, 1), -1)\n"
+    "Date(year=2000, month=2, day=29)\n"},
     {"days_between", (PyCFunction)(void (*)(void))py_days_between, METH_FASTCALL | METH_KEYWORDS,
     "days_between($module, /, start, end, *, out=None)\n"
     "--\n"
     "\n"
-    "The number of days from one date to another, negative if the other is earlier. From\n"
-    "2000-03-01 to 2000-02-28 it is -2.\n"
+    "The number of days from one date to another, negative if the other is earlier.\n"
     "\n"
     "Raises `Refused` with `NO_DATE` if there is no such date. Raises `NotFitting` if the\n"
-    "number does not fit.\n"},
+    "number does not fit.\n"
+    "\n"
+    ">>> days_between(Date(2000, 3, 1), Date(2000, 2, 28))\n"
+    "-2\n"},
     {"plus_months", (PyCFunction)(void (*)(void))py_plus_months, METH_FASTCALL | METH_KEYWORDS,
     "plus_months($module, /, date, months, *, out=None)\n"
     "--\n"
     "\n"
     "The date `months` months after a date, or before it if `months` is negative. Its day of\n"
-    "the month is the same, or the last one if its month is shorter. That of 2000-01-31 and 1\n"
-    "is 2000-02-29.\n"
+    "the month is the same, or the last one if its month is shorter.\n"
     "\n"
     "Raises `Refused` with `NO_DATE` if there is no such date. Raises `NotFitting` if the\n"
-    "year of the result does not fit.\n"},
+    "year of the result does not fit.\n"
+    "\n"
+    ">>> plus_months(Date(2000, 1, 31), 1)\n"
+    "Date(year=2000, month=2, day=29)\n"},
     {"months_between", (PyCFunction)(void (*)(void))py_months_between, METH_FASTCALL | METH_KEYWORDS,
     "months_between($module, /, start, end, *, out=None)\n"
     "--\n"
     "\n"
     "The largest number of months that leads from one date to a date not after another,\n"
-    "negative if the other is earlier. From 2000-01-31 to 2000-02-29 it is 1.\n"
+    "negative if the other is earlier.\n"
     "\n"
     "Raises `Refused` with `NO_DATE` if a date does not exist. Raises `NotFitting` if the\n"
-    "number does not fit.\n"},
+    "number does not fit.\n"
+    "\n"
+    ">>> months_between(Date(2000, 1, 31), Date(2000, 2, 29))\n"
+    "1\n"},
     {"iso_week", (PyCFunction)(void (*)(void))py_iso_week, METH_FASTCALL | METH_KEYWORDS,
     "iso_week($module, /, date, *, out=None)\n"
     "--\n"
     "\n"
-    "The week of ISO 8601 that has a date, and its year. That of 2005-01-01 is week 53 of\n"
-    "2004.\n"
+    "The week of ISO 8601 that has a date, and its year.\n"
     "\n"
     "Raises `Refused` with `NO_DATE` if there is no such date. Raises `NotFitting` if the\n"
-    "year of the week does not fit.\n"},
+    "year of the week does not fit.\n"
+    "\n"
+    ">>> iso_week(Date(2005, 1, 1))\n"
+    "IsoWeek(year=2004, week=53)\n"},
     {"date_from_iso_week", (PyCFunction)(void (*)(void))py_date_from_iso_week, METH_FASTCALL | METH_KEYWORDS,
     "date_from_iso_week($module, /, year, week, weekday, *, out=None)\n"
     "--\n"
     "\n"
     "The date of a day of a week of ISO 8601. The days of the week are from 1 for Monday to 7\n"
-    "for Sunday. That of 2009, 53 and 7 is 2010-01-03.\n"
+    "for Sunday.\n"
     "\n"
     "Raises `Refused` with `OUTSIDE` if `weekday` is not from 1 to 7, whatever the week.\n"
     "Raises `Refused` with `NO_DATE` if the year has no such week. Raises `NotFitting` if the\n"
-    "year of the date does not fit.\n"},
+    "year of the date does not fit.\n"
+    "\n"
+    ">>> date_from_iso_week(2009, 53, 7)\n"
+    "Date(year=2010, month=1, day=3)\n"},
     {"easter", (PyCFunction)(void (*)(void))py_easter, METH_FASTCALL | METH_KEYWORDS,
     "easter($module, /, year, *, out=None)\n"
     "--\n"
     "\n"
-    "The date of Easter Sunday of a year, by the rules of today. That of 2024 is 2024-03-31.\n"},
+    "The date of Easter Sunday of a year, by the rules of today.\n"
+    "\n"
+    ">>> easter(2024)\n"
+    "Date(year=2024, month=3, day=31)\n"},
     {"weekday", (PyCFunction)(void (*)(void))py_weekday, METH_FASTCALL | METH_KEYWORDS,
     "weekday($module, /, day, *, out=None)\n"
     "--\n"
     "\n"
-    "The day of the week of a day, from 1 for Monday to 7 for Sunday. That of 0 is 4.\n"},
+    "The day of the week of a day, from 1 for Monday to 7 for Sunday.\n"
+    "\n"
+    ">>> weekday(0)\n"
+    "4\n"},
     {"nth_weekday_of_month", (PyCFunction)(void (*)(void))py_nth_weekday_of_month, METH_FASTCALL | METH_KEYWORDS,
     "nth_weekday_of_month($module, /, year, month, weekday, n, *, out=None)\n"
     "--\n"
     "\n"
     "The date of the `n`-th day of a month that is this day of the week, from 1 for Monday to\n"
-    "7 for Sunday. The first one has `n` 1. The date for 2026, 11, 4 and 4 is 2026-11-26.\n"
+    "7 for Sunday. The first one has `n` 1.\n"
     "\n"
     "Raises `Refused` with `OUTSIDE` if `weekday` is not from 1 to 7, whatever the month.\n"
-    "Raises `Refused` with `NO_DATE` if there is no such date.\n"},
+    "Raises `Refused` with `NO_DATE` if there is no such date.\n"
+    "\n"
+    ">>> nth_weekday_of_month(2026, 11, 4, 4)\n"
+    "Date(year=2026, month=11, day=26)\n"},
     {"last_weekday_of_month", (PyCFunction)(void (*)(void))py_last_weekday_of_month, METH_FASTCALL | METH_KEYWORDS,
     "last_weekday_of_month($module, /, year, month, weekday, *, out=None)\n"
     "--\n"
     "\n"
     "The date of the last day of a month that is this day of the week, from 1 for Monday to 7\n"
-    "for Sunday. The date for 2026, 10 and 5 is 2026-10-30.\n"
+    "for Sunday.\n"
     "\n"
     "Raises `Refused` with `OUTSIDE` if `weekday` is not from 1 to 7, whatever the month.\n"
-    "Raises `Refused` with `NO_DATE` if `month` is not from 1 to 12.\n"},
+    "Raises `Refused` with `NO_DATE` if `month` is not from 1 to 12.\n"
+    "\n"
+    ">>> last_weekday_of_month(2026, 10, 5)\n"
+    "Date(year=2026, month=10, day=30)\n"},
     {"is_leap_year", (PyCFunction)(void (*)(void))py_is_leap_year, METH_FASTCALL | METH_KEYWORDS,
     "is_leap_year($module, /, year, *, out=None)\n"
     "--\n"
     "\n"
-    "Whether the year has a 29 February. 2000 and 0 have one, and 1900 and -1 do not.\n"},
+    "Whether the year has a 29 February.\n"
+    "\n"
+    ">>> is_leap_year(2000)\n"
+    "True\n"
+    ">>> is_leap_year(0)\n"
+    "True\n"
+    ">>> is_leap_year(1900)\n"
+    "False\n"
+    ">>> is_leap_year(-1)\n"
+    "False\n"},
     {"weeks_in_year", (PyCFunction)(void (*)(void))py_weeks_in_year, METH_FASTCALL | METH_KEYWORDS,
     "weeks_in_year($module, /, year, *, out=None)\n"
     "--\n"
     "\n"
-    "How many weeks of ISO 8601 the year has: 52 or 53. 2020 has 53.\n"},
+    "How many weeks of ISO 8601 the year has: 52 or 53.\n"
+    "\n"
+    ">>> weeks_in_year(2020)\n"
+    "53\n"},
     {"days_in_month", (PyCFunction)(void (*)(void))py_days_in_month, METH_FASTCALL | METH_KEYWORDS,
     "days_in_month($module, /, year, month, *, out=None)\n"
     "--\n"
     "\n"
-    "How many days the month has; January is 1. February 1900 has 28.\n"
+    "How many days the month has; January is 1.\n"
     "\n"
-    "Raises `Refused` with `NO_DATE` if `month` is not from 1 to 12.\n"},
+    "Raises `Refused` with `NO_DATE` if `month` is not from 1 to 12.\n"
+    "\n"
+    ">>> days_in_month(1900, 2)\n"
+    "28\n"},
     {"day_of_year", (PyCFunction)(void (*)(void))py_day_of_year, METH_FASTCALL | METH_KEYWORDS,
     "day_of_year($module, /, date, *, out=None)\n"
     "--\n"
     "\n"
-    "The day of the year of a date; 1 January is 1. That of 2000-12-31 is 366.\n"
+    "The day of the year of a date; 1 January is 1.\n"
     "\n"
-    "Raises `Refused` with `NO_DATE` if there is no such date.\n"},
+    "Raises `Refused` with `NO_DATE` if there is no such date.\n"
+    "\n"
+    ">>> day_of_year(Date(2000, 12, 31))\n"
+    "366\n"},
     {"comb", (PyCFunction)(void (*)(void))py_binomial, METH_FASTCALL | METH_KEYWORDS,
     "comb($module, /, n, k, *, out=None)\n"
     "--\n"
     "\n"
-    "How many ways there are to choose `k` of `n`, the binomial coefficient. That of 11 and 3\n"
-    "is 165, and that of 3 and 11 is 0.\n"
+    "How many ways there are to choose `k` of `n`, the binomial coefficient.\n"
     "\n"
     "Raises `Refused` with `OUTSIDE` if a number is negative. Raises `NotFitting` if the\n"
-    "coefficient does not fit.\n"},
+    "coefficient does not fit.\n"
+    "\n"
+    ">>> comb(11, 3)\n"
+    "165\n"
+    ">>> comb(3, 11)\n"
+    "0\n"},
     {"isqrt", (PyCFunction)(void (*)(void))py_sqrt, METH_FASTCALL | METH_KEYWORDS,
     "isqrt($module, /, x, *, out=None)\n"
     "--\n"
     "\n"
-    "The square root rounded down. That of 99 is 9.\n"
+    "The square root rounded down.\n"
     "\n"
-    "Raises `Refused` with `OUTSIDE` if `x` is negative.\n"},
+    "Raises `Refused` with `OUTSIDE` if `x` is negative.\n"
+    "\n"
+    ">>> isqrt(99)\n"
+    "9\n"},
     {"_install", install, METH_O, NULL},
     {NULL, NULL, 0, NULL},
 };

@@ -56,7 +56,7 @@ typedef struct {
     const char *name;
     Py_ssize_t count;
     const char *names[MAX_PARAMETERS];
-    const char *shapes;         /* of the parameters: a number, a fraction or a date */
+    const char *shapes;         /* of the parameters: a number, a day of the week, a fraction or a date */
     const bool *divides;        /* whether the call divides by the number of a cell */
     const bool *follows;        /* whether a cell has the type of the form */
     const form *only, *forms_i64, *forms_u64;
@@ -64,15 +64,13 @@ typedef struct {
 
 /* What the package installs. */
 static PyObject *refusal, *out_of_range, *new_fraction, *new_array;
-static PyObject *class_date, *class_gcd, *class_solutions, *class_week;
+static PyObject *class_date, *class_gcd, *class_solutions, *class_week, *class_weekday;
 static newfunc new_tuple;
-static PyObject *name_numerator, *name_denominator, *name_year, *name_month, *name_day, *name_out;
+static PyObject *name_numerator, *name_denominator, *name_year, *name_month, *name_day, *name_value, *name_out;
 
 static Py_ssize_t size_of(char kind) {
     return kind == 'q' || kind == 'Q' ? 8 : kind == 'i' || kind == 'I' ? 4 : 1;
 }
-
-static char letter(char kind) { return kind == '?' ? 'B' : kind; }
 
 /* ---- results ---- */
 
@@ -263,6 +261,17 @@ static PyObject *refused(uint32_t status, bool by_zero) {
     return NULL;
 }
 
+/* Which number does not fit its cell of a form, or the count. */
+static Py_ssize_t misfit(const form *f, const cell *cells, const int *said, Py_ssize_t count) {
+    Py_ssize_t k = 0;
+    while (k < count && fits(&cells[k], said[k], f->cells[k])) {
+        k++;
+    }
+    return k;
+}
+
+/* Runs a call of numbers. If no number is negative it is the unsigned form, and the signed one if the result of that does not fit, as a
+ * negative one does not. */
 static PyObject *run_one(const call *c, PyObject *const *objects, Py_ssize_t count) {
     cell cells[MAX_CELLS];
     int said[MAX_CELLS];
@@ -275,14 +284,17 @@ static PyObject *run_one(const call *c, PyObject *const *objects, Py_ssize_t cou
         negative |= c->follows[k] && is_negative(objects[k], &cells[k], said[k]);
     }
     const form *f = c->only != NULL ? c->only : negative ? c->forms_i64 : c->forms_u64;
-    for (Py_ssize_t k = 0; k < count; k++) {
-        if (!fits(&cells[k], said[k], f->cells[k])) {
-            beyond(objects[k], f->cells[k]);
-            return NULL;
-        }
+    Py_ssize_t place = misfit(f, cells, said, count);
+    if (place < count) {
+        beyond(objects[place], f->cells[place]);
+        return NULL;
     }
     uint32_t status = 0;
     PyObject *result = f->one(cells, &status);
+    if (status == CELLARCOVE_NOT_FITTING && f == c->forms_u64 && misfit(c->forms_i64, cells, said, count) == count) {
+        status = 0;
+        result = c->forms_i64->one(cells, &status);
+    }
     if (status != 0) {
         bool by_zero = false;
         for (Py_ssize_t k = 0; k < count; k++) {
@@ -303,7 +315,7 @@ typedef struct {
     int said;
 } column;
 
-/* Whether the items of an array have a type. */
+/* Whether the items of an array have a type. Those of a result that is a bool are bools, or bytes. */
 static bool has_items(const Py_buffer *view, char kind) {
     const char *format = view->format == NULL ? "B" : view->format;
     const uint16_t one = 1;
@@ -311,7 +323,7 @@ static bool has_items(const Py_buffer *view, char kind) {
     if (*format == '@' || *format == '=' || *format == (little ? '<' : '>')) {
         format++;
     }
-    const char *letters = kind == 'q' || kind == 'i' ? "bhilqn" : "BHILQN";
+    const char *letters = kind == 'q' || kind == 'i' ? "bhilqn" : kind == '?' ? "?B" : "BHILQN";
     return view->itemsize == size_of(kind) && *format != 0 && format[1] == 0 && strchr(letters, *format) != NULL;
 }
 
@@ -326,8 +338,15 @@ static const char *words_of(char kind) {
     case 'Q': return "the items of the array are not uint64";
     case 'I': return "the items of the array are not uint32";
     case 'i': return "the items of the array are not int32";
+    case '?': return "the items of the array are not bool or uint8";
     default: return "the items of the array are not uint8";
     }
+}
+
+/* Whether the items of an array lie where C may read them, as they do not in a part of a packed record. */
+static bool is_aligned(const Py_buffer *view) {
+    size_t step = view->itemsize == 8 ? _Alignof(int64_t) : view->itemsize == 4 ? _Alignof(int32_t) : 1;
+    return view->len == 0 || (uintptr_t)view->buf % step == 0;
 }
 
 /* Takes the buffer of an array. */
@@ -342,6 +361,11 @@ static int take(PyObject *object, Py_buffer *view, int flags, const char *name) 
     if (view->ndim != 1) {
         PyBuffer_Release(view);
         return wrong("the array has not one dimension", name);
+    }
+    if (!is_aligned(view)) {
+        PyBuffer_Release(view);
+        return wrong(flags & PyBUF_WRITABLE ? "the items of an output are not aligned: pass a new array, and copy it" :
+                                              "the items of the array are not aligned: pass a copy of it", name);
     }
     return 0;
 }
@@ -424,12 +448,21 @@ static PyObject *new_zeros(char kind, Py_ssize_t length) {
     return *one == NULL ? NULL : PySequence_Repeat(*one, length);
 }
 
+/* A new buffer of bools that are false. `array` has no type for them, and numpy takes an array of bytes for positions. */
+static PyObject *new_mask(Py_ssize_t length) {
+    PyObject *bytes = new_zeros('B', length), *view = bytes == NULL ? NULL : PyMemoryView_FromObject(bytes);
+    PyObject *mask = view == NULL ? NULL : PyObject_CallMethod(view, "cast", "s", "?");
+    Py_XDECREF(bytes);
+    Py_XDECREF(view);
+    return mask;
+}
+
 /* New arrays for the results. */
 static PyObject *new_outputs(const form *f, Py_ssize_t length) {
     Py_ssize_t results = (Py_ssize_t)strlen(f->results);
     PyObject *outputs = PyTuple_New(results);
     for (Py_ssize_t k = 0; outputs != NULL && k < results; k++) {
-        PyObject *array = new_zeros(letter(f->results[k]), length);
+        PyObject *array = f->results[k] == '?' ? new_mask(length) : new_zeros(f->results[k], length);
         if (array == NULL) {
             Py_CLEAR(outputs);
         } else {
@@ -455,8 +488,8 @@ static int take_outputs(const call *c, const form *f, PyObject *outputs, const c
         if (views[k].shape[0] != length) {
             return wrong("an output has another length than the arrays", c->name);
         }
-        if (!has_items(&views[k], letter(f->results[k]))) {
-            return wrong(words_of(letter(f->results[k])), c->name);
+        if (!has_items(&views[k], f->results[k])) {
+            return wrong(words_of(f->results[k]), c->name);
         }
         for (Py_ssize_t other = 0; other < k; other++) {
             if (overlap(&views[k], &views[other]) || (length > 0 && views[k].buf == views[other].buf)) {
@@ -528,7 +561,7 @@ static bool are_ints(const call *c, PyObject *const *args, Py_ssize_t count, PyO
         return false;
     }
     for (Py_ssize_t p = 0; p < count; p++) {
-        if (c->shapes[p] != 'n' || Py_TYPE(args[p]) != &PyLong_Type) {
+        if (strchr("nw", c->shapes[p]) == NULL || Py_TYPE(args[p]) != &PyLong_Type) {
             return false;
         }
     }
@@ -541,6 +574,15 @@ static void release(PyObject **objects, Py_ssize_t count) {
     }
 }
 
+/* The number of a day of the week, or the object itself if it is no `Weekday`. It is owned. */
+static PyObject *number_of_weekday(PyObject *object) {
+    if ((PyObject *)Py_TYPE(object) == class_weekday) {
+        return PyObject_GetAttr(object, name_value);
+    }
+    Py_INCREF(object);
+    return object;
+}
+
 /* The objects of the cells, which are owned, and how many there are. It is -1 after an error. */
 static Py_ssize_t cells_of(const call *c, PyObject *const *bound, PyObject **objects) {
     Py_ssize_t cells = 0;
@@ -548,6 +590,13 @@ static Py_ssize_t cells_of(const call *c, PyObject *const *bound, PyObject **obj
         if (c->shapes[p] == 'n') {
             objects[cells] = bound[p];
             Py_INCREF(bound[p]);
+            cells += 1;
+        } else if (c->shapes[p] == 'w') {
+            objects[cells] = number_of_weekday(bound[p]);
+            if (objects[cells] == NULL) {
+                release(objects, cells);
+                return -1;
+            }
             cells += 1;
         } else if (parts(bound[p], c->shapes[p], &objects[cells]) != 0) {
             release(objects, cells);
@@ -619,8 +668,8 @@ static int take_list(PyObject *object, const char *name, bool has_signed, list *
         return wrong(has_signed ? "the items of the array are neither int64 nor uint64" : words_of('Q'), name);
     }
     to->copy = NULL;
-    to->items = to->view.buf;
     to->count = to->view.shape[0];
+    to->items = to->count == 0 ? NULL : to->view.buf; /* an empty one need not be aligned */
     return 0;
 }
 
@@ -824,7 +873,8 @@ static PyObject *install(PyObject *module, PyObject *from) {
     static PyObject *class_tuple;
     if (keep(from, "refusal", &refusal) || keep(from, "out_of_range", &out_of_range) || keep(from, "Fraction", &new_fraction) ||
         keep(from, "Tuple", &class_tuple) || keep(from, "array", &new_array) || keep(from, "Date", &class_date) ||
-        keep(from, "ExtendedGcd", &class_gcd) || keep(from, "Solutions", &class_solutions) || keep(from, "IsoWeek", &class_week)) {
+        keep(from, "ExtendedGcd", &class_gcd) || keep(from, "Solutions", &class_solutions) || keep(from, "IsoWeek", &class_week) ||
+        keep(from, "Weekday", &class_weekday)) {
         return NULL;
     }
     /* `tuple.__new__` without its test of the class. The stable ABI of 3.9 gives the slots of classes that Python makes. */
@@ -856,6 +906,7 @@ static int intern_names(void) {
     name_year = PyUnicode_InternFromString("year");
     name_month = PyUnicode_InternFromString("month");
     name_day = PyUnicode_InternFromString("day");
+    name_value = PyUnicode_InternFromString("value");
     name_out = PyUnicode_InternFromString("out");
-    return name_numerator && name_denominator && name_year && name_month && name_day && name_out ? 0 : -1;
+    return name_numerator && name_denominator && name_year && name_month && name_day && name_value && name_out ? 0 : -1;
 }

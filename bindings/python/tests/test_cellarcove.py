@@ -3,7 +3,9 @@
 import array
 import calendar
 import copy
+import ctypes
 import datetime
+import doctest
 import functools
 import itertools
 import math
@@ -50,6 +52,10 @@ def numbers(how_many):
         return -size if signed and random.random() < 0.5 else size
 
     return [number() for _ in range(how_many)]
+
+
+def address(buffer):
+    return ctypes.addressof(ctypes.c_char.from_buffer(buffer))
 
 
 def bounds(arguments):
@@ -207,6 +213,23 @@ class Numbers(Refusals):
             self.assertTrue(cellarcove.is_square(root**2))
             self.assertFalse(cellarcove.is_square(root**2 - 1))
         self.assertEqual(list(cellarcove.is_square(array.array('q', [-4, 4, 5]))), [False, True, False])
+
+    def test_differences(self):
+        """The result of numbers that are not negative may be negative: then the signed call runs."""
+        for _ in range(TURNS // 10):
+            a, b = numbers(2)
+            wanted = a - b if max(a, b) <= I64[1] and I64[0] <= a - b <= I64[1] or fits(a - b, (a, b)) else None
+            if wanted is None:
+                self.refuses(Status.NOT_FITTING, cellarcove.checked_difference, a, b)
+            else:
+                self.assertEqual(cellarcove.checked_difference(a, b), wanted, (a, b))
+            end, first, step = random.randrange(100), random.randrange(200), random.randrange(1, 200)
+            self.assertEqual(cellarcove.previous_congruent(end, first, step), end - (end - first) % step)
+        self.assertEqual((cellarcove.checked_difference(2, 3), cellarcove.previous_congruent(2, 7, 28)), (-1, -21))
+        self.assertEqual((cellarcove.checked_difference(0, I64[1]), cellarcove.checked_difference(U64[1], 0)), (-I64[1], U64[1]))
+        for a, b in ((0, 2**63), (2**63, 2**64 - 1)):
+            self.refuses(Status.NOT_FITTING, cellarcove.checked_difference, a, b)
+        self.refuses(Status.NOT_FITTING, cellarcove.checked_product, 2**63, 2)
 
     def test_averages_and_roots(self):
         for _ in range(TURNS // 4):
@@ -372,7 +395,7 @@ class Dates(Refusals):
     def test_class(self):
         """A date of any year, in the order of the days, which can be pickled."""
         far = Date(2**63 - 1, 12, 31)
-        self.assertEqual((far.isoweekday(), far.weekday()), (4, 3))
+        self.assertEqual((far.isoweekday(), far.weekday()), (4, cellarcove.Weekday.THURSDAY))
         self.assertEqual((str(Date(2000, 2, 29)), str(Date(-5, 1, 1)), str(Date(12000, 1, 1))), ('2000-02-29', '-0005-01-01', '+12000-01-01'))
         self.assertLess(Date(-1, 12, 31), Date(0, 1, 1))
         for date in (far, Date(2000, 2, 29)):
@@ -388,8 +411,53 @@ class Dates(Refusals):
         for _ in range(1000):
             date = datetime.date.fromordinal(random.randint(1, datetime.date.max.toordinal()))
             same = Date.from_date(date)
-            self.assertEqual((same.to_date(), same.weekday(), same.isoweekday()), (date, date.weekday(), date.isoweekday()))
+            self.assertEqual((same.to_date(), same.weekday().value, same.isoweekday()), (date, date.weekday() + 1, date.isoweekday()))
             self.assertEqual(same.isoformat(), date.isoformat())
+
+    def test_changed_dates(self):
+        """A date that is made of another one, or of a list, exists."""
+        date = Date(2024, 2, 29)
+        self.assertEqual((date._replace(day=28), date._replace(year=2**62), Date._make(iter((2024, 2, 29)))), ((2024, 2, 28), (2**62, 2, 29), date))
+        for changed in (date._replace(day=1), Date._make([2024, 3, 1])):
+            self.assertIs(type(changed), Date)
+        replaces = [lambda **parts: date._replace(**parts)]
+        if hasattr(copy, 'replace'):
+            replaces.append(lambda **parts: copy.replace(date, **parts))
+        for replace in replaces:
+            self.assertEqual(replace(year=2028, day=1), (2028, 2, 1))
+            for parts in ({'day': 31}, {'year': 2023}, {'month': 13}, {'month': 0}, {'day': 0}, {'day': 2**70}):
+                with self.assertRaises(Refused) as refusal:
+                    replace(**parts)
+                self.assertEqual(refusal.exception.status, Status.NO_DATE)
+            for parts, error in (({'year': 2**63}, OverflowError), ({'day': 1.0}, TypeError), ({'days': 1}, (TypeError, ValueError))):
+                with self.assertRaises(error):
+                    replace(**parts)
+        for parts, error in (((2024, 2, 31), Refused), ((2024, 2), TypeError), ((2024, 2, 1, 1), TypeError), ((2024, 2, '1'), TypeError)):
+            with self.assertRaises(error):
+                Date._make(parts)
+
+    def test_weekday_of_a_date(self):
+        """The day of the week that a date gives is the one that the calls take. It is not taken for a number from 0."""
+        tuesday = Date(2024, 1, 2)
+        self.assertEqual(cellarcove.nth_weekday_of_month(2024, 1, tuesday.weekday(), 1), tuesday)
+        for days in range(7):
+            date = cellarcove.plus_days(tuesday, days)
+            year, week = cellarcove.iso_week(date)
+            weekday, number = date.weekday(), date.isoweekday()
+            self.assertIs(weekday, cellarcove.Weekday(cellarcove.weekday(cellarcove.day_from_date(date))))
+            for same in (number, weekday):
+                self.assertEqual(cellarcove.date_from_iso_week(year, week, same), date)
+                self.assertEqual(cellarcove.nth_weekday_of_month(2024, 1, weekday=same, n=(date.day + 6) // 7), date)
+                self.assertEqual(cellarcove.last_weekday_of_month(2024, 2, same).isoweekday(), number)
+                found = cellarcove.last_weekday_of_month(array.array('q', [2024]), 2, same)
+                self.assertEqual(found[3][0], 0)
+            for wrong in (lambda: weekday == number, lambda: number != weekday, lambda: weekday < 5, lambda: 'MTWTFSS'[weekday],
+                          lambda: weekday + 1, lambda: cellarcove.nth_weekday_of_month(2024, weekday, 1, 1), lambda: cellarcove.gcd(weekday, 1)):
+                self.assertRaises(TypeError, wrong)
+            for other in (copy.deepcopy(weekday), pickle.loads(pickle.dumps(weekday))):
+                self.assertIs(other, weekday)
+            self.assertEqual({weekday: 1}[weekday], 1)
+            self.assertFalse(weekday == 'MONDAY')
 
     def test_last_and_first_week(self):
         """The last day of all is the Thursday of its week, and the first but one a Monday."""
@@ -508,7 +576,8 @@ class Arrays(unittest.TestCase):
             result = call(*arguments)
         except Refused as refusal:
             return None, refusal.status
-        beyond = signed and any(number > I64[1] for number in (result if isinstance(result, tuple) else (result,)))
+        low, high = I64 if signed else U64
+        beyond = not all(low <= number <= high for number in (result if isinstance(result, tuple) else (result,)))
         return (None, Status.NOT_FITTING) if beyond else (result, 0)
 
     def agree(self, call, *columns):
@@ -591,6 +660,25 @@ class Arrays(unittest.TestCase):
         average = array.array('q', [0, 0])
         self.assertIs(cellarcove.average_floor(x, 0, out=(average,)), average)
 
+    def test_masks(self):
+        """The results that are bools are a buffer of bools, so that no one takes them for positions, and may be one of bytes."""
+        years = array.array('q', [1999, 2000, 2001, 2004])
+        numbers, degrees = array.array('Q', [3, 4, 8, 9]), array.array('I', [2, 2, 3, 3])
+        masks = ((cellarcove.is_leap_year(years), [False, True, False, True]), (cellarcove.is_square(numbers), [False, True, False, True]),
+                 (cellarcove.is_power(numbers, degrees), [False, True, True, False]),
+                 (cellarcove.is_perfect_power(numbers), [False, True, True, True]),
+                 (cellarcove.is_multiple_of(numbers, 4), [False, True, True, False]), (cellarcove.is_leap_year(array.array('q')), []))
+        for mask, wanted in masks:
+            self.assertEqual((mask.format, mask.itemsize, mask.readonly, mask.tolist()), ('?', 1, False, wanted))
+        for output in (memoryview(bytearray(4)).cast('?'), bytearray(4), array.array('B', bytes(4))):
+            self.assertIs(cellarcove.is_leap_year(years, out=(output,)), output)
+            self.assertEqual(list(output), [0, 1, 0, 1])
+        for output in (array.array('b', bytes(4)), memoryview(bytearray(3)).cast('?'), memoryview(bytes(4)).cast('?')):
+            with self.assertRaises(ValueError):
+                cellarcove.is_leap_year(years, out=(output,))
+        with self.assertRaisesRegex(ValueError, 'uint8'):
+            cellarcove.gcd(years, 2, out=(years, memoryview(bytearray(4)).cast('?')))
+
     def test_bad_outputs(self):
         """A buffer of another length, item or dimension, or one that cannot be written: nothing is written."""
         x, y = array.array('q', [12, 18]), array.array('q', [8, 8])
@@ -626,6 +714,31 @@ class Arrays(unittest.TestCase):
                      lambda: cellarcove.div_floor(x, y, x=1), lambda: cellarcove.day_from_date((x, 1))):
             self.assertRaises((TypeError, ValueError), call)
 
+    def test_misaligned(self):
+        """Numbers that do not lie at a multiple of their size are refused, as inputs and as outputs, with what to do."""
+        room = bytearray(8 * 9)
+        off = next(start for start in range(1, 8) if (address(room) + start) % 8 not in (0, 4))
+        wide, narrow, aligned = memoryview(room)[off:off + 64].cast('q'), memoryview(room)[off:off + 32].cast('I'), array.array('q', range(8))
+        unsigned = memoryview(room)[off:off + 64].cast('Q')
+        statuses = bytearray(8)
+        refused = [
+            lambda: cellarcove.gcd(wide, 6), lambda: cellarcove.gcd(aligned, wide), lambda: cellarcove.gcd(wide, wide, out=(wide, statuses)),
+            lambda: cellarcove.gcd(aligned, 6, out=(wide, statuses)), lambda: cellarcove.nth_root(aligned, narrow),
+            lambda: cellarcove.easter(wide), lambda: cellarcove.day_from_date((wide, 1, 1)), lambda: cellarcove.gcd_of(wide),
+            lambda: cellarcove.lcm_of(unsigned), lambda: cellarcove.multinomial(unsigned), lambda: cellarcove.rank(unsigned, 5),
+            lambda: cellarcove.fraction_round((aligned, wide)),
+        ]
+        for number, call in enumerate(refused):
+            with self.assertRaisesRegex(ValueError, 'aligned.* copy', msg=number):
+                call()
+        self.assertEqual((room, statuses), (bytes(72), bytes(8)))
+        copied = array.array('q', wide)
+        self.assertEqual(cellarcove.gcd(copied, 6)[0].tolist(), [6] * 8)
+        bytes_off = memoryview(bytearray(9))[off:off + 1]
+        self.assertEqual(list(cellarcove.days_in_month(array.array('q', [2000]), bytes_off)[1]), [6])
+        for nothing in (array.array('q'), array.array('Q'), memoryview(room)[off:off].cast('q'), memoryview(b'').cast('q')):
+            self.assertEqual((list(cellarcove.gcd(nothing, 6)[0]), cellarcove.gcd_of(nothing), cellarcove.lcm_of(nothing)), ([], 0, 1))
+
     def test_threads(self):
         """Calls of several threads at a time, over arrays and over numbers."""
         x, y, z = self.columns(3, 2000, signed=False)
@@ -651,6 +764,14 @@ class Arrays(unittest.TestCase):
         self.assertIs(cellarcove.gcd(x, numpy.int64(8), out=out)[0], out[0])
         self.assertEqual(out[0].tolist(), [8, 8, 4, 8])
         self.assertEqual(cellarcove.gcd(numpy.int64(12), numpy.uint64(18)), 6)
+        years, mask = numpy.array([1999, 2000, 2001, 2004]), numpy.zeros(4, bool)
+        for found in (cellarcove.is_leap_year(years), cellarcove.is_leap_year(years, out=(mask,)), mask):
+            self.assertEqual((numpy.asarray(found).dtype, years[found].tolist()), (bool, [2000, 2004]))
+        off = numpy.frombuffer(bytearray(8 * 9), 'i8', offset=1, count=8)
+        self.assertFalse(off.flags.aligned)
+        for call in (lambda: cellarcove.gcd(off, 8), lambda: cellarcove.gcd_of(off), lambda: cellarcove.gcd(off.copy(), 8, out=(off, bytearray(8)))):
+            self.assertRaisesRegex(ValueError, 'aligned', call)
+        self.assertEqual(cellarcove.gcd(off.copy(), 8)[0].tolist(), [8] * 8)
         for bad in (x[::2], x.reshape(2, 2), x.astype(float), x.astype(numpy.int32), x.astype('>i8')):
             with self.assertRaises(ValueError):
                 cellarcove.gcd(bad, 8)
@@ -736,9 +857,22 @@ class Names(unittest.TestCase):
         self.assertIn(cellarcove.BUILT_BY, ('rattle', 'cargo'))
 
     def test_docstrings(self):
-        """Each call says what it does."""
+        """Each call says what it does, with examples, which are run."""
+        runner, parser = doctest.DocTestRunner(verbose=False), doctest.DocTestParser()
         for name in cellarcove.__all__:
-            self.assertTrue(getattr(cellarcove, name).__doc__, name)
+            found = getattr(cellarcove, name)
+            self.assertTrue(found.__doc__, name)
+            if not callable(found):
+                continue
+            members = [found, *vars(found).values()] if isinstance(found, type) and issubclass(found, Date) else [found]
+            texts = [text for text in (getattr(member, '__doc__', None) for member in members) if text]
+            tests = [parser.get_doctest(text, vars(cellarcove).copy(), name, None, 0) for text in texts]
+            if not isinstance(found, type):
+                self.assertTrue(all(test.examples for test in tests), name)
+            for test in tests:
+                said = []
+                self.assertEqual(runner.run(test, out=said.append).failed, 0, ''.join(said))
+        self.assertGreater(runner.tries, 60)
 
     def test_keywords(self):
         self.assertEqual(cellarcove.div_floor(y=3, x=-8), -3)
@@ -751,7 +885,8 @@ class Names(unittest.TestCase):
     def test_any_argument(self):
         """An argument of any type is an error of Python, and never a crash."""
         odd = [None, 1.5, 'x', b'', b'12345678', [], (), (1, 2), (1, 2, 3), {}, object(), array.array('d', [1.0]), memoryview(b'x'),
-               Fraction(1, 3), datetime.date(2000, 1, 1), types.SimpleNamespace(year=None, month=1, day=1), float('nan'), 2**64, -(2**63) - 1, True]
+               Fraction(1, 3), datetime.date(2000, 1, 1), types.SimpleNamespace(year=None, month=1, day=1), float('nan'), 2**64, -(2**63) - 1, True,
+               cellarcove.Weekday.MONDAY]
         for name in cellarcove.__all__:
             call = getattr(cellarcove, name)
             if not callable(call) or isinstance(call, type):

@@ -4,7 +4,7 @@ from collections.abc import Iterable
 from fractions import Fraction
 from typing import Any, Protocol, SupportsIndex, overload
 
-from . import Date, ExtendedGcd, IsoWeek, Solutions, SupportsDate, SupportsFraction
+from . import Date, ExtendedGcd, IsoWeek, Solutions, SupportsDate, SupportsFraction, Weekday
 
 class SupportsArray(Protocol):
     def __array__(self, *args: Any, **kwargs: Any) -> Any: ...
