@@ -8,14 +8,11 @@ ghost use Rattle.integer_core.specs.NativeRanges.{IsNative, signed_native, unsig
 use crate::operators::{is_negative, zero};
 use crate::plain::{difference, successor};
 use crate::stein::Magnitude;
-use num_traits::{
-    AsPrimitive, Bounded, CheckedAdd, CheckedMul, CheckedSub, FixedWidth, Num, NumCast,
-};
+use num_traits::{AsPrimitive, Bounded, CheckedAdd, CheckedMul, CheckedSub, FixedWidth, Num};
 
 /// A native integer type. No other crate can name this trait.
 pub trait Native: Copy
     + Num
-    + NumCast
     + CheckedAdd
     + CheckedSub
     + CheckedMul
