@@ -6,7 +6,7 @@ ghost use Rattle.integer_core.specs.Bezout.{HasPair};
 ghost use Rattle.integer_core.specs.Divisors.{GcdFits, IsLeastCommonMultiple};
 ghost use Rattle.integer_core.specs.Range.{EachFits};
 
-use crate::native::Native;
+use crate::native::{Magnitudes, Native};
 use crate::{Integer, plain};
 use num_traits::Num;
 

@@ -25,7 +25,10 @@ pub trait Native: Copy
 
     ghost native_law: { IsNative Self.width (λ n. Self.value (Self.of_bits n)) Self.fits Self.low
         Self.high Self.Magnitude.fits };
+}
 
+/// The absolute value of a number of a native type, and back. In plain Rust, no other crate can name this trait.
+pub trait Magnitudes: Native {
     /// Returns the absolute value.
     final fn magnitude(self) -> Self::Magnitude
         requires { Self.fits (Self.value self) }
@@ -56,6 +59,8 @@ pub trait Native: Copy
         magnitude.as_()
     }
 }
+
+impl<T: Native> Magnitudes for T {}
 
 impl Native for i8 {
     type Magnitude = u64;

@@ -2,7 +2,7 @@
 
 use crate::counted::GcdCounted;
 use crate::guards::number_or;
-use crate::native::Native;
+use crate::native::{Magnitudes, Native};
 use crate::operators::{is_minus_one, zero};
 use crate::stein::{binary_gcd, gcd_lcm_of_magnitudes};
 use crate::{Integer, division, divisors};

@@ -12,7 +12,7 @@ ghost use Rattle.integer_core.specs.Range.{EachFits};
 ghost use Rattle.num_traits.specs.Ints.{unsigned-low};
 
 use crate::guards::{number_or, product_or};
-use crate::native::Native;
+use crate::native::{Magnitudes, Native};
 use num_traits::{Bounded, Integral};
 
 /// A type of magnitudes, `u64` or `u128`, with the operations on bits that Stein's method needs.

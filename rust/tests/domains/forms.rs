@@ -126,6 +126,8 @@ fn divisors() {
             i64::MAX.lcm(&(i64::MAX - 1));
             i64::MIN.lcm(&1);
             200u8.lcm(&201);
+            100i8.lcm(&3);
+            64i8.lcm(&3);
             usize::MAX.lcm(&(usize::MAX - 1));
             cellarcove::lcm(u128::MAX, u128::MAX - 1);
             u64::MAX.gcd_lcm(&(u64::MAX - 1));
