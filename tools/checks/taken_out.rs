@@ -5,8 +5,7 @@ extern crate std;
 
 use crate::guards as tests;
 use crate::integer_core::guards;
-use crate::integer_core::native::{Magnitudes, Native};
-use crate::integer_core::Integer;
+use crate::integer_core::{Integer, Magnitudes};
 use std::sync::OnceLock;
 
 fn is_out(number: usize) -> bool {
@@ -54,7 +53,7 @@ pub(crate) fn product_or<T: Integer>(number: usize, a: T, b: T, reason: &'static
 
 /// Without the test the number wraps.
 #[track_caller]
-pub(crate) fn number_or<T: Native>(
+pub(crate) fn number_or<T: Magnitudes>(
     number: usize,
     magnitude: T::Magnitude,
     reason: &'static str,

@@ -95,7 +95,10 @@ pub(crate) fn product_or<T: Integer>(a: T, b: T, reason: &'static str) -> T {
 #[track_caller]
 pub(crate) fn number_or<T: Native>(magnitude: T::Magnitude, reason: &'static str) -> T {
     let number = T::from_magnitude(magnitude);
-    check(number >= T::zero() && number.magnitude() == magnitude, reason);
+    check(
+        number >= T::zero() && number.magnitude() == magnitude,
+        reason,
+    );
     number
 }
 
