@@ -15,10 +15,13 @@ fn minor_version() -> u32 {
 
 fn main() {
     println!("cargo:rerun-if-changed=build.rs");
-    println!("cargo:rustc-check-cfg=cfg(has_core_error, has_diagnostic, has_error)");
+    println!("cargo:rustc-check-cfg=cfg(has_core_error, has_diagnostic, has_do_not_recommend, has_error)");
     let minor = minor_version();
     if minor >= 78 {
         println!("cargo:rustc-cfg=has_diagnostic");
+    }
+    if minor >= 85 {
+        println!("cargo:rustc-cfg=has_do_not_recommend");
     }
     if minor >= 81 {
         println!("cargo:rustc-cfg=has_core_error");

@@ -24,14 +24,14 @@ use core::iter::FusedIterator;
 /// assert_eq!(IterBinomial::new(3u8).nth(1), Some(3));
 /// assert_eq!(IterBinomial::new(3u8).count(), 4);
 /// ```
-#[derive(Clone, Debug)]
-pub struct IterBinomial<T: Integer + Copy> {
+#[derive(Clone, Debug, PartialEq, Eq)]
+pub struct IterBinomial<T> {
     n: T,
     k: T,
     item: T,
 }
 
-impl<T: Integer + Copy> IterBinomial<T> {
+impl<T: Integer> IterBinomial<T> {
     /// Returns the row of `n`. `IterBinomial::new(3u8)` gives `1`, `3`, `3`, `1`, and then `None`,
     /// so `IterBinomial::new(3u8).last()` is `Some(1)`.
     ///
@@ -113,18 +113,15 @@ macro_rules! exact_size {
 
 exact_size!(u8 i8 u16 i16 u32 i32);
 
-/// Returns a number that is not negative as a `usize`, if it fits.
-fn at_usize<T: Integer + Copy>(mut x: T) -> Option<usize> {
-    let (mut value, mut unit) = (0usize, Some(1usize));
-    let two = T::one() + T::one();
-    while !x.is_zero() {
-        if x.is_odd() {
-            value = value.checked_add(unit?)?;
-        }
-        unit = unit.and_then(|unit| unit.checked_mul(2));
-        x = x / two;
+/// Returns a number that is not negative as a `usize`, if it fits. Only if it is above 1 has its
+/// type a 2.
+fn at_usize<T: Integer + Copy>(x: T) -> Option<usize> {
+    let bit = usize::from(x.is_odd());
+    if x <= T::one() {
+        return Some(bit);
     }
-    Some(value)
+    let half = at_usize(x / (T::one() + T::one()))?;
+    half.checked_mul(2)?.checked_add(bit)
 }
 
 impl<T: Integer + Copy> FusedIterator for IterBinomial<T> {}

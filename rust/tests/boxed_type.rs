@@ -129,7 +129,9 @@ fn default_bodies() {
     assert_eq!(a.next_multiple_of(&b), boxed(24));
     assert_eq!(boxed(24).next_multiple_of(&b), boxed(24));
     assert_eq!(a.prev_multiple_of(&b), boxed(16));
-    assert!(boxed(24).divides(&b));
+    #[allow(deprecated)]
+    let divides = boxed(24).divides(&b);
+    assert!(divides);
     assert_eq!(boxed(10).gcd_lcm(&boxed(4)), (boxed(2), boxed(20)));
     let mut x = boxed(99);
     x.inc();

@@ -5,8 +5,9 @@ use cellarcove::counted::{extended_gcd_counted, GcdCounted, SqrtCounted};
 use cellarcove::modular::{chinese_remainder, counted, inverse_modulo, product_modulo, residue};
 use cellarcove::ratio64::{ParseRatioError, Ratio, RatioError};
 use cellarcove::schedules::{next_meeting, CommonSolution};
-use cellarcove::{binomial, operators, Integer, Roots};
+use cellarcove::{binomial, checked, operators, Integer, IterBinomial, Roots};
 use cellarcove::{halving, layout, paging, powers, ranking, rolling_hash::RollingHash};
+use std::collections::HashSet;
 use std::panic::catch_unwind;
 
 #[test]
@@ -78,6 +79,68 @@ fn counts_and_operators() {
     assert_eq!(extended_gcd_counted(8, 13).1, 5);
     assert_eq!(operators::quotient(-8, 3), -2);
     assert_eq!(operators::negated(i64::MAX), -i64::MAX);
+}
+
+/// Each call of a module named `checked` is in the first one too.
+#[test]
+fn one_import_of_checked_calls() {
+    assert_eq!(
+        checked::div_round(7, 2),
+        cellarcove::rounding::checked::div_round(7, 2)
+    );
+    assert_eq!(
+        (checked::div_round_even(5, 2), checked::div_round(7, 0)),
+        (Some(2), None)
+    );
+    assert_eq!(
+        (checked::factorial(5u8), checked::falling(5u8, 2)),
+        (Some(120), Some(20))
+    );
+    assert_eq!(
+        (checked::gcd_of(&[12, 18]), checked::lcm_of(&[200u8, 201])),
+        (Some(6), None)
+    );
+    assert_eq!(
+        (checked::sqrt_rem(-1), checked::ilog(1000, 10)),
+        (None, Some(3))
+    );
+    assert_eq!(
+        (checked::residue(-1, 7), checked::residue(-1, 0)),
+        (Some(6), None)
+    );
+    assert_eq!(checked::chinese_remainder(2, 3, 3, 5), Some((8, 15)));
+}
+
+/// What has no bound, holds any type.
+struct Rows<T>(Vec<IterBinomial<T>>);
+
+#[test]
+fn comparisons_and_sets() {
+    let mut rows = Rows(vec![IterBinomial::new(3u8), IterBinomial::new(3)]);
+    assert_eq!(rows.0[0], rows.0[1]);
+    rows.0[0].next();
+    assert_ne!(rows.0[0], rows.0[1]);
+    let (hash, other) = (RollingHash::new(10, 97, 2), RollingHash::new(10, 97, 3));
+    assert!(hash == RollingHash::new(10, 97, 2) && hash != other);
+    assert_eq!(HashSet::from([hash, hash, other]).len(), 2);
+    assert_eq!(
+        HashSet::from([
+            240.extended_gcd(&46),
+            46.extended_gcd(&240),
+            240.extended_gcd(&46)
+        ])
+        .len(),
+        2
+    );
+    assert_eq!(
+        HashSet::from([
+            next_meeting(10, (1, 4), (3, 6)),
+            CommonSolution::At(21),
+            CommonSolution::Never
+        ])
+        .len(),
+        2
+    );
 }
 
 /// Whether the call panics.

@@ -8,16 +8,22 @@ use cellarcove::{
     IterBinomial, Roots,
 };
 use num_traits::{Num, One, Signed, Zero};
+use std::cell::Cell;
 use std::ops::{Add, Div, Mul, Neg, Rem, Sub};
 use std::panic::catch_unwind;
 
 #[derive(Debug, Clone, Copy, PartialEq, Eq, PartialOrd, Ord)]
 struct Score(i32);
 
+thread_local! {
+    /// The largest number, which a test changes for itself.
+    static MOST: Cell<i32> = const { Cell::new(100) };
+}
+
 /// The score, which panics outside the range as a native type does with overflow checks.
 fn score(points: i32) -> Score {
     assert!(
-        (-100..=100).contains(&points),
+        (-100..=MOST.get()).contains(&points),
         "no score has {points} points"
     );
     Score(points)
@@ -181,7 +187,9 @@ fn default_bodies() {
     assert_eq!(Integer::div_ceil(&a, &b), Score(3));
     assert_eq!(a.next_multiple_of(&b), Score(24));
     assert_eq!(a.prev_multiple_of(&b), Score(16));
-    assert!(Score(24).divides(&b));
+    #[allow(deprecated)]
+    let divides = Score(24).divides(&b);
+    assert!(divides);
     assert_eq!(Score(10).gcd_lcm(&Score(4)), (Score(2), Score(20)));
     let pair = ExtendedGcd {
         gcd: Score(1),
@@ -218,6 +226,18 @@ fn generic_calls() {
     assert_eq!(cellarcove::average_floor(Score(-3), Score(-4)), Score(-4));
     // 7 to the power 20 is 1 modulo 100, and so is 7 to the power 100.
     assert_eq!(power_modulo(Score(7), 100, Score(100)), Score(1));
+}
+
+/// The lengths of rows are known, also at a type that has no 2.
+#[test]
+fn lengths_of_rows() {
+    let length = |n| IterBinomial::new(Score(n)).size_hint();
+    for n in -3..=100 {
+        let count = usize::try_from(n + 1).unwrap_or(0);
+        assert_eq!(length(n), (count, Some(count)), "{n}");
+    }
+    MOST.set(1);
+    assert_eq!([length(0), length(1)], [(1, Some(1)), (2, Some(2))]);
 }
 
 #[test]

@@ -5,8 +5,8 @@ Each block of Rust is in a `.rt` file, or an example or a test of rust/, each bl
 crates in crates.txt. Of a block of imports alone, each name is imported so in a `.rt` file. Indentation does not count, and a comment
 `// and ..` in a block replaces lines that the block leaves out. Blocks of any other kind are not read. The command of
 README.md is the stored run. A session is a block of `console`: each command in it prints the lines below it and nothing else.
-What the sources print are the messages of rust/src, those of Rust's own operators that rust/tests/domains/forms.rs expects, the statuses
-of cellarcove.h, and the exceptions of the package for Python."""
+What the sources print are the messages of rust/src, those of Rust's own operators that rust/tests/domains/forms.rs expects, whose row
+says so, the statuses of cellarcove.h, and the exceptions of the package for Python. Each panic of the page is one that a test has seen."""
 import itertools
 import os
 import pathlib
@@ -32,6 +32,8 @@ HEADING = re.compile(r'#{1,6} (.*)')
 NAMED = re.compile(r'((?:`\w+`(?:,| and|, and)? )*(?:of )?)`(crates/[\w/]+\.(?:rt|antt))`')
 MESSAGE = re.compile(r'[a-z`].* .*')
 OF_OPERATORS = 'attempt to '            # how a message of Rust's own operators begins
+OF_RUST = '| of Rust: '                 # how its row does
+PANICS = ('rust/tests/domains/forms.rs', 'rust/tests/types.rs')     # the tests that see each panic
 STATUS = re.compile(r'^ +CELLARCOVE_(\w+) = (\d+)', re.M)
 SHOWN_STATUS = re.compile(r'^\| (\d+) \| `CELLARCOVE_(\w+)` \|', re.M)
 CLASS = re.compile(r'^class (\w+)\(((?:\w+Error|Refused)\b[\w, ]*)\):', re.M)
@@ -211,6 +213,15 @@ def messages_on(page: str) -> set[str]:
     return {message for message in found if MESSAGE.fullmatch(message)}
 
 
+def panics(page: str, ours: set[str], seen: set[str]) -> Found:
+    """The panics of Rust's own operators and those that a page shows as such; and those of a page with those that tests have seen."""
+    of_rust = ''.join(line for line in page.splitlines() if line.startswith(OF_RUST))
+    yield from compared({f'{message}, of Rust' for message in seen - ours if message.startswith(OF_OPERATORS)},
+                        {f'{message}, of Rust' for message in messages_on(of_rust)})
+    shown = messages_on(page.partition('\n## Panics')[2].partition('\n## ')[0])
+    yield from compared({f'{message}, which a test has seen' for message in seen & shown}, {f'{message}, which a test has seen' for message in shown})
+
+
 def statuses_in(header: str) -> set[str]:
     return {f'{number} CELLARCOVE_{name}' for name, number in STATUS.findall(header)}
 
@@ -242,9 +253,10 @@ def errors() -> Found:
     def read(name: str) -> str:
         return (ROOT / name).read_text()
     page, package = read('docs/ERRORS.md'), 'bindings/python/'
-    printed = set().union(*(messages_in(file.read_text()) for file in ROOT.glob('rust/src/**/*.rs')))
-    printed |= {message for message in messages_in(read('rust/tests/domains/forms.rs')) if message.startswith(OF_OPERATORS)}
-    yield from compared(printed, messages_on(' '.join(page.split())))
+    ours = set().union(*(messages_in(file.read_text()) for file in ROOT.glob('rust/src/**/*.rs')))
+    seen = set().union(*(messages_in(read(name)) for name in PANICS))
+    yield from compared(ours | {message for message in seen if message.startswith(OF_OPERATORS)}, messages_on(' '.join(page.split())))
+    yield from panics(page, ours, seen)
     yield from compared(statuses_in(read('bindings/c/cellarcove.h')), statuses_on(page))
     yield from compared(exceptions_in(read(package + 'cellarcove/__init__.py'), read(package + 'src/driver.h')), exceptions_on(page))
 

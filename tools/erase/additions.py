@@ -2,7 +2,7 @@
 
 A file with the path of a made file adds to it. A function in it that the made file has too, of the same type or trait, stands in the
 place of that one, below its comment if it has none of its own. A trait or an implementation whose head the made file has gives it the
-other methods, and its attributes, as does a struct by its name. Every other item follows the items of the file. Where it has all functions
+other methods, and its attributes, as does a struct or an enum by its name. Every other item follows the items of the file. Where it has all functions
 of the made file it is the whole file. A file with another path is a module of its own."""
 from __future__ import annotations
 
@@ -12,11 +12,11 @@ from pathlib import Path
 from tools.erase.source import Item, Source
 
 
-BLOCKS = ('struct', 'trait', 'impl')            # items of which the two files may have parts
+BLOCKS = ('struct', 'enum', 'trait', 'impl')    # items of which the two files may have parts
 
 
 def head(source: Source, item: Item) -> str:
-    """The words by which a struct, a trait or an implementation is found: the name, or the whole head."""
+    """The words by which a type, a trait or an implementation is found: the name, or the whole head."""
     return item.name if item.kind != 'impl' or item.open is None else ' '.join(source.text(item.word, item.open - 1).split())
 
 

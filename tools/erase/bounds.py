@@ -3,7 +3,7 @@
 In the sources `Copy` is a supertrait of `Integer`, since no method of a trait can have `where Self: Copy` there. In
 Rust it is none, so that big integers have the trait. Code copies a value that it names again after it has handed it on,
 or that it takes from behind a reference. In `integer_core` such a copy becomes a clone, and the function has the bound
-`Clone`. Above it the function, the implementation, the struct or the trait has the bound `Copy`. What uses such code
+`Clone`. Above it the function, the implementation or the trait has the bound `Copy`. What uses such code
 has the bound too; all else has none. What these rules do not fit is rejected by file and line."""
 from __future__ import annotations
 
@@ -28,7 +28,7 @@ Key = tuple[str, tuple[str, ...], str]
 
 @dataclass
 class Generic:
-    """Code with a bound: a function, an implementation, a struct or a trait. `bounds` has the bounds of its type by place, and
+    """Code with a bound: a function, an implementation or a trait. `bounds` has the bounds of its type by place, and
     `method` is whether it is a method of `Integer`."""
     module: Module
     item: Item
@@ -111,7 +111,7 @@ class Bounds:
                 yield from (Generic(module, inner, {}, method=True) for inner in functions(item))
             elif item.kind == 'trait' and item.name in self.over:
                 yield Generic(module, item, supertraits(module.source, item))
-            elif item.kind in ('impl', 'struct', 'fn'):
+            elif item.kind in ('impl', 'fn'):
                 for inner in (item, *(inner for inner in item.items if inner.kind == 'fn')):
                     yield from self.over_parameters(module, inner)
 
@@ -151,10 +151,6 @@ class Bounds:
                     found.add(source.at(k))
                 elif source.kind(k) == 'word' and source.at(k - 1) not in (':', '.'):
                     found.add(self.target(generic.module, source.path_at(k)))
-        if generic.item.kind == 'impl':
-            found.add(self.target(generic.module, [generic.item.name]))
-        if generic.item.kind == 'struct':
-            found |= {other.key for other in self.generics if other.item.kind == 'impl' and other.key == generic.key}
         return found
 
     def target(self, module: Module, path: list[str]) -> Key | None:

@@ -169,13 +169,24 @@ class Eraser:
         return any((crate, (name,)) in self.library.modules for crate in AT_ROOT - {self.crate})
 
     def struct(self, item: Item) -> None:
-        """A struct without its ghost fields. Where a public one has an invariant, no other crate may change its fields."""
+        """A struct without its ghost fields, and without bounds, which its methods have. Where a public one has an invariant, no other
+        crate may change its fields."""
+        self.drop_bounds(item.word + 2)
         ghosts = [field for field in item.fields if field.ghost]
         for field in item.fields:
             if field.ghost:
                 self.drop_item(field.first, field.last + (self.at(field.last + 1) == ','))
             elif field.public and ghosts and self.library.place_of(self.module, item) is not None:
                 self.write(field.place - 1, 'pub(crate)' if self.crate in AT_ROOT else f'pub(in crate::{self.crate})')
+
+    def drop_bounds(self, k: int) -> None:
+        """Drops the bounds of the types in `<>` from `k` on, if there are any."""
+        last = self.source.angle(k) - 1
+        while k < last:
+            stop = self.source.next_field(k + 1, last)
+            if self.kind(k + 1) == 'word' and self.at(k + 2) == ':':
+                self.drop(k + 2, stop - 1)
+            k = stop
 
     def parameters(self, item: Item) -> None:
         """A parameter that only a clause names is unused in Rust."""

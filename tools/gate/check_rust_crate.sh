@@ -67,12 +67,12 @@ own_type() {
     (cd "$work/own" && cargo test --offline --test boxed_type)
 }
 
-# The package has the texts of both licences, as the repository has them.
-has_licences() {
+# The package has the texts of both licences and the changelog, as the repository has them.
+has_texts() {
     local name
     (cd "$work/rust" && cargo package --offline --allow-dirty --list) >"$work/list" || return 1
-    for name in LICENSE-*; do
-        { cmp "$name" "rust/$name" && grep -x "$name" "$work/list"; } || { echo "the package has no $name" && return 1; }
+    for name in LICENSE-* CHANGELOG; do
+        { cmp "$name"* "rust/$name" && grep -x "$name" "$work/list"; } || { echo "the package has no $name" && return 1; }
     done
 }
 
@@ -82,6 +82,13 @@ package() {
     mkdir "$work/unpacked"
     tar -xzf "$CARGO_TARGET_DIR"/package/cellarcove-*.crate -C "$work/unpacked" --strip-components 1 || return 1
     (cd "$work/unpacked" && cargo test --offline --test own_type --test modules)
+}
+
+# The two packages of a release replace num-integer.
+from_the_files() {
+    local crate
+    crate=$(echo "$CARGO_TARGET_DIR"/package/cellarcove-*.crate) && mkdir "$work/files" && cp "$crate" "$work/files" &&
+        package_num_integer "$work/rust" "${crate##*/}" "$work/files" && replaces_num_integer "$work/files"
 }
 
 # num_integer WORD..: builds the package num-integer with the features that the words say.
@@ -98,6 +105,17 @@ is_replaced() {
 
 # dependent_tests NAME WORD..: runs the tests of a package in the tree that the words tell cargo.
 dependent_tests() { (cd "$work/tree" && cargo test --offline -j "${RT_JOBS:-$(nproc)}" -p "$@"); }
+
+# what_rustc_says: of each line of rust/tests/messages one error, which is the one that stands there. What it proposes is no private path.
+what_rustc_says() {
+    local calls=rust/tests/messages/calls.rs there=$work/messages
+    mkdir -p "$there/src" && cp "$calls" "$there/src/lib.rs" || return 1
+    printf '[package]\nname = "messages"\nedition = "2021"\n[dependencies]\nnum-bigint = "0.4"\nnum-traits = "0.2"
+        num-integer = { package = "cellarcove", path = "../rust" }\n' >"$there/Cargo.toml"
+    (cd "$there" && ! cargo check --offline 2>full) && ! grep '+ .*integer_core' "$there/full" &&
+        (cd "$there" && ! cargo check --offline --message-format short 2>by_line) &&
+        diff <(sed -nE 's|.* // (E[0-9]+ .*)|\1|p' "$calls") <(sed -nE 's|^src/lib.*error\[(E[0-9]+)\]: ([^:]*).*|\1 \2|p' "$there/by_line")
+}
 
 check_dependents() {
     local name words begin=$SECONDS
@@ -142,7 +160,8 @@ if has_packages "${originals[@]}"; then
     mkdir "$work/.cargo"
     printf '[source.crates-io]\nreplace-with = "debian"\n[source.debian]\ndirectory = "%s"\n' "$registry" \
         >"$work/.cargo/config.toml"
-    cp -r rust compare "$work"
+    mkdir "$work/docs" && cp docs/ERRORS.md "$work/docs" # whose panics the tests see
+    cp -r CHANGELOG.md rust compare "$work"
     rm -rf "$work"/{rust,rust/num-integer,rust/c,compare}/{target,Cargo.lock}
     check 'the crate is built' without_warnings cargo build --offline --all-targets --all-features
     check_tests 'its tests' without_warnings cargo test --offline --all-features --tests
@@ -152,7 +171,7 @@ if has_packages "${originals[@]}"; then
     # a few of each kind; tools/gate/release.sh takes out all
     check 'a guard that is taken out is missed' tools/cellarcove check guards --sample
     check_tests 'a type that is not Copy, of a package that depends on this crate alone' own_type
-    check 'the package has the texts of both licences' has_licences
+    check 'the package has the texts of both licences and the changelog' has_texts
     check_tests 'the package is made, and some of its tests where it is unpacked' package
     check 'the package num-integer without features' num_integer --no-default-features
     check 'the package num-integer with all features' num_integer --all-features
@@ -174,6 +193,8 @@ if has_packages "${originals[@]}"; then
     check_tests 'and without overflow checks' front_page --release --config profile.release.overflow-checks=false
     check "the checksums of compare, $(sums crates/replay/src/tests/list.rt | wc -l) lines" checksums
     if has_packages "${dependents[@]}"; then
+        check 'the two packages for cargo replace num-integer, by the lines of their pages' from_the_files
+        check 'what rustc says of a missing trait' what_rustc_says
         check_dependents
     else
         absent "no packages of ${dependents[*]}: their tests are not run"

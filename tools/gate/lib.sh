@@ -48,6 +48,39 @@ is_current() {
     [ -e "$1" ] && [ -z "$(find "${sources[@]}" -newer "$1" -print -quit)" ]
 }
 
+# packed TOP FILE: the folder TOP of $work/packed as an archive, the same for the same files.
+packed() {
+    tar -C "$work/packed" --sort=name --format=gnu --mtime="@${SOURCE_DATE_EPOCH:-0}" --owner=0 --group=0 --numeric-owner \
+        --mode=u=rwX,go=rX -cf - "$1" | gzip -9n >"$2"
+}
+
+# package_num_integer RUST CRATE FOLDER: the package num-integer, which takes the crate from the folder beside its own.
+package_num_integer() {
+    local top
+    top=num-integer-$(sed -nE 's/^version = "(.*)"$/\1/p' "$1/num-integer/Cargo.toml")
+    rm -rf "$work/packed" && mkdir -p "$work/packed/$top" && cp -r "$1"/num-integer/{Cargo.toml,README.md,src} "$1"/LICENSE-* "$work/packed/$top" &&
+        sed -i "s|path = \"..\"|path = \"../${2%.crate}\"|" "$work/packed/$top/Cargo.toml" && packed "$top" "$3/$top.crate"
+}
+
+# block PAGE LANGUAGE: the first block of a page in this language.
+block() { awk -v begin="\`\`\`$2" '$0 == begin { on = 1; next } /^```$/ && on { exit } on' "$1"; }
+
+# replaces_num_integer FOLDER: in a folder that has the two packages of this one and a program over num-bigint, the lines of their pages put
+# them in the place of num-integer, and both have one trait.
+replaces_num_integer() {
+    local there=$work/replaced pages=$work/pages
+    rm -rf "$there" "$pages" && mkdir -p "$there/src" "$pages" && cp "$1"/{cellarcove,num-integer}-*.crate "$there" || return 1
+    tar -xzf "$there"/num-integer-*.crate -C "$pages" && tar -xzf "$there"/cellarcove-*.crate -C "$pages" || return 1
+    printf '[package]\nname = "replaced"\nedition = "2021"\n' | cat - <(block "$pages"/cellarcove-*/README.md toml) >"$there/Cargo.toml"
+    printf 'num-bigint = "0.4"\nnum-integer = "0.1"\n' >>"$there/Cargo.toml"
+    printf '%s\n' 'use num_bigint::BigInt;' 'fn gcd<T: num_integer::Integer>(a: T, b: T) -> T { cellarcove::gcd(a, b) }' \
+        'fn main() { assert_eq!((gcd(BigInt::from(4), BigInt::from(6)), num_integer::mod_floor(i64::MIN, -1)), (BigInt::from(2), 0)); }' \
+        >"$there/src/main.rs"
+    (cd "$there" && bash -e <(block "$pages"/num-integer-*/README.md sh) && cargo generate-lockfile --offline &&
+        block "$pages"/num-integer-*/README.md toml >>Cargo.toml && cargo update --offline -p num-integer && cargo run --offline &&
+        cargo tree --offline -i num-integer | grep -F "($there/num-integer-")
+}
+
 # calls_over_proved FILE [WORD..]: Rattle's compiler makes the archive of the calls for C, over the libraries that `rt ci` has proved and
 # left. The words are for the compiler.
 calls_over_proved() {

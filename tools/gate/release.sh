@@ -36,12 +36,6 @@ grep -q "^gate: commit $commit," out/passed 2>/dev/null || stop "\`.ci/run\` has
 
 # ---- the files
 
-# packed TOP FILE: the folder TOP of $work/packed as an archive, the same for the same files.
-packed() {
-    tar -C "$work/packed" --sort=name --format=gnu --mtime="@$SOURCE_DATE_EPOCH" --owner=0 --group=0 --numeric-owner \
-        --mode=u=rwX,go=rX -cf - "$1" | gzip -9n >"$2"
-}
-
 # clone FOLDER: a clean clone of the commit, with the static library that the gate has built.
 clone() {
     git clone -q . "$1" && git -C "$1" checkout -q "$commit" || return 1
@@ -52,24 +46,14 @@ clone() {
     (cd "$1" && bindings/build)
 }
 
-# The packages that cargo finds: Debian's, and the crate of this release, on which the package num-integer depends.
-with_registry() {
-    local crate=$work/registry/cellarcove-$version
-    [ -d "$registry" ] || { echo "there is no $registry: install librust-num-traits-dev" && return 1; }
-    rm -rf "$work/registry" && mkdir -p "$work/registry" "$work/.cargo" && ln -s "$registry"/* "$work/registry" &&
-        tar -xzf "$1" -C "$work/registry" || return 1
-    printf '{"files":{},"package":"%s"}' "$(sha256sum <"$1" | cut -d ' ' -f 1)" >"$crate/.cargo-checksum.json"
-    printf '[source.crates-io]\nreplace-with = "local"\n[source.local]\ndirectory = "%s"\n' "$work/registry" >"$work/.cargo/config.toml"
-}
-
-# for_cargo CLONE FOLDER: the package of the crate, then that of num-integer, which depends on it.
+# for_cargo CLONE FOLDER: the package of the crate, and that of num-integer. The packages that cargo finds are Debian's.
 for_cargo() {
-    local packages=$CARGO_TARGET_DIR/package name=cellarcove-$version.crate
-    rm -rf "$packages" && mkdir -p "$work/.cargo"
+    local name=cellarcove-$version.crate
+    [ -d "$registry" ] || { echo "there is no $registry: install librust-num-traits-dev" && return 1; }
+    rm -rf "$CARGO_TARGET_DIR/package" && mkdir -p "$work/.cargo"
     printf '[source.crates-io]\nreplace-with = "local"\n[source.local]\ndirectory = "%s"\n' "$registry" >"$work/.cargo/config.toml"
-    (cd "$1/rust" && cargo package --quiet --offline --no-verify) && cp "$packages/$name" "$2" && with_registry "$2/$name" &&
-        (cd "$1/rust/num-integer" && cargo package --quiet --offline --no-verify) &&
-        cp "$packages/num-integer-$original.crate" "$2"
+    (cd "$1/rust" && cargo package --quiet --offline --no-verify) && cp "$CARGO_TARGET_DIR/package/$name" "$2" &&
+        package_num_integer "$1/rust" "$name" "$2"
 }
 
 # for_pip CLONE FOLDER: the wheel and the source distribution.
@@ -107,17 +91,6 @@ tries_the_crate() {
     there=$(empty crate) && tar -xzf "$files/cellarcove-$version.crate" -C "$there" || return 1
     [ "$quick" = no ] || words=(--test own_type --test modules --test cookbook)
     (cd "$there/cellarcove-$version" && cargo build --offline --all-features && cargo test --offline --all-features "${words[@]}")
-}
-
-# A program that depends on num-integer 0.1, in the place of which the two packages are.
-tries_num_integer() {
-    local there
-    there=$(empty num-integer) && mkdir "$there/src" || return 1
-    tar -xzf "$files/cellarcove-$version.crate" -C "$there" && tar -xzf "$files/num-integer-$original.crate" -C "$there" || return 1
-    printf '%s\n' '[package]' 'name = "tried"' 'edition = "2021"' '[dependencies]' 'num-integer = "0.1"' '[patch.crates-io]' \
-        "num-integer = { path = \"num-integer-$original\" }" "cellarcove = { path = \"cellarcove-$version\" }" >"$there/Cargo.toml"
-    echo 'fn main() { assert_eq!((num_integer::lcm(4u64, 6), num_integer::mod_floor(i64::MIN, -1)), (12, 0)); }' >"$there/src/main.rs"
-    (cd "$there" && cargo run --offline && cargo tree --offline -i num-integer | grep -F "num-integer v$original ($there")
 }
 
 # with_python NAME FILE: a fresh environment of Python, in which a file is installed without the net. Prints its Python.
@@ -164,7 +137,7 @@ notes() {
     echo '| file | what it is |'
     echo '|---|---|'
     echo "| \`cellarcove-$version.crate\` | the package for cargo |"
-    echo "| \`num-integer-$original.crate\` | the package of the name of the original, over it, for \`[patch.crates-io]\` |"
+    echo "| \`num-integer-$original.crate\` | the package of the name of the original, over the first one unpacked beside it, for \`[patch.crates-io]\` |"
     echo "| \`$(cd "$files" && echo *.whl)\` | the wheel for pip |"
     echo "| \`cellarcove-$version.tar.gz\` | the source distribution for pip, which cargo builds |"
     echo "| \`cellarcove-c-$version-$machine.tar.gz\` | headers and libraries for C and C++, for pkg-config and CMake |"
@@ -194,7 +167,7 @@ check 'the files are made' make_files one
 [ "$failed" -eq 0 ] || exit 1
 tried 'the files are made again in another folder, with the same sums' made_again
 tried 'the package for cargo is built and tested' tries_the_crate
-tried 'the package num-integer replaces the original' tries_num_integer
+tried 'the two packages for cargo replace num-integer, by the lines of their pages' replaces_num_integer "$files"
 tried 'the wheel is installed in a fresh environment and tested' tries_the_wheel
 tried 'the source distribution is installed in a fresh environment' tries_the_source_distribution
 tried 'a program in C is built by pkg-config, with the shared library and with the archive' tries_c

@@ -1,5 +1,5 @@
-//! Hidden methods of `Integer`. At a type of one's own its operators decide if a result does not
-//! fit. No other crate can make a `Reason`, so no other crate calls them.
+//! What the compiler says of a type that is no `Integer`; the attribute of `divides`; and hidden methods of `Integer`. At a type of
+//! one's own its operators decide if a result does not fit. No other crate can make a `Reason`, so no other crate calls them.
 
 use guards::Reason;
 
@@ -7,11 +7,18 @@ use guards::Reason;
     has_diagnostic,
     diagnostic::on_unimplemented(
         message = "`{Self}` does not implement `Integer` of cellarcove",
-        note = "the twelve built-in integer types implement it",
-        note = "a type of your own implements it by hand"
+        note = "the built-in integer types implement it, and a type of your own by hand",
+        note = "`BigInt` implements it if cellarcove's package `num-integer` is in its place:",
+        note = "write `num-integer = {{ path = .. }}` below `[patch.crates-io]` of the workspace"
     )
 )]
 trait Integer {
+    #[deprecated(note = "Please use is_multiple_of instead")]
+    #[must_use]
+    fn divides(&self, other: &Self) -> bool {
+        self.is_multiple_of(other)
+    }
+
     #[doc(hidden)]
     #[inline]
     #[track_caller]

@@ -29,13 +29,16 @@ use num_traits::PrimInt;
     has_diagnostic,
     diagnostic::on_unimplemented(
         message = "`{Self}` is no built-in integer type",
-        note = "the twelve built-in integer types implement it, and no other type can"
+        note = "the twelve built-in integer types implement it, and no other type can",
+        note = "a type of your own implements `Average`, `Fits` or `Modular` instead"
     )
 )]
 pub trait NativeInteger: Integer + Native + PrimInt {}
 
+#[cfg_attr(has_do_not_recommend, diagnostic::do_not_recommend)]
 impl<T: Native + PrimInt> NativeInteger for T {}
 
+#[cfg_attr(has_do_not_recommend, diagnostic::do_not_recommend)]
 impl<T: Native> Integer for T {
     fn div_rem(&self, other: &T) -> (T, T) {
         division::div_rem(*self, *other)

@@ -26,8 +26,8 @@ use crate::integer_roots::magnitude_roots::{
     has_diagnostic,
     diagnostic::on_unimplemented(
         message = "`{Self}` does not implement `Roots` of cellarcove",
-        note = "the built-in integer types of at most 64 bits implement it",
-        note = "there are no roots of `i128` and `u128`",
+        note = "those of at most 64 bits implement it; generic code has the bound `T: Roots`",
+        note = "`i128` and `u128` have no roots here: `isqrt` of std is their square root",
         note = "a type of your own implements it by hand"
     )
 )]
@@ -168,6 +168,7 @@ pub fn cbrt<T: Roots>(x: T) -> T {
     x.cbrt()
 }
 
+#[cfg_attr(has_do_not_recommend, diagnostic::do_not_recommend)]
 impl<T: Integer + NativeInteger<Magnitude = u64>> Roots for T {
     fn nth_root(&self, n: u32) -> T {
         check(n != 0, "attempt to take a root of degree 0");
@@ -191,6 +192,7 @@ impl<T: Integer + NativeInteger<Magnitude = u64>> Roots for T {
     }
 }
 
+#[cfg_attr(has_do_not_recommend, diagnostic::do_not_recommend)]
 impl<T: NativeInteger<Magnitude = u64>> SqrtCounted for T {
     fn sqrt_counted(&self) -> (T, u32) {
         check(

@@ -9,8 +9,9 @@ mod wide;
 
 use std::cell::RefCell;
 use std::fmt::Debug;
+use std::fs::read_to_string;
 use std::panic::{catch_unwind, set_hook, take_hook, AssertUnwindSafe};
-use std::sync::Once;
+use std::sync::{Once, OnceLock};
 
 /// The reason and the file of the last panic of a call that may panic; `None` outside such a call.
 struct Watch {
@@ -50,6 +51,13 @@ fn watch_panics() {
     });
 }
 
+/// The page of errors, which the repository has and the package has not.
+fn errors() -> Option<&'static str> {
+    static PAGE: OnceLock<Option<String>> = OnceLock::new();
+    let place = concat!(env!("CARGO_MANIFEST_DIR"), "/../docs/ERRORS.md");
+    PAGE.get_or_init(|| read_to_string(place).ok()).as_deref()
+}
+
 /// Runs a call, and returns the reason of its panic, whose place is in these files.
 fn watched(call: &mut dyn FnMut()) -> Result<(), String> {
     watch_panics();
@@ -59,6 +67,11 @@ fn watched(call: &mut dyn FnMut()) -> Result<(), String> {
     outcome.map_err(|_| {
         let (reason, file) = WATCH.with_borrow(|watch| watch.last.clone());
         assert!(file.contains("domains"), "`{reason}` is said of {file}");
+        let shows = |page: &str| page.contains(&format!("\"{reason}\""));
+        assert!(
+            errors().map_or(true, shows),
+            "docs/ERRORS.md lacks `{reason}`"
+        );
         for word in ["internal", "unreachable", "unwrap", "Option"] {
             assert!(!reason.contains(word), "a reason is `{reason}`");
         }

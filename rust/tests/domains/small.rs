@@ -98,6 +98,7 @@ macro_rules! tests {
                     check("is_multiple_of", pair, Some(is_multiple), || {
                         Integer::is_multiple_of(&a, &b)
                     });
+                    #[allow(deprecated)]
                     check("divides", pair, Some(is_multiple), || a.divides(&b));
                 });
             }

@@ -9,7 +9,7 @@ pub trait Doubled: Integer + Copy {
     }
 }
 
-struct Pair<T: Integer + Copy> {
+struct Pair<T> {
     x: T,
 }
 

@@ -7,11 +7,16 @@ use crate::integer_core::guards::{check, some, Reason};
     has_diagnostic,
     diagnostic::on_unimplemented(
         message = "`{Self}` is no built-in integer type",
-        note = "the twelve built-in integer types implement it, and no other type can"
+        note = "the twelve built-in integer types implement it, and no other type can",
+        note = "a type of your own implements `Average`, `Fits` or `Modular` instead"
     )
 )]
 trait NativeInteger {}
 
+#[cfg_attr(has_do_not_recommend, diagnostic::do_not_recommend)]
+impl<T: Native + PrimInt> NativeInteger for T {}
+
+#[cfg_attr(has_do_not_recommend, diagnostic::do_not_recommend)]
 impl<T: Native> Integer for T {
     #[inline]
     fn exact_sum(self, other: T, reason: Reason) -> T {

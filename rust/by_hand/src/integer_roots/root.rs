@@ -4,9 +4,15 @@
     has_diagnostic,
     diagnostic::on_unimplemented(
         message = "`{Self}` does not implement `Roots` of cellarcove",
-        note = "the built-in integer types of at most 64 bits implement it",
-        note = "there are no roots of `i128` and `u128`",
+        note = "those of at most 64 bits implement it; generic code has the bound `T: Roots`",
+        note = "`i128` and `u128` have no roots here: `isqrt` of std is their square root",
         note = "a type of your own implements it by hand"
     )
 )]
 trait Roots {}
+
+#[cfg_attr(has_do_not_recommend, diagnostic::do_not_recommend)]
+impl<T: Integer + NativeInteger<Magnitude = u64>> Roots for T {}
+
+#[cfg_attr(has_do_not_recommend, diagnostic::do_not_recommend)]
+impl<T: NativeInteger<Magnitude = u64>> SqrtCounted for T {}
