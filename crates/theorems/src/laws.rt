@@ -84,6 +84,7 @@ pub fn laws_of_fractions()
     ensures order_agrees_with_equality { fractions.OrderAgreesWithEquality }
     ensures order_over_one_denominator { fractions.OrderOverOneDenominator }
     ensures rounded_is_only { fractions.RoundedIsOnly }
+    ensures rounded_even_is_only { fractions.RoundedEvenIsOnly }
     ensures nearest_is_only { fractions.NearestIsOnly }
     ensures sums_of_equal_fractions { fractions.SumsOfEqualFractions }
     ensures products_of_equal_fractions { fractions.ProductsOfEqualFractions }
