@@ -1002,6 +1002,14 @@ pub mod ratio64 {
     //!     pub tie : 2 * unsigned_abs (n -ℤ r *ℤ d) ≡ unsigned_abs d → unsigned_abs n <
     //!       unsigned_abs (r *ℤ d)
     //! ```
+    //! ## `IsRoundedEven`
+    //! r is the integer nearest to n/d. Of two that are equally near, it is the even one. Examples:
+    //! 7 and 3: 2; 5 and 2: 2; 7 and 2: 4; -3 and 2: -2.
+    //! ```text
+    //! pub record IsRoundedEven (n d r : ℤ) : Type 0 where
+    //!   pub nearest : 2 * unsigned_abs (n -ℤ r *ℤ d) ≤ unsigned_abs d
+    //!   pub tie : 2 * unsigned_abs (n -ℤ r *ℤ d) ≡ unsigned_abs d → IsEven r
+    //! ```
     //! ## `AnswersInParts`
     //! The result is that of number/parts, for a number with the property. Examples: in quarters,
     //! of the floor of 4 · 5/3: 6/4, so 3/2; of its ceiling: 7/4.
