@@ -1082,6 +1082,23 @@
 //!   coefficient n (length choice.old)) }`
 //! - Words: [`IsChoice`](applied#ischoice), [`IsChoiceOfRank`](applied#ischoiceofrank),
 //!   [`rank_of`](applied#rank_of), [`coefficient`](num_integer#coefficient)
+//! ## `ratio64::Decimal`
+//! - `pub ghost few: { places ≤ 18 }`
+//! ## `ratio64::Decimal::units`
+//! - `ensures { result ≡ units_of self.now }`
+//! - Words: [`units_of`](ratio64#units_of)
+//! ## `ratio64::Decimal::places`
+//! - `ensures { result ≡ places_of self.now }`
+//! - Words: [`places_of`](ratio64#places_of)
+//! ## `ratio64::Ratio::to_decimal`
+//! - `ensures { AnswersWhere (places ≤ 18) (IsDecimalOf (num_of self.now) (den_of self.now) places)
+//!   result }`
+//! - Words: [`AnswersWhere`](integer_core#answerswhere), [`IsDecimalOf`](ratio64#isdecimalof),
+//!   [`num_of`](ratio64#num_of), [`den_of`](ratio64#den_of)
+//! ## `Display` for `ratio64::Decimal`
+//! - `ghost output = { λ x. Some (decimal_text (units_of x) (places_of x)) }`
+//! - Words: [`decimal_text`](ratio64#decimal_text), [`units_of`](ratio64#units_of),
+//!   [`places_of`](ratio64#places_of)
 //! ## `ratio64::RatioError::number`
 //! - `ensures { result ≡ number_of self.now }`
 //! - Words: [`number_of`](ratio64#number_of)
@@ -1182,6 +1199,10 @@
 //! - `ensures { IsRounded (num_of self.now) (den_of self.now) result }`
 //! - Words: [`IsRounded`](ratio64#isrounded), [`num_of`](ratio64#num_of),
 //!   [`den_of`](ratio64#den_of)
+//! ## `ratio64::Ratio::round_even`
+//! - `ensures { IsRoundedEven (num_of self.now) (den_of self.now) result }`
+//! - Words: [`IsRoundedEven`](ratio64#isroundedeven), [`num_of`](ratio64#num_of),
+//!   [`den_of`](ratio64#den_of)
 //! ## `ratio64::Ratio::fract`
 //! - `ensures num { IsRemainder IsTruncated (num_of self.now) (den_of self.now) (num_of result) }`
 //! - `ensures den { den_of result ≡ den_of self.now }`
@@ -1231,6 +1252,12 @@
 //!   self.now))) (IsRounded (num_of self.now *ℤ n) (den_of self.now)) result }`
 //! - Words: [`AnswersWhere`](integer_core#answerswhere), [`EachFits`](integer_core#eachfits),
 //!   [`IsRounded`](ratio64#isrounded), [`num_of`](ratio64#num_of), [`den_of`](ratio64#den_of)
+//! ## `ratio64::Ratio::round_even_times`
+//! - `ensures { AnswersWhere (EachFits (FitsSigned w64) (IsRoundedEven (num_of self.now *ℤ n)
+//!   (den_of self.now))) (IsRoundedEven (num_of self.now *ℤ n) (den_of self.now)) result }`
+//! - Words: [`AnswersWhere`](integer_core#answerswhere), [`EachFits`](integer_core#eachfits),
+//!   [`IsRoundedEven`](ratio64#isroundedeven), [`num_of`](ratio64#num_of),
+//!   [`den_of`](ratio64#den_of)
 //! ## `ratio64::Ratio::checked_times`
 //! - `ensures product { AnswersFraction (num_of self.now *ℤ n) (d *ℤ den_of self.now) result }`
 //! - `ensures zero_denominator { (result ≡ Err RatioError.ZeroDenominator) ↔ (d ≡ pos 0) }`
@@ -1256,6 +1283,13 @@
 //!   parts result }`
 //! - `ensures never_zero { result ≢ Err RatioError.ZeroDenominator }`
 //! - Words: [`AnswersInParts`](ratio64#answersinparts), [`IsRounded`](ratio64#isrounded),
+//!   [`num_of`](ratio64#num_of), [`den_of`](ratio64#den_of)
+//! ## `ratio64::Ratio::round_even_to`
+//! - `requires { pos 0 <ℤ parts }`
+//! - `ensures rounded { AnswersInParts (IsRoundedEven (num_of self.now *ℤ parts) (den_of self.now))
+//!   parts result }`
+//! - `ensures never_zero { result ≢ Err RatioError.ZeroDenominator }`
+//! - Words: [`AnswersInParts`](ratio64#answersinparts), [`IsRoundedEven`](ratio64#isroundedeven),
 //!   [`num_of`](ratio64#num_of), [`den_of`](ratio64#den_of)
 //! ## `Ord` for `ratio64::Ratio`
 //! - `ghost cmp = { λ x y. fraction_cmp (num_of x) (den_of x) (num_of y) (den_of y) }`
