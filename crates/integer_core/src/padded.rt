@@ -66,7 +66,7 @@ fn write_filled<W: fmt::Write>(f: &mut fmt::Formatter<W>, text: &str) -> fmt::Re
 fn fill<W: fmt::Write>(f: &mut fmt::Formatter<W>, count: usize) -> fmt::Result {
     let fill = f.fill();
     for _ in 0..count {
-        f.write_char(fill)?;
+        write!(f, "{fill}")?;
     }
     Ok(())
 }

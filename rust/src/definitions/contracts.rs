@@ -1082,6 +1082,23 @@
 //!   coefficient n (length choice.old)) }`
 //! - Words: [`IsChoice`](applied#ischoice), [`IsChoiceOfRank`](applied#ischoiceofrank),
 //!   [`rank_of`](applied#rank_of), [`coefficient`](num_integer#coefficient)
+//! ## `ratio64::Decimal`
+//! - `pub ghost few: { places ≤ 18 }`
+//! ## `ratio64::Decimal::units`
+//! - `ensures { result ≡ units_of self.now }`
+//! - Words: [`units_of`](ratio64#units_of)
+//! ## `ratio64::Decimal::places`
+//! - `ensures { result ≡ places_of self.now }`
+//! - Words: [`places_of`](ratio64#places_of)
+//! ## `ratio64::Ratio::to_decimal`
+//! - `ensures { AnswersWhere (places ≤ 18) (IsDecimalOf (num_of self.now) (den_of self.now) places)
+//!   result }`
+//! - Words: [`AnswersWhere`](integer_core#answerswhere), [`IsDecimalOf`](ratio64#isdecimalof),
+//!   [`num_of`](ratio64#num_of), [`den_of`](ratio64#den_of)
+//! ## `Display` for `ratio64::Decimal`
+//! - `ghost output = { λ x. Some (decimal_text (units_of x) (places_of x)) }`
+//! - Words: [`decimal_text`](ratio64#decimal_text), [`units_of`](ratio64#units_of),
+//!   [`places_of`](ratio64#places_of)
 //! ## `ratio64::RatioError::number`
 //! - `ensures { result ≡ number_of self.now }`
 //! - Words: [`number_of`](ratio64#number_of)

@@ -56,7 +56,7 @@ fn write_filled(f: &mut fmt::Formatter<'_>, text: &str) -> fmt::Result {
 fn fill(f: &mut fmt::Formatter<'_>, count: usize) -> fmt::Result {
     let fill = f.fill();
     for _ in 0..count {
-        f.write_char(fill)?;
+        write!(f, "{fill}")?;
     }
     Ok(())
 }
