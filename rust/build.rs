@@ -1,5 +1,5 @@
-//! Says what the compiler has that Rust 1.73 lacks: `core::error::Error` since 1.81, and the attributes of
-//! `#[diagnostic]` since 1.78.
+//! Says what the compiler has that Rust 1.73 lacks: the attributes `diagnostic::on_unimplemented` since 1.78 and
+//! `diagnostic::do_not_recommend` since 1.85, and `core::error::Error` since 1.81.
 
 use std::env;
 use std::process::Command;
@@ -15,18 +15,15 @@ fn minor_version() -> u32 {
 
 fn main() {
     println!("cargo:rerun-if-changed=build.rs");
-    println!("cargo:rustc-check-cfg=cfg(has_core_error, has_diagnostic, has_do_not_recommend, has_error)");
+    println!("cargo:rustc-check-cfg=cfg(has_core_error, has_diagnostic, has_do_not_recommend)");
     let minor = minor_version();
     if minor >= 78 {
         println!("cargo:rustc-cfg=has_diagnostic");
     }
-    if minor >= 85 {
-        println!("cargo:rustc-cfg=has_do_not_recommend");
-    }
     if minor >= 81 {
         println!("cargo:rustc-cfg=has_core_error");
     }
-    if minor >= 81 || env::var_os("CARGO_FEATURE_STD").is_some() {
-        println!("cargo:rustc-cfg=has_error");
+    if minor >= 85 {
+        println!("cargo:rustc-cfg=has_do_not_recommend");
     }
 }

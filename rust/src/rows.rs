@@ -115,13 +115,20 @@ exact_size!(u8 i8 u16 i16 u32 i32);
 
 /// Returns a number that is not negative as a `usize`, if it fits. Only if it is above 1 has its
 /// type a 2.
-fn at_usize<T: Integer + Copy>(x: T) -> Option<usize> {
-    let bit = usize::from(x.is_odd());
-    if x <= T::one() {
-        return Some(bit);
+fn at_usize<T: Integer + Copy>(mut x: T) -> Option<usize> {
+    let (mut value, mut unit) = (0usize, Some(1usize));
+    while !x.is_zero() {
+        if x.is_odd() {
+            value = value.checked_add(unit?)?;
+        }
+        unit = unit.and_then(|unit| unit.checked_mul(2));
+        x = if x.is_one() {
+            T::zero()
+        } else {
+            x / (T::one() + T::one())
+        };
     }
-    let half = at_usize(x / (T::one() + T::one()))?;
-    half.checked_mul(2)?.checked_add(bit)
+    Some(value)
 }
 
 impl<T: Integer + Copy> FusedIterator for IterBinomial<T> {}

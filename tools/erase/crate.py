@@ -88,8 +88,6 @@ class Eraser:
                 self.drop(k, k)
         if self.only_returns(item, owner):
             self.put_before(item.first, '#[must_use]\n')
-        if item.kind == 'impl' and item.of_trait == 'Error':
-            self.put_before(item.first, '#[cfg(has_error)]\n')
         if item.kind == 'mod' and item.public and not self.library.is_open(self.library.modules[self.crate, (*self.module.path, item.name)]):
             self.write(item.word - 1, 'pub(crate)')
         documentation.add_sections(self, item, owner)
@@ -146,7 +144,7 @@ class Eraser:
         gone = GHOST_TRAITS | private.keys()
         if [self.at(j) for j in names] == ['std', 'error', 'Error']:
             self.drop(k, last)
-            return self.write(k, '#[cfg(has_error)]\nuse crate::errors::Error;')
+            return self.write(k, 'use crate::errors::Error;')
         exports = ''.join(f'\npub(crate) use crate::{"::".join(path)};' for name, path in private.items() if not self.is_at_root(name))
         if all(name in gone for _, name in imports):
             self.drop_item(item.first, last)

@@ -106,15 +106,16 @@ is_replaced() {
 # dependent_tests NAME WORD..: runs the tests of a package in the tree that the words tell cargo.
 dependent_tests() { (cd "$work/tree" && cargo test --offline -j "${RT_JOBS:-$(nproc)}" -p "$@"); }
 
-# what_rustc_says: of each line of rust/tests/messages one error, which is the one that stands there. What it proposes is no private path.
+# what_rustc_says NAME MANIFEST: of a file of rust/tests/messages one error for each line that has one, which is that one. What rustc
+# proposes is no private path. The manifest ends with the words.
 what_rustc_says() {
-    local calls=rust/tests/messages/calls.rs there=$work/messages
+    local calls=rust/tests/messages/$1.rs there=$work/$1
     mkdir -p "$there/src" && cp "$calls" "$there/src/lib.rs" || return 1
-    printf '[package]\nname = "messages"\nedition = "2021"\n[dependencies]\nnum-bigint = "0.4"\nnum-traits = "0.2"
-        num-integer = { package = "cellarcove", path = "../rust" }\n' >"$there/Cargo.toml"
+    printf '[package]\nname = "messages"\nedition = "2021"\n[dependencies]\nnum-bigint = "0.4"\nnum-traits = "0.2"\n%b\n' "$2" >"$there/Cargo.toml"
     (cd "$there" && ! cargo check --offline 2>full) && ! grep '+ .*integer_core' "$there/full" &&
         (cd "$there" && ! cargo check --offline --message-format short 2>by_line) &&
-        diff <(sed -nE 's|.* // (E[0-9]+ .*)|\1|p' "$calls") <(sed -nE 's|^src/lib.*error\[(E[0-9]+)\]: ([^:]*).*|\1 \2|p' "$there/by_line")
+        diff <(sed -nE 's|.* // (E[0-9]+ .*)|\1|p' "$calls") \
+            <(sed -nE 's/^src.lib.*error\[(E[0-9]+)\]: (.*): (the trait|method) .*/\1 \2/p' "$there/by_line")
 }
 
 check_dependents() {
@@ -194,7 +195,9 @@ if has_packages "${originals[@]}"; then
     check "the checksums of compare, $(sums crates/replay/src/tests/list.rt | wc -l) lines" checksums
     if has_packages "${dependents[@]}"; then
         check 'the two packages for cargo replace num-integer, by the lines of their pages' from_the_files
-        check 'what rustc says of a missing trait' what_rustc_says
+        check 'what rustc says of a missing trait' what_rustc_says renamed 'num-integer = { package = "cellarcove", path = "../rust" }'
+        check 'what big integers lack' what_rustc_says patched \
+            'num-integer = "0.1"\n[patch.crates-io]\nnum-integer = { path = "../rust/num-integer" }'
         check_dependents
     else
         absent "no packages of ${dependents[*]}: their tests are not run"

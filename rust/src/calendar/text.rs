@@ -2,7 +2,6 @@
 //! Prints and parses dates, and prints weeks, in the formats of ISO 8601.
 
 use crate::calendar::{Date, IsoWeek};
-#[cfg(has_error)]
 use crate::errors::Error;
 use crate::integer_core::padded::Text;
 use core::fmt;
@@ -27,7 +26,6 @@ impl fmt::Display for DateError {
     }
 }
 
-#[cfg(has_error)]
 impl Error for DateError {}
 
 /// Prints the date in the format of ISO 8601. A year outside 0 to 9999 has a sign.

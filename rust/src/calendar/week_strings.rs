@@ -2,7 +2,6 @@
 //! The weeks of ISO 8601 of their strings.
 
 use crate::calendar::IsoWeek;
-#[cfg(has_error)]
 use crate::errors::Error;
 use core::fmt::{self, Write};
 use core::str::FromStr;
@@ -25,7 +24,6 @@ impl fmt::Display for IsoWeekError {
     }
 }
 
-#[cfg(has_error)]
 impl Error for IsoWeekError {}
 
 /// # Examples

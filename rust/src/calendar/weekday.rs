@@ -2,7 +2,6 @@
 //! The days of the week, their numbers and their names.
 
 use crate::calendar::Date;
-#[cfg(has_error)]
 use crate::errors::Error;
 use crate::integer_core::mod_floor;
 use core::fmt;
@@ -116,7 +115,6 @@ impl fmt::Display for WeekdayError {
     }
 }
 
-#[cfg(has_error)]
 impl Error for WeekdayError {}
 
 /// Prints the English name.

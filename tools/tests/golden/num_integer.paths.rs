@@ -1,6 +1,5 @@
 //! First words of paths, the traits of contracts alone, errors, and what formats.
 
-#[cfg(has_error)]
 use crate::errors::Error;
 use crate::integer_core::Integer;
 use crate::least as low;
@@ -11,7 +10,6 @@ use num_traits::Num;
 /// An error.
 pub struct NoHalf;
 
-#[cfg(has_error)]
 impl Error for NoHalf {}
 
 impl fmt::Display for NoHalf {

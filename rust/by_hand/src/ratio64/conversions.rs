@@ -1,7 +1,6 @@
 //! Fractions of the integers of at most 32 bits, and integers of fractions.
 
 use crate::ratio64::Ratio;
-#[cfg(has_error)]
 use crate::errors::Error;
 use core::fmt;
 
@@ -25,7 +24,6 @@ impl fmt::Display for TryFromRatioError {
     }
 }
 
-#[cfg(has_error)]
 impl Error for TryFromRatioError {}
 
 macro_rules! from_integer {

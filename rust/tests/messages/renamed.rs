@@ -1,5 +1,5 @@
 //! Calls that do not compile, each with what the compiler says of it: one error, which says what to do.
-//! tools/gate/check_rust_crate.sh compiles them, in a package that has this crate under the name of num-integer, and num-bigint.
+//! tools/gate/check_rust_crate.sh compiles them, in a package that has this crate under the name of num-integer, beside num-bigint.
 
 use num_bigint::BigInt;
 use num_integer::{modular, *};
