@@ -30,7 +30,7 @@ PRELUDE = Path(__file__).parent / 'prelude'
 JOBS = 2
 SECONDS = '300'                                 # for a build and the calls of a program
 # The clauses of its traits.
-OF_TRAITS = {'cmp', 'from_gives', 'from_str_gives', 'is_default', 'output', 'partial_cmp', 'steps'}
+OF_TRAITS = {'add_gives', 'cmp', 'from_gives', 'from_str_gives', 'is_default', 'output', 'partial_cmp', 'steps', 'sub_gives'}
 # By crate and file: code, and what it becomes. Rust cuts off what does not fit, where Rattle has a condition.
 CHANGED = {('integer_core', 'src/native.rt'): ((
     '        magnitude.as_()\n',

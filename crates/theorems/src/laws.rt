@@ -123,6 +123,7 @@ pub fn laws_of_dates()
     ensures last_weekday_is_only { dates.LastWeekdayIsOnly }
     ensures iso_week_exists { dates.IsoWeekExists }
     ensures iso_week_is_only { dates.IsoWeekIsOnly }
+    ensures iso_week_of_numbers_is_only { dates.IsoWeekOfNumbersIsOnly }
     ensures iso_day_exists { dates.IsoDayExists }
     ensures iso_day_is_only { dates.IsoDayIsOnly }
     ensures weeks_of_a_year { dates.WeeksOfAYear }

@@ -326,9 +326,17 @@
 //! - `ensures { MatchOption result ((date : Date) → number_of date ≡ number_of self.now +ℤ days → ¬
 //!   (FitsSigned w64 date.year)) (λ date. number_of date ≡ number_of self.now +ℤ days) }`
 //! - Words: [`number_of`](calendar#number_of)
+//! ## `calendar::Date::minus_days`
+//! - `ensures { MatchOption result ((date : Date) → number_of date ≡ number_of self.now -ℤ days → ¬
+//!   (FitsSigned w64 date.year)) (λ date. number_of date ≡ number_of self.now -ℤ days) }`
+//! - Words: [`number_of`](calendar#number_of)
 //! ## `calendar::Date::days_until`
 //! - `ensures { result ≡ day_numbers (number_of self) (number_of end) }`
 //! - Words: [`day_numbers`](calendar#day_numbers), [`number_of`](calendar#number_of)
+//! ## `calendar::Days::len`
+//! - `ensures { SomeIff result (length self.now < 2 ^ 64) (length self.now) }`
+//! ## `calendar::Days::is_empty`
+//! - `ensures { IsTrue result ↔ (self.now ≡ []) }`
 //! ## `Iterator` for `calendar::Days`
 //! - `ghost next_gives = { YieldsFirstBy number_of (λ s. s) }`
 //! - Words: [`number_of`](calendar#number_of)
@@ -336,6 +344,18 @@
 //! - `ensures { MatchOption result ((date : Date) → IsMonthsAfter self.now months date → ¬
 //!   (FitsSigned w64 date.year)) (λ date. IsMonthsAfter self.now months date) }`
 //! - Words: [`IsMonthsAfter`](calendar#ismonthsafter)
+//! ## `calendar::Date::days_between`
+//! - `ensures { SomeIff result (FitsSigned w64 (number_of to.now -ℤ number_of self.now)) (number_of
+//!   to.now -ℤ number_of self.now) }`
+//! - Words: [`number_of`](calendar#number_of)
+//! ## `calendar::Date::months_between`
+//! - `ensures { MatchOption result ((months : ℤ) × IsMonthsBetween self.now to.now months × ¬
+//!   (FitsSigned w64 months)) (λ months. IsMonthsBetween self.now to.now months) }`
+//! - Words: [`IsMonthsBetween`](calendar#ismonthsbetween)
+//! ## `calendar::Date::years_between`
+//! - `ensures { MatchOption result ((years : ℤ) × IsYearsBetween self.now to.now years × ¬
+//!   (FitsSigned w64 years)) (λ years. IsYearsBetween self.now to.now years) }`
+//! - Words: [`IsYearsBetween`](calendar#isyearsbetween)
 //! ## `calendar::days_between`
 //! - `ensures { SomeIff result (FitsSigned w64 (number_of to.now -ℤ number_of from.now)) (number_of
 //!   to.now -ℤ number_of from.now) }`
@@ -354,6 +374,15 @@
 //! - `ensures season { ((result.month ≡ 3) × (22 ≤ result.day_of_month)) ⊎ ((result.month ≡ 4) ×
 //!   (result.day_of_month ≤ 25)) }`
 //! - Words: [`IsEaster`](calendar#iseaster), [`number_of`](calendar#number_of)
+//! ## `calendar::IsoWeek`
+//! - `pub ghost valid: { ∥ HasIsoWeek year week ∥₁ }`
+//! - Words: [`HasIsoWeek`](calendar#hasisoweek)
+//! ## `calendar::IsoWeek::year`
+//! - `ensures { result ≡ self.now.year }`
+//! ## `calendar::IsoWeek::week`
+//! - `ensures week { result ≡ self.now.week }`
+//! - `ensures from_one { 1 ≤ result }`
+//! - `ensures to_53 { result ≤ 53 }`
 //! ## `calendar::IsoWeek::new`
 //! - `ensures { MatchOption result (¬ (HasIsoWeek year week)) (λ found. HasIsoWeek year week ×
 //!   (found.year ≡ year) × (found.week ≡ week)) }`
@@ -443,6 +472,10 @@
 //! - `ensures { MatchOption result (¬ ((1 ≤ month) × (month ≤ 12))) (λ date. IsLastWeekdayOfMonth
 //!   year month weekday date) }`
 //! - Words: [`IsLastWeekdayOfMonth`](calendar#islastweekdayofmonth)
+//! ## `calendar::Date::next_last_weekday`
+//! - `ensures { MatchOption result ((date : Date) → IsNextLastWeekday self.now weekday date → ¬
+//!   (FitsSigned w64 date.year)) (λ date. IsNextLastWeekday self.now weekday date) }`
+//! - Words: [`IsNextLastWeekday`](calendar#isnextlastweekday)
 //! ## `calendar::next_last_weekday`
 //! - `ensures { MatchOption result ((date : Date) → IsNextLastWeekday after.now weekday date → ¬
 //!   (FitsSigned w64 date.year)) (λ date. IsNextLastWeekday after.now weekday date) }`
