@@ -9,10 +9,11 @@ use crate::shares::{SharesError, total_to_share};
 /// Fills `shares` with the shares of the amount by largest remainders. Each share is its exact share rounded down, or
 /// 1 more. The weights with the largest remainders get 1 more, and of equal remainders the first, so that the shares
 /// together are the amount.
-/// `{ let mut parts = [0; 3]; (shares_by_largest_remainder(2, &[1, 1, 98], &mut parts), parts) }` is
-/// `(Ok(()), [0, 0, 2])`, in which [`shares`](crate::shares::shares) gives the first weight 1.
+/// `{ let mut parts = [0; 2]; (shares_by_largest_remainder(1, &[1, 99], &mut parts), parts) }` is `(Ok(()), [0, 1])`,
+/// where those of [`shares`](crate::shares::shares) are `[1, 0]`.
 ///
-/// The time is that of at most 128 passes over the weights, and of as many as the binary digits of their sum.
+/// The call takes no memory. It passes over the weights at most as often as their sum has binary digits, and three times
+/// more.
 ///
 /// # Errors
 ///
