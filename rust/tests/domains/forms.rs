@@ -6,11 +6,11 @@ use cellarcove::calendar::days_in_month;
 use cellarcove::counted::{binomial_counted, extended_gcd_counted, GcdCounted, SqrtCounted};
 use cellarcove::modular::{self, Modular};
 use cellarcove::ratio64::Ratio;
-use cellarcove::{
-    counting, halving, layout, lists, paging, powers, ranking, rolling_hash::RollingHash,
-    rounding, schedules,
-};
 use cellarcove::{binomial, multinomial, operators, Integer, IterBinomial, Roots};
+use cellarcove::{
+    counting, halving, layout, lists, paging, powers, ranking, rolling_hash::RollingHash, rounding,
+    schedules,
+};
 use std::time::{Duration, Instant};
 
 const GCD: &str = "the greatest common divisor does not fit";
@@ -327,6 +327,8 @@ fn models() {
         PERIOD {
             schedules::next_meeting(0, (1, -2), (1, 3));
             schedules::next_meeting(0, (1, 2), (1, 0));
+            schedules::count(0, 9, (1, -2));
+            schedules::count(9u8, 0, (1, 0));
         }
         one_period { schedules::next_meeting_of(0, &[(1, 2), (1, -3)]); }
         PAGE_SIZE {
@@ -356,7 +358,10 @@ fn models() {
             ranking::next_choice(&mut [3, 1], 5);
             ranking::next_choice(&mut [3, 5], 5);
         }
-        great_rank { ranking::rank(&[2746052116, 6074001000], 6074001001); }
+        great_rank {
+            ranking::rank(&[2746052116, 6074001000], 6074001001);
+            ranking::rank(&[0, u64::MAX - 1], u64::MAX);
+        }
         rank {
             ranking::choice_of_rank(13983816, 49, &mut [0; 6]);
             ranking::choice_of_rank(0, 2, &mut [0; 3]);
