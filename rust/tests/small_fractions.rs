@@ -42,6 +42,15 @@ fn reduced_parts() {
     }
 }
 
+/// The nearest integer by trial, and of two the even one. The denominator is positive.
+fn nearest_even(num: i64, den: i64) -> i64 {
+    let around = num.div_euclid(den) - 1..=num.div_euclid(den) + 2;
+    let distance = |n: &i64| 2 * (num - n * den).abs();
+    around
+        .min_by_key(|n| (distance(n), n.rem_euclid(2)))
+        .expect("there are four numbers")
+}
+
 #[test]
 fn rounded() {
     for ((num, den), x) in fractions() {
@@ -50,6 +59,7 @@ fn rounded() {
         assert_eq!(x.trunc(), num / den, "{x}");
         let nearest = (2 * num.abs() + den) / (2 * den) * num.signum();
         assert_eq!(x.round(), nearest, "{x}");
+        assert_eq!(x.round_even(), nearest_even(num, den), "{x}");
         assert_eq!(Ratio::from(x.trunc()).checked_add(&x.fract()), Ok(x), "{x}");
         for n in -12..=12 {
             let product = num * n;
@@ -61,6 +71,12 @@ fn rounded() {
             );
             let nearest = (2 * product.abs() + den) / (2 * den) * product.signum();
             assert_eq!(x.round_times(n), Some(nearest), "{x} {n}");
+            let even = nearest_even(product, den);
+            assert_eq!(x.round_even_times(n), Some(even), "{x} {n}");
+        }
+        for parts in 1..=24 {
+            let even = nearest_even(num * parts, den);
+            assert_eq!(x.round_even_to(parts), Ratio::new(even, parts), "{x} {parts}");
         }
     }
 }

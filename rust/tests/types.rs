@@ -1,8 +1,10 @@
 //! What the types have beside the proved calls: operators, conversions, formats and iterators.
 
 use cellarcove::calendar::Date;
-use cellarcove::ratio64::{Ratio, TryFromRatioError};
+use cellarcove::ratio64::{Decimal, ParseRatioError, Ratio, RatioError, TryFromRatioError};
 use cellarcove::IterBinomial;
+use std::collections::HashSet;
+use std::fmt::Write;
 use std::panic::{catch_unwind, UnwindSafe};
 
 fn ratio(num: i64, den: i64) -> Ratio {
@@ -60,6 +62,30 @@ fn each_operator_is_its_checked_call() {
             assert_eq!(quotient, a / b / b);
         }
     }
+}
+
+#[test]
+#[allow(clippy::op_ref)] // those of references too
+fn each_operator_takes_an_integer() {
+    for (num, whole) in (-7..=7).flat_map(|num| (-3..=3).map(move |whole| (num, whole))) {
+        let (x, y) = (ratio(num, 4), Ratio::from(whole));
+        assert_eq!((x + whole, x - whole, x * whole), (x + y, x - y, x * y));
+        assert_eq!((&x + whole, &x - whole, &x * whole), (x + y, x - y, x * y));
+        let (mut sum, mut difference, mut product) = (x, x, x);
+        sum += whole;
+        difference -= whole;
+        product *= whole;
+        assert_eq!((sum, difference, product), (x + y, x - y, x * y));
+        if whole != 0 {
+            let mut quotient = x;
+            quotient /= whole;
+            assert_eq!((quotient, x / whole, &x / whole), (x / y, x / y, x / y));
+        }
+    }
+    assert_eq!(ratio(19, 100) * 250, ratio(95, 2));
+    let most = Ratio::from(i64::MAX);
+    assert_eq!(reason(|| most * 2), "the product of the fractions does not fit");
+    assert_eq!(reason(|| most / 0), "attempt to divide a fraction by zero");
 }
 
 #[test]
@@ -140,22 +166,120 @@ fn conversions() {
         ),
         (Ok(i64::MIN), true)
     );
+    assert_eq!(Ratio::try_from(i64::MAX as u64), Ok(ratio(i64::MAX, 1)));
+    assert_eq!(Ratio::try_from(1u64 << 63), Err(RatioError::NotFitting));
+    assert_eq!(Ratio::try_from(i128::from(i64::MIN)), Ok(ratio(i64::MIN, 1)));
+    assert_eq!(
+        Ratio::try_from(i128::from(i64::MIN) - 1),
+        Err(RatioError::NotFitting)
+    );
+    assert_eq!(Ratio::try_from(u128::MAX), Err(RatioError::NotFitting));
+    assert_eq!(
+        (Ratio::try_from(7usize), Ratio::try_from(-7isize)),
+        (Ok(ratio(7, 1)), Ok(ratio(-7, 1)))
+    );
     let error: TryFromRatioError = usize::try_from(ratio(1, 2)).unwrap_err();
     assert_eq!(error.to_string(), "the fraction is no integer of the type");
     assert_eq!((ratio(6, -4).numer(), ratio(6, -4).denom()), (-3, 2));
 }
 
 #[test]
-fn formats_keep_width_and_fill() {
-    let (fraction, whole, date) = (ratio(-3, 2), Ratio::from(5), Date::new(2024, 2, 9).unwrap());
+fn constants() {
+    const HALF_OFF: [Ratio; 3] = [Ratio::zero(), Ratio::one(), Ratio::from_integer(-5)];
+    static FIVE: Ratio = Ratio::from_integer(5);
+    assert_eq!(HALF_OFF, [ratio(0, 1), ratio(1, 1), ratio(-5, 1)]);
+    assert_eq!(FIVE, Ratio::from(5));
+}
+
+#[test]
+fn errors_have_hashes() {
+    let errors = [RatioError::ZeroDenominator, RatioError::NotFitting];
+    assert_eq!(errors.iter().collect::<HashSet<_>>().len(), 2);
+    let read: HashSet<ParseRatioError> = errors.into_iter().map(Into::into).collect();
+    assert_eq!(read.len(), 2);
+    let none: HashSet<TryFromRatioError> =
+        [u8::try_from(ratio(1, 2)), u8::try_from(ratio(-1, 1))].into_iter().filter_map(Result::err).collect();
+    assert_eq!(none.len(), 1);
+}
+
+/// A number is on the right, with the sign and the zeros that the format asks for.
+#[test]
+fn fractions_are_formatted_as_integers_are() {
+    let (fraction, whole) = (ratio(-3, 2), Ratio::from(5));
     assert_eq!(
-        format!("{fraction}|{fraction:>8}|{fraction:<8}|{fraction:*^8}|{fraction:.2}"),
-        "-3/2|    -3/2|-3/2    |**-3/2**|-3"
+        format!("{fraction}|{fraction:8}|{fraction:>8}|{fraction:<8}|{fraction:*^8}|"),
+        "-3/2|    -3/2|    -3/2|-3/2    |**-3/2**|"
     );
-    assert_eq!(format!("{whole}|{whole:3}|{whole:0>3}"), "5|5  |005");
+    assert_eq!(format!("{whole}|{whole:3}|{whole:<3}|{whole:0>3}"), "5|  5|5  |005");
+    let amount = ratio(1234, 5);
     assert_eq!(
-        format!("{date}|{date:>12}|{date:_<12}|{date:.4}"),
-        "2024-02-09|  2024-02-09|2024-02-09__|2024"
+        format!("{amount:+}|{amount:010}|{amount:+010}|{amount:+}|{fraction:+}|{fraction:08}"),
+        "+1234/5|00001234/5|+0001234/5|+1234/5|-3/2|-00003/2"
+    );
+    // as integers have them
+    for number in [0i64, 7, -7, i64::MAX, i64::MIN] {
+        let whole = Ratio::from(number);
+        assert_eq!(
+            format!("{whole}|{whole:25}|{whole:<25}|{whole:^25}|{whole:+}|{whole:025}|{whole:#}|{whole:_>+25}"),
+            format!("{number}|{number:25}|{number:<25}|{number:^25}|{number:+}|{number:025}|{number:#}|{number:_>+25}")
+        );
+    }
+}
+
+/// A precision gives the decimals, and cuts nothing off.
+#[test]
+fn a_precision_gives_decimals() {
+    let (amount, tiny) = (ratio(1234, 5), ratio(-1, 20));
+    assert_eq!(format!("{amount:.2} {:.1} {tiny:.2}", Ratio::from(1234)), "246.80 1234.0 -0.05");
+    assert_eq!(
+        format!("{amount:.0}|{amount:9.2}|{amount:<9.2}|{amount:*^+9.1}|{amount:09.2}|{tiny:08.3}|{tiny:.1}"),
+        "247|   246.80|246.80   |*+246.8**|000246.80|-000.050|0.0"
+    );
+    let places = 3;
+    assert_eq!(
+        format!("{amount:.places$} {:.*}", 1, ratio(1, 3)),
+        "246.800 0.3"
+    );
+    let least = Ratio::from(i64::MIN);
+    assert_eq!(
+        format!("{least:.18}"),
+        "-9223372036854775808.000000000000000000"
+    );
+    // 19 places are refused
+    let mut text = String::new();
+    assert!(write!(text, "{amount:.19}").is_err());
+    assert_eq!(text, "");
+}
+
+#[test]
+fn decimals() {
+    let decimal = ratio(-1234, 5).to_decimal(2).unwrap();
+    assert_eq!((decimal.units(), decimal.places()), (-24680, 2));
+    assert_eq!(
+        format!("{decimal}|{decimal:10}|{decimal:<10}|{decimal:010}"),
+        "-246.80|   -246.80|-246.80   |-000246.80"
+    );
+    // equal decimals have the same digits
+    let fewer = ratio(-1234, 5).to_decimal(1).unwrap();
+    assert_eq!((decimal == fewer, fewer.to_string()), (false, "-246.8".to_string()));
+    let both: HashSet<Decimal> = [decimal, fewer, decimal].into_iter().collect();
+    assert_eq!(both.len(), 2);
+    assert_eq!(ratio(1, 3).to_decimal(19), None);
+    assert_eq!(ratio(1, 3).to_decimal(u32::MAX), None);
+}
+
+/// A date keeps its width and fill, and a precision cuts nothing off.
+#[test]
+fn other_formats_keep_width_and_fill() {
+    let date = Date::new(2024, 2, 9).unwrap();
+    assert_eq!(
+        format!("{date}|{date:>12}|{date:_<12}|{date:_^14}|{date:12}|{date:.4}|{date:+}|{date:>12.4}|{date:0}"),
+        "2024-02-09|  2024-02-09|2024-02-09__|__2024-02-09__|2024-02-09  |2024-02-09|2024-02-09|  2024-02-09|2024-02-09"
+    );
+    let week = date.iso_week().unwrap();
+    assert_eq!(
+        format!("{week:.3}|{week:>10}|{week:<10}|{week:é^10}"),
+        "2024-W06|  2024-W06|2024-W06  |é2024-W06é"
     );
     let far = Date::new(i64::MIN, 12, 31).unwrap();
     assert_eq!(format!("{far:>30}"), format!("{:>30}", far.to_string()));

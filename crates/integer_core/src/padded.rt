@@ -36,16 +36,20 @@ pub trait Text {
     final fn pad_number<W: fmt::Write>(&self, f: &mut fmt::Formatter<W>) -> fmt::Result
         ensures { WritesOnOk W.write_str_gives f.old result (text self.now) f.new }
     {
-        if f.width().is_none() && !f.sign_plus() {
-            return self.write_to(f);
+        if f.width().is_some() || f.sign_plus() {
+            let mut buffer = Buffer::new();
+            self.write_to(&mut buffer)?;
+            return write_number(f, buffer.as_str()?);
         }
-        let mut buffer = Buffer::new();
-        self.write_to(&mut buffer)?;
-        let text = buffer.as_str()?;
-        match text.strip_prefix('-') {
-            Some(digits) => f.pad_integral(false, "", digits),
-            None => f.pad_integral(true, "", text),
-        }
+        self.write_to(f)
+    }
+}
+
+/// Writes the text of a number, which may begin with `-`, as integers are written.
+fn write_number<W: fmt::Write>(f: &mut fmt::Formatter<W>, text: &str) -> fmt::Result {
+    match text.strip_prefix('-') {
+        Some(digits) => f.pad_integral(false, "", digits),
+        None => f.pad_integral(true, "", text),
     }
 }
 

@@ -10,6 +10,7 @@ pub mod WideSums
 pub mod EqualFractions
 pub mod EqualQuotients
 pub mod FractionPowers
+pub mod SpelledDecimals
 pub mod ReducedAnswers
 pub mod ReducedParts
 pub mod NearestNumbers

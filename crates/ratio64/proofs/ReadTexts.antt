@@ -136,11 +136,13 @@ spelled_fraction {a} {b} r left right h is = record {
 
 -- ---- what is printed
 
-no_minus : (n : ℕ) → n < 2 ^ 64 → starts_with_minus (decimal n) ≡ false
-no_minus n small =
-    let h = decimal_is_IsNumeral n small in
-    let first : get_or (decimal n) 0 0 ≢ 45 = not_in_digits decimal_model (decimal n) 45 (decimal_model.from (decimal n) h.0.1) (λ w. omega arith) 0 h.0.0 in
+pub numeral_without_minus : (ds : List ℕ) → IsNumeral 10 ds → starts_with_minus ds ≡ false
+numeral_without_minus ds h =
+    let first : get_or ds 0 0 ≢ 45 = not_in_digits decimal_model ds 45 (decimal_model.from ds h.1) (λ w. omega arith) 0 h.0 in
     ne_eqb _ 45 first
+
+no_minus : (n : ℕ) → n < 2 ^ 64 → starts_with_minus (decimal n) ≡ false
+no_minus n small = numeral_without_minus (decimal n) (decimal_is_IsNumeral n small).0
 
 decimal_spelled : (n : ℕ) → n < 2 ^ 64 → SpellsWhole (decimal n) (pos n)
 decimal_spelled n small =

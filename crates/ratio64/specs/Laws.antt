@@ -1,9 +1,10 @@
 -- The laws of fractions. Each is proved in proofs/Laws.antt, by a lemma of its name in small letters.
 use Rattle.std.specs.Prelude.{◌≡◌, ◌↔◌, ◌<ℤ◌, ◌+ℤ◌, ◌*ℤ◌, ℕ, ℤ, List, pos, FitsSigned, Ok, Result}
 use Rattle.std.specs.Cmp.{IsTotalOrder}
-use Rattle.std.specs.Int.{w64}
+use Rattle.std.specs.Int.{w64, w128}
 use Rattle.std.specs.declared.cmp.Ordering.TheVariants.{Equal, Less}
 use Rattle.num_integer.specs.Only.{IsOnly}
+use Rattle.ratio64.specs.Decimal.{SpellsDecimal, decimal_text}
 use Rattle.ratio64.specs.Fraction.{AreEqual, IsExact, IsFraction, IsReduced, fraction_cmp}
 use Rattle.ratio64.specs.Limiting.{IsNearestWithin}
 use Rattle.ratio64.specs.Ratio.{AnswersFraction, num_of, den_of, text_of}
@@ -80,6 +81,16 @@ SumsOfEqualFractions = (a b c d e f g h : ℤ) → AreEqual a b e f → AreEqual
 abbrev pub ProductsOfEqualFractions : Type 0
 ProductsOfEqualFractions = (a b c d e f g h : ℤ) → AreEqual a b e f → AreEqual c d g h
     → AreEqual (a *ℤ c) (b *ℤ d) (e *ℤ g) (f *ℤ h)
+
+-- ---- decimal numbers
+
+-- The string of a decimal number spells it.
+abbrev pub DecimalIsSpelled : Type 0
+DecimalIsSpelled = (units : ℤ) (places : ℕ) → FitsSigned w128 units → SpellsDecimal (decimal_text units places) units places
+
+-- Each string spells at most one decimal number.
+abbrev pub SpelledDecimalIsOnly : Type 0
+SpelledDecimalIsOnly = (text : List ℕ) (units : ℤ) (places : ℕ) → SpellsDecimal text units places → IsOnly (λ (u, p). SpellsDecimal text u p) (units, places)
 
 -- ---- strings
 

@@ -7,7 +7,7 @@ use std::error::Error;
 use std::fmt;
 
 /// Why a call returns no fraction. `Ratio::new(1, 0)` is `Err(RatioError::ZeroDenominator)`.
-#[derive(Debug, Clone, Copy, PartialEq, Eq)]
+#[derive(Debug, Clone, Copy, PartialEq, Eq, Hash)]
 pub enum RatioError {
     /// The denominator is 0.
     ZeroDenominator,

@@ -46,20 +46,29 @@ impl Ratio {
         Self::reduced(i128::from(num), i128::from(den))
     }
 
+    /// Returns the integer as a fraction over 1, which a constant can do too.
+    /// `Ok(Ratio::from_integer(5))` is `Ratio::new(5, 1)`.
+    pub const fn from_integer(num: i64) -> Self
+        ensures num { num_of result ≡ num }
+        ensures den { den_of result ≡ pos 1 }
+    {
+        Self { num, den: 1 }
+    }
+
     /// Returns 0. `Ok(Ratio::zero())` is `Ratio::new(0, 1)`.
-    pub fn zero() -> Self
+    pub const fn zero() -> Self
         ensures num { num_of result ≡ pos 0 }
         ensures den { den_of result ≡ pos 1 }
     {
-        Self::from(0)
+        Self::from_integer(0)
     }
 
     /// Returns 1. `Ok(Ratio::one())` is `Ratio::new(1, 1)`.
-    pub fn one() -> Self
+    pub const fn one() -> Self
         ensures num { num_of result ≡ pos 1 }
         ensures den { den_of result ≡ pos 1 }
     {
-        Self::from(1)
+        Self::from_integer(1)
     }
 
     /// Returns the numerator. `Ratio::new(6, -4).unwrap().num()` is `-3`.
@@ -198,7 +207,7 @@ impl From<i64> for Ratio {
     ghost from_gives = { λ number x. (num_of x ≡ number) × (den_of x ≡ pos 1) };
 
     fn from(num: i64) -> Self {
-        Self { num, den: 1 }
+        Self::from_integer(num)
     }
 }
 
@@ -215,6 +224,11 @@ impl Default for Ratio {
 
 /// Prints `num/den`, and only `num` if the denominator is 1.
 /// `Ratio::new(6, -4).unwrap().to_string()` is `"-3/2"`.
+///
+/// In plain Rust a precision prints the decimals that [`Ratio::to_decimal`] returns, `+` and `0` do what
+/// they do for integers, and a width puts the number on the right:
+/// `format!("{:.2}", Ratio::new(1234, 5).unwrap())` is `"246.80"`. A precision above 18 is a
+/// `fmt::Error`, with which `format!` panics.
 impl fmt::Display for Ratio {
     ghost use Rattle.std.specs.Prelude.{Some};
     ghost use Rattle.ratio64.specs.Ratio.{text_of};

@@ -12,7 +12,7 @@ use std::fmt;
 use std::str::FromStr;
 
 /// Why a string is not a fraction. `"1/".parse::<Ratio>()` is `Err(ParseRatioError::NotAFraction)`.
-#[derive(Debug, Clone, Copy, PartialEq, Eq)]
+#[derive(Debug, Clone, Copy, PartialEq, Eq, Hash)]
 pub enum ParseRatioError {
     /// The string is neither an integer nor two integers with a slash between them.
     NotAFraction,

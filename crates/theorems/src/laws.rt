@@ -88,6 +88,8 @@ pub fn laws_of_fractions()
     ensures nearest_is_only { fractions.NearestIsOnly }
     ensures sums_of_equal_fractions { fractions.SumsOfEqualFractions }
     ensures products_of_equal_fractions { fractions.ProductsOfEqualFractions }
+    ensures decimal_is_spelled { fractions.DecimalIsSpelled }
+    ensures spelled_decimal_is_only { fractions.SpelledDecimalIsOnly }
     ensures reading_is_only { fractions.ReadingIsOnly }
     ensures text_is_read_back { fractions.TextIsReadBack }
 {}

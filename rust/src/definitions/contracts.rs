@@ -1146,6 +1146,10 @@
 //! - `ensures refused { IfErr result (λ _. den ≤ℤ pos 0) }`
 //! - `ensures positive { IfOk result (λ x. pos 0 <ℤ den_of x) }`
 //! - Words: [`AnswersFraction`](ratio64#answersfraction), [`den_of`](ratio64#den_of)
+//! ## `ratio64::Ratio::from_integer`
+//! - `ensures num { num_of result ≡ num }`
+//! - `ensures den { den_of result ≡ pos 1 }`
+//! - Words: [`num_of`](ratio64#num_of), [`den_of`](ratio64#den_of)
 //! ## `ratio64::Ratio::zero`
 //! - `ensures num { num_of result ≡ pos 0 }`
 //! - `ensures den { den_of result ≡ pos 1 }`

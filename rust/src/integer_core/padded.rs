@@ -26,16 +26,20 @@ pub trait Text {
     /// Writes the text of a number as integers are written: with a `+` and zeros in front if the
     /// format has them, and on the right if it names no side. It has no use for a precision.
     fn pad_number(&self, f: &mut fmt::Formatter<'_>) -> fmt::Result {
-        if f.width().is_none() && !f.sign_plus() {
-            return self.write_to(f);
+        if f.width().is_some() || f.sign_plus() {
+            let mut buffer = Buffer::new();
+            self.write_to(&mut buffer)?;
+            return write_number(f, buffer.as_str()?);
         }
-        let mut buffer = Buffer::new();
-        self.write_to(&mut buffer)?;
-        let text = buffer.as_str()?;
-        match text.strip_prefix('-') {
-            Some(digits) => f.pad_integral(false, "", digits),
-            None => f.pad_integral(true, "", text),
-        }
+        self.write_to(f)
+    }
+}
+
+/// Writes the text of a number, which may begin with `-`, as integers are written.
+fn write_number(f: &mut fmt::Formatter<'_>, text: &str) -> fmt::Result {
+    match text.strip_prefix('-') {
+        Some(digits) => f.pad_integral(false, "", digits),
+        None => f.pad_integral(true, "", text),
     }
 }
 

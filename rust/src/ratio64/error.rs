@@ -13,7 +13,7 @@ use core::fmt;
 ///
 /// assert_eq!(Ratio::new(1, 0), Err(RatioError::ZeroDenominator));
 /// ```
-#[derive(Debug, Clone, Copy, PartialEq, Eq)]
+#[derive(Debug, Clone, Copy, PartialEq, Eq, Hash)]
 pub enum RatioError {
     /// The denominator is 0.
     ZeroDenominator,

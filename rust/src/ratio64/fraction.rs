@@ -55,6 +55,22 @@ impl Ratio {
         Self::reduced(i128::from(num), i128::from(den))
     }
 
+    /// Returns the integer as a fraction over 1, which a constant can do too.
+    ///
+    /// # Examples
+    ///
+    /// ```
+    /// use cellarcove::ratio64::Ratio;
+    ///
+    /// assert_eq!(Ok(Ratio::from_integer(5)), Ratio::new(5, 1));
+    /// ```
+    ///
+    /// [Contract](crate::definitions::contracts#ratio64ratiofrom_integer)
+    #[must_use]
+    pub const fn from_integer(num: i64) -> Self {
+        Self { num, den: 1 }
+    }
+
     /// Returns 0.
     ///
     /// # Examples
@@ -67,8 +83,8 @@ impl Ratio {
     ///
     /// [Contract](crate::definitions::contracts#ratio64ratiozero)
     #[must_use]
-    pub fn zero() -> Self {
-        Self::from(0)
+    pub const fn zero() -> Self {
+        Self::from_integer(0)
     }
 
     /// Returns 1.
@@ -83,8 +99,8 @@ impl Ratio {
     ///
     /// [Contract](crate::definitions::contracts#ratio64ratioone)
     #[must_use]
-    pub fn one() -> Self {
-        Self::from(1)
+    pub const fn one() -> Self {
+        Self::from_integer(1)
     }
 
     /// Returns the numerator.
@@ -307,7 +323,7 @@ impl Ratio {
 /// [Contract](crate::definitions::contracts#from-for-ratio64ratio)
 impl From<i64> for Ratio {
     fn from(num: i64) -> Self {
-        Self { num, den: 1 }
+        Self::from_integer(num)
     }
 }
 
@@ -330,12 +346,18 @@ impl Default for Ratio {
 
 /// Prints `num/den`, and only `num` if the denominator is 1.
 ///
+/// In plain Rust a precision prints the decimals that [`Ratio::to_decimal`] returns, `+` and `0` do
+/// what they do for integers, and a width puts the number on the right: `format!("{:.2}",
+/// Ratio::new(1234, 5).unwrap())` is `"246.80"`. A precision above 18 is a `fmt::Error`, with which
+/// `format!` panics.
+///
 /// # Examples
 ///
 /// ```
 /// use cellarcove::ratio64::Ratio;
 ///
 /// assert_eq!(Ratio::new(6, -4).unwrap().to_string(), "-3/2");
+/// assert_eq!(format!("{:.2}", Ratio::new(1234, 5).unwrap()), "246.80");
 /// ```
 ///
 /// [Contract](crate::definitions::contracts#display-for-ratio64ratio)

@@ -15,7 +15,7 @@ use core::str::FromStr;
 ///
 /// assert_eq!("1/".parse::<Ratio>(), Err(ParseRatioError::NotAFraction));
 /// ```
-#[derive(Debug, Clone, Copy, PartialEq, Eq)]
+#[derive(Debug, Clone, Copy, PartialEq, Eq, Hash)]
 pub enum ParseRatioError {
     /// The string is neither an integer nor two integers with a slash between them.
     NotAFraction,

@@ -1,5 +1,5 @@
-//! The operators of fractions. Each is one of the checked calls, and panics, in debug and in
-//! release, if that call returns an error.
+//! The operators of fractions, and of a fraction and an `i64`. Each is one of the checked calls, and
+//! panics, in debug and in release, if that call returns an error.
 
 use crate::guards::refuse;
 use crate::ratio64::{Ratio, RatioError};
@@ -18,7 +18,8 @@ fn expect(result: Result<Ratio, RatioError>, reason: &'static str) -> Ratio {
     }
 }
 
-/// An operator and its assigning form, of fractions and of references to them.
+/// An operator and its assigning form, of fractions, of references to them, and of an `i64` at the
+/// right.
 macro_rules! operator {
     ($Operator:ident $method:ident $Assign:ident $assign:ident $checked:ident
         $reason:literal $docs:literal) => {
@@ -27,10 +28,20 @@ macro_rules! operator {
         operator!(@by_value $Operator $method $checked $reason $docs &Ratio, Ratio);
         operator!(@by_value $Operator $method $checked $reason $docs &Ratio, &Ratio);
 
+        operator!(@by_integer $Operator $method $checked $reason $docs Ratio);
+        operator!(@by_integer $Operator $method $checked $reason $docs &Ratio);
+
         impl $Assign for Ratio {
             #[track_caller]
             fn $assign(&mut self, other: Ratio) {
                 *self = expect(self.$checked(&other), $reason);
+            }
+        }
+
+        impl $Assign<i64> for Ratio {
+            #[track_caller]
+            fn $assign(&mut self, other: i64) {
+                *self = expect(self.$checked(&Ratio::from(other)), $reason);
             }
         }
 
@@ -50,6 +61,18 @@ macro_rules! operator {
             #[track_caller]
             fn $method(self, other: $B) -> Ratio {
                 expect(Ratio::$checked(&self, &other), $reason)
+            }
+        }
+    };
+    (@by_integer $Operator:ident $method:ident $checked:ident
+        $reason:literal $docs:literal $A:ty) => {
+        #[doc = $docs]
+        impl $Operator<i64> for $A {
+            type Output = Ratio;
+
+            #[track_caller]
+            fn $method(self, other: i64) -> Ratio {
+                expect(Ratio::$checked(&self, &Ratio::from(other)), $reason)
             }
         }
     };

@@ -1,6 +1,6 @@
-//! Fractions of the integers of at most 32 bits, and integers of fractions.
+//! Fractions of integers, and integers of fractions.
 
-use crate::ratio64::Ratio;
+use crate::ratio64::{Ratio, RatioError};
 use crate::errors::Error;
 use core::fmt;
 
@@ -15,7 +15,7 @@ use core::fmt;
 /// assert_eq!(u8::try_from(Ratio::from(255i64)), Ok(255));
 /// assert!(u8::try_from(Ratio::new(255, 2).unwrap()).is_err());
 /// ```
-#[derive(Debug, Clone, Copy, PartialEq, Eq)]
+#[derive(Debug, Clone, Copy, PartialEq, Eq, Hash)]
 pub struct TryFromRatioError(());
 
 impl fmt::Display for TryFromRatioError {
@@ -37,6 +37,24 @@ macro_rules! from_integer {
 }
 
 from_integer!(i8 i16 i32 u8 u16 u32);
+
+macro_rules! try_from_integer {
+    ($($Integer:ty)*) => {$(
+        /// The error [`RatioError::NotFitting`] if the number does not fit an `i64`.
+        impl TryFrom<$Integer> for Ratio {
+            type Error = RatioError;
+
+            fn try_from(number: $Integer) -> Result<Ratio, RatioError> {
+                match i64::try_from(number) {
+                    Ok(number) => Ok(Ratio::from(number)),
+                    Err(_) => Err(RatioError::NotFitting),
+                }
+            }
+        }
+    )*};
+}
+
+try_from_integer!(u64 i128 u128 isize usize);
 
 macro_rules! try_into_integer {
     ($($Integer:ty)*) => {$(

@@ -1,0 +1,162 @@
+-- The strings of decimal numbers: what they spell.
+use Rattle.std.specs.Prelude.{⊤, ◌≡◌, ◌≢◌, ◌+◌, ◌*◌, ◌/◌, ◌%◌, ◌^◌, ◌<◌, ◌++◌, ◌==◌, ℕ, zero, suc, ℤ, pos, negsuc, List, [], ◌∷◌, false, true, length, unsigned_abs, FitsSigned}
+use Rattle.std.specs.Char.{digit_value}
+use Rattle.std.specs.Fmt.{decimal, sign_text}
+use Rattle.std.specs.Int.{is_negative, w128}
+use Rattle.std.specs.Str.Parse.{AllDigits, IsNumeral, digits_value}
+use Rattle.std.proofs.Common.{append_assoc, arith, ap, inl, inr, refl, subst, sym, ◌∙◌}
+use Rattle.std.proofs.lemmas.Bool.{cases_Bool}
+use Rattle.std.proofs.lemmas.Bool.Decides.{nat_tests}
+use Rattle.std.proofs.lemmas.Fmt.{decimal_is_IsNumeral_wide}
+use Rattle.std.proofs.lemmas.Int.{ints}
+use Rattle.std.proofs.lemmas.Int.Digits.{digits_value_push}
+use Rattle.std.proofs.lemmas.List.{append-nil, length-append}
+use Rattle.std.proofs.lemmas.Str.{digit_value_digit}
+use Rattle.std.proofs.lemmas.Str.Parse.{digit_from_value}
+use Rattle.std.proofs.Math.Nat.{div-div-eq-div-mul, div-le_self, pow-succ'}
+use Rattle.ratio64.proofs.ReadTexts.{numeral_without_minus}
+use Rattle.ratio64.specs.Decimal.{SpellsDecimal, last_digits}
+use Rattle.ratio64.specs.Laws.{DecimalIsSpelled, SpelledDecimalIsOnly}
+use Rattle.ratio64.specs.RatioText.{SpellsWhole, unsigned_part, whole_of}
+
+-- ---- the digits of a number, in two pieces
+
+pub length_last : (k n : ℕ) → length (last_digits k n) ≡ k
+unfolding last_digits
+length_last zero n = refl
+length_last (suc k) n = length-append (last_digits k (n / 10)) ((48 + n % 10) ∷ []) ∙ omega (arith, length_last k (n / 10))
+
+digits_pushed : (ds : List ℕ) (d : ℕ) → AllDigits 10 ds → d < 10 → AllDigits 10 (ds ++ (48 + d) ∷ [])
+digits_pushed [] d h small = (omega (arith, digit_value_digit (48 + d) (omega arith, omega arith)), tt)
+digits_pushed (c ∷ cs) d h small = (h.0, digits_pushed cs d h.1 small)
+
+-- the first digits and the last ones are digits of the number
+pub in_pieces : (k n : ℕ) → n < 10 ^ 64 → IsNumeral 10 (decimal (n / 10 ^ k) ++ last_digits k n) × (digits_value 10 (decimal (n / 10 ^ k) ++ last_digits k n) ≡ n)
+unfolding last_digits
+in_pieces zero n small =
+    let whole : n / 10 ^ 0 ≡ n = omega arith in
+    rw (whole, append-nil (decimal n)) (decimal_is_IsNumeral_wide n small)
+in_pieces (suc k) n small =
+    let rest = in_pieces k (n / 10) (omega arith) in
+    let front = decimal (n / 10 / 10 ^ k) ++ last_digits k (n / 10) in
+    let last = 48 + n % 10 in
+    let whole : n / 10 ^ suc k ≡ n / 10 / 10 ^ k = rw (pow-succ' 10 k) (sym (div-div-eq-div-mul n 10 (10 ^ k))) in
+    let joined : decimal (n / 10 / 10 ^ k) ++ (last_digits k (n / 10) ++ last ∷ []) ≡ front ++ last ∷ [] = sym (append_assoc (decimal (n / 10 / 10 ^ k)) (last_digits k (n / 10)) (last ∷ [])) in
+    let digit : digit_value last ≡ n % 10 = omega (arith, digit_value_digit last (omega arith, omega arith)) in
+    let long = length-append front (last ∷ []) in
+    let pushed = digits_value_push 10 front last in
+    rw (whole, joined) ((omega arith, digits_pushed front (n % 10) rest.0.1 (omega arith)), omega (arith, pushed, rest.1, digit))
+
+-- ---- a decimal number is spelled by its string
+
+below_tens : (units : ℤ) → FitsSigned w128 units → unsigned_abs units < 10 ^ 64
+below_tens (pos n) fits = let low = fits.sfits in omega arith
+below_tens (negsuc n) fits = let low = fits.sfits in omega arith
+
+plain_sign : (n : ℕ) → is_negative (pos n) ≡ false
+plain_sign n = grind (arith, ints)
+
+whole_numeral : (units : ℤ) (m : ℕ) → m < 10 ^ 64 → IsNumeral 10 (unsigned_part (sign_text (is_negative units) ++ decimal m))
+whole_numeral (pos n) m small =
+    let h = (decimal_is_IsNumeral_wide m small).0 in
+    rw (plain_sign n, numeral_without_minus (decimal m) h) h
+whole_numeral (negsuc n) m small = (decimal_is_IsNumeral_wide m small).0
+
+pieces_spelled : (units : ℤ) (k : ℕ) → unsigned_abs units < 10 ^ 64 → SpellsWhole (sign_text (is_negative units) ++ decimal (unsigned_abs units / 10 ^ k) ++ last_digits k (unsigned_abs units)) units
+pieces_spelled (pos n) k small =
+    let h = in_pieces k n small in
+    let plain = numeral_without_minus (decimal (n / 10 ^ k) ++ last_digits k n) h.0 in
+    rw (plain_sign n) (record { digits = rw plain h.0; value = rw plain (ap pos (sym h.1)) })
+pieces_spelled (negsuc n) k small =
+    let h = in_pieces k (suc n) small in
+    record { digits = h.0; value = rw h.1 refl }
+
+pub decimal_spelled : DecimalIsSpelled
+decimal_spelled units places fits =
+    let small = below_tens units fits in
+    record {
+      whole = sign_text (is_negative units) ++ decimal (unsigned_abs units / 10 ^ places);
+      part = last_digits places (unsigned_abs units);
+      parts = refl;
+      part_places = length_last places (unsigned_abs units);
+      whole_digits = whole_numeral units (unsigned_abs units / 10 ^ places) (omega (arith, div-le_self (unsigned_abs units) (10 ^ places)));
+      spelled = pieces_spelled units places small;
+    }
+
+-- ---- a string is cut at its only point
+
+Lacks : List ℕ → Type 0
+Lacks [] = ⊤
+Lacks (c ∷ cs) = (c ≢ 46) × Lacks cs
+
+digits_lack : (ds : List ℕ) → AllDigits 10 ds → Lacks ds
+unfolding Lacks
+digits_lack [] h = tt
+digits_lack (c ∷ cs) h = (λ e. omega (arith, digit_from_value c h.0), digits_lack cs h.1)
+
+integer_lacks : (text : List ℕ) → IsNumeral 10 (unsigned_part text) → Lacks text
+unfolding Lacks
+integer_lacks [] h = tt
+integer_lacks (c ∷ cs) h = elim (cases_Bool (c == 45)) [
+  | inl minus ↦
+      let digits = rw minus at h in
+      let is : c ≡ 45 = grind (arith, nat_tests) in
+      (λ e. omega arith, digits_lack cs digits.1)
+  | inr plain ↦ let digits = rw plain at h in digits_lack (c ∷ cs) digits.1
+]
+
+no_point : (w a : List ℕ) → ¬ (Lacks (w ++ (46 ∷ a)))
+unfolding Lacks
+no_point [] a h = h.0 refl
+no_point (c ∷ cs) a h = no_point cs a h.1
+
+one_cut : (w v a b : List ℕ) → Lacks w → Lacks v → w ++ (46 ∷ a) ≡ v ++ (46 ∷ b) → (w ≡ v) × (a ≡ b)
+unfolding Lacks
+one_cut [] [] a b g h e = (refl, cc)
+one_cut [] (y ∷ ys) a b g h e = let same : y ≡ 46 = cc in absurd (h.0 same)
+one_cut (x ∷ xs) [] a b g h e = let same : x ≡ 46 = cc in absurd (g.0 same)
+one_cut (x ∷ xs) (y ∷ ys) a b g h e =
+    let first : x ≡ y = cc in
+    let behind : xs ++ (46 ∷ a) ≡ ys ++ (46 ∷ b) = cc in
+    let rest = one_cut xs ys a b g.1 h.1 behind in
+    (rw (first, rest.0) refl, rest.1)
+
+none_long : (ds : List ℕ) → length ds ≡ 0 → ds ≡ []
+none_long [] e = refl
+none_long (d ∷ ds) e = absurd (omega arith)
+
+module _ {text : List ℕ} {units : ℤ} {places : ℕ} (s : SpellsDecimal text units places) where
+  alone : (places == 0) ≡ true → (text ≡ s.whole) × (s.part ≡ [])
+  alone none =
+      let zero_places : places ≡ 0 = grind (arith, nat_tests) in
+      let part = none_long s.part (s.part_places ∙ zero_places) in
+      let parts = rw (none, part) at s.parts in
+      (parts ∙ append-nil (s.whole ++ []) ∙ append-nil s.whole, part)
+
+  pointed : (places == 0) ≡ false → text ≡ s.whole ++ (46 ∷ s.part)
+  pointed some = rw some at s.parts ∙ append_assoc s.whole (46 ∷ []) s.part
+
+  spelled_lacks : Lacks s.whole
+  spelled_lacks = integer_lacks s.whole s.whole_digits
+
+same_parts : {text : List ℕ} {u v : ℤ} {p q : ℕ} (s : SpellsDecimal text u p) (t : SpellsDecimal text v q) → (s.whole ≡ t.whole) × (s.part ≡ t.part)
+same_parts {p = p} {q = q} s t = elim (cases_Bool (p == 0)) [
+  | inl first ↦ elim (cases_Bool (q == 0)) [
+    | inl second ↦
+        let left = alone s first in
+        let right = alone t second in
+        (sym left.0 ∙ right.0, left.1 ∙ sym right.1)
+    | inr second ↦ absurd (no_point t.whole t.part (subst Lacks (sym (alone s first).0 ∙ pointed t second) (spelled_lacks s)))
+  ]
+  | inr first ↦ elim (cases_Bool (q == 0)) [
+    | inl second ↦ absurd (no_point s.whole s.part (subst Lacks (sym (alone t second).0 ∙ pointed s first) (spelled_lacks t)))
+    | inr second ↦ one_cut s.whole t.whole s.part t.part (spelled_lacks s) (spelled_lacks t) (sym (pointed s first) ∙ pointed t second)
+  ]
+]
+
+pub only_spelled_decimal : SpelledDecimalIsOnly
+only_spelled_decimal = λ text units places s. λ (u, p) t.
+    let same = same_parts t s in
+    let value : u ≡ units = t.spelled.value ∙ rw (same.0, same.1) (sym s.spelled.value) in
+    let count : p ≡ places = sym t.part_places ∙ ap (λ (ds : List ℕ). length ds) same.1 ∙ s.part_places in
+    rw (value, count) refl
