@@ -72,6 +72,8 @@
 //! - `YieldsFirstBy f rest s r t`: `next` takes the first of the items `rest s` off, and returns it
 //!   in `r`: `rest t` are the others
 //! - `codes "a"`, `decimal n`, `signed_decimal z`: the bytes of a string; of a number
+//! - `is_negative z`, `sign_text b`: whether z is negative; `-` if b is true, and otherwise the
+//!   empty string
 //! - `starts_with_minus t`, `IsNumeral 10 t`, `digits_value 10 t`: the string begins with `-`; it
 //!   is one or more digits; their number
 
@@ -798,6 +800,54 @@ pub mod modular {
 
 pub mod ratio64 {
     //! Words of fractions.
+    //! ## `units_of`
+    //! The units of a decimal number are the number times 10^places. Examples: of 246.80: 24680; of
+    //! -0.05: -5; of 7: 7.
+    //! ```text
+    //! abbrev pub units_of : Decimal → ℤ
+    //! units_of x = x.units
+    //! ```
+    //! ## `places_of`
+    //! The places of a decimal number are its digits after the point. Examples: of 246.80: 2; of 7:
+    //! 0.
+    //! ```text
+    //! abbrev pub places_of : Decimal → ℕ
+    //! places_of x = x.places
+    //! ```
+    //! ## `IsDecimalOf`
+    //! x is the nearest to n/d of the decimal numbers with so many places. Of two that are equally
+    //! near, it is the one whose units are even. Examples: 1234/5 with 2 places: 246.80; 1/8 with
+    //! 2: 0.12; -1/20 with 1: 0.0.
+    //! ```text
+    //! pub record IsDecimalOf (n d : ℤ) (places : ℕ) (x : Decimal) : Type 0 where
+    //!   pub places_are : places_of x ≡ places
+    //!   pub rounded : IsRoundedEven (n *ℤ pos (10 ^ places)) d (units_of x)
+    //! ```
+    //! ## `last_digits`
+    //! These are the last decimal digits of the number. Examples: two of 5: `05`; two of 24680:
+    //! `80`; none of 7: the empty string.
+    //! ```text
+    //! unfoldable pub last_digits : ℕ → ℕ → List ℕ
+    //! last_digits zero n = []
+    //! last_digits (suc k) n = last_digits k (n / 10) ++ (48 + n % 10) ∷ []
+    //! ```
+    //! ## `point`
+    //! This is a point if there are places after it. Examples: 2: `.`; 0: the empty string.
+    //! ```text
+    //! abbrev pub point : ℕ → List ℕ
+    //! point places = if places == 0 then [] else codes "."
+    //! ```
+    //! ## `decimal_text`
+    //! The string of a decimal number is a minus if it is negative, the digits of its integer part,
+    //! and a point and the digits after it if there are any. Examples: 24680 and 2 places:
+    //! `246.80`; -5 and 2: `-0.05`; 7 and 0: `7`.
+    //! ```text
+    //! abbrev pub decimal_text : ℤ → ℕ → List ℕ
+    //! decimal_text units places =
+    //!     let size = unsigned_abs units in
+    //!         sign_text (is_negative units) ++ decimal (size / 10 ^ places) ++ point places ++
+    //!         last_digits places size
+    //! ```
     //! ## `IsFraction`
     //! The denominator of the fraction num/den is not 0. Examples: 6/-4; 0/5; not 1/0.
     //! ```text
@@ -1001,6 +1051,14 @@ pub mod ratio64 {
     //!   pub nearest : 2 * unsigned_abs (n -ℤ r *ℤ d) ≤ unsigned_abs d
     //!     pub tie : 2 * unsigned_abs (n -ℤ r *ℤ d) ≡ unsigned_abs d → unsigned_abs n <
     //!       unsigned_abs (r *ℤ d)
+    //! ```
+    //! ## `IsRoundedEven`
+    //! r is the integer nearest to n/d. Of two that are equally near, it is the even one. Examples:
+    //! 7 and 3: 2; 5 and 2: 2; 7 and 2: 4; -3 and 2: -2.
+    //! ```text
+    //! pub record IsRoundedEven (n d r : ℤ) : Type 0 where
+    //!   pub nearest : 2 * unsigned_abs (n -ℤ r *ℤ d) ≤ unsigned_abs d
+    //!   pub tie : 2 * unsigned_abs (n -ℤ r *ℤ d) ≡ unsigned_abs d → IsEven r
     //! ```
     //! ## `AnswersInParts`
     //! The result is that of number/parts, for a number with the property. Examples: in quarters,

@@ -4,8 +4,7 @@
 
 use crate::bounded_coefficients::{coefficient_within, RunningMultinomial};
 use crate::integer_core::operators::{difference, is_minus_one, is_negative, is_zero};
-use crate::integer_core::Magnitudes;
-use crate::integer_core::{Integer, NativeInteger};
+use crate::integer_core::{Integer, Magnitudes, NativeInteger};
 use crate::sign_magnitude::{product_is_within, sum_is_within};
 
 /// Tests whether a call may be made with its arguments. `7.quotient_fits(&0)` is `false`, so

@@ -18,7 +18,7 @@ mod stein;
 use bezout::extended_gcd_counted;
 pub use bezout::ExtendedGcd;
 use guards::Reason;
-pub(crate) use native::Magnitudes;
+pub use native::Magnitudes;
 pub use native_integer::NativeInteger;
 use num_traits::{Num, Signed};
 use operators::{difference, is_zero, predecessor, successor, sum};

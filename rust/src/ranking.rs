@@ -189,6 +189,7 @@ pub fn next_choice(choice: &mut [u64], n: u64) -> bool {
 
 /// Returns the first place whose number can be increased by 1 and stay below the number after it,
 /// or below `n` at the last place.
+#[track_caller]
 #[allow(clippy::manual_find)] // as it was proved
 fn first_to_rise(choice: &[u64], n: u64) -> Option<usize> {
     for place in 0..choice.len() {

@@ -2,6 +2,7 @@
 // It also has what rust/by_hand/src/ratio64.rs adds.
 //! Exact fractions of 64-bit integers, always in lowest terms.
 
+mod decimal;
 mod error;
 mod fraction;
 mod neighbours;
@@ -10,6 +11,7 @@ mod parse;
 mod reduction;
 
 pub use conversions::TryFromRatioError;
+pub use decimal::Decimal;
 pub use error::RatioError;
 pub use fraction::Ratio;
 pub use parse::ParseRatioError;

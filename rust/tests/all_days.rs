@@ -111,39 +111,29 @@ fn each_day_of_its_year() {
 /// Week 1 is the one that has 4 January. The first Monday is 3 January of year -800.
 #[test]
 fn each_day_of_its_week() {
-    let mut week = IsoWeek {
-        year: -801,
-        week: 52,
-    };
+    let mut week = IsoWeek::new(-801, 52).expect("the year has this week");
     for (day, year, month, day_of_month) in days(-800, 1600, FIRST) {
         let weekday = weekday_at(day);
         if weekday == Weekday::Monday {
             let begins = matches!((month, day_of_month), (12, 29..) | (1, ..=4));
             let next = if begins {
-                (week.year + 1, 1)
+                (week.year() + 1, 1)
             } else {
-                (week.year, week.week + 1)
+                (week.year(), week.week() + 1)
             };
-            week = IsoWeek {
-                year: next.0,
-                week: next.1,
-            };
+            week = IsoWeek::new(next.0, next.1).expect("the year has this week");
         }
         let found = date(year, month, day_of_month);
         assert_eq!(found.iso_week(), Some(week), "{day}");
         assert_eq!(
-            Date::from_iso_week(week.year, week.week, weekday),
+            Date::from_iso_week(week.year(), week.week(), weekday),
             Some(found),
             "{day}"
         );
         if (month, day_of_month) == (12, 28) {
-            assert_eq!(
-                week,
-                IsoWeek {
-                    year,
-                    week: weeks_in_year(year)
-                }
-            );
+            assert_eq!(Some(week), IsoWeek::new(year, weeks_in_year(year)));
+            let numbers = (0..=255).filter(|number| IsoWeek::new(year, *number).is_some());
+            assert!(numbers.eq(1..=week.week()), "{year}");
         }
     }
 }

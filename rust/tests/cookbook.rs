@@ -139,11 +139,7 @@ fn tasks_on_dates() {
         age_in_months(&date("2000-01-31"), &date("2000-02-29")),
         Some(1)
     );
-    let week = IsoWeek {
-        year: 2026,
-        week: 53,
-    };
-    assert_eq!(week_of(&date("2027-01-01")), Some(week));
+    assert_eq!(week_of(&date("2027-01-01")), IsoWeek::new(2026, 53));
 }
 
 #[test]

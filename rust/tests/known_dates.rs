@@ -173,9 +173,14 @@ fn days_later() {
 
 /// Returns `true` if the date is that of the week and of the day of the week, and both those of the date.
 fn has_week(date: &Date, week: IsoWeek, weekday: Weekday) -> bool {
-    Date::from_iso_week(week.year, week.week, weekday) == Some(*date)
+    Date::from_iso_week(week.year(), week.week(), weekday) == Some(*date)
         && date.iso_week() == Some(week)
         && date.weekday() == weekday
+}
+
+/// Returns the week of the year, which has it.
+fn week_of(year: i64, week: u8) -> IsoWeek {
+    IsoWeek::new(year, week).expect("the year has this week")
 }
 
 /// The parts of a date, and the year, the week and the day of the week.
@@ -217,7 +222,7 @@ const NO_WEEKS: [(i64, u8, Weekday); 9] = [
 #[test]
 fn known_weeks() {
     for &(parts, (year, week, weekday)) in &WEEKS {
-        let is_known = has_week(&date(parts), IsoWeek { year, week }, weekday);
+        let is_known = has_week(&date(parts), week_of(year, week), weekday);
         holds_at(is_known, &("iso_week", parts));
     }
     for &(year, week, weekday) in &NO_WEEKS {
@@ -243,16 +248,16 @@ const HAS_WEEK: [(i64, u8, bool); 10] = [
 #[test]
 fn weeks_by_number() {
     for &(year, week, is_there) in &HAS_WEEK {
-        let expected = is_there.then_some(IsoWeek { year, week });
-        let is_known = IsoWeek::new(year, week) == expected;
-        holds_at(is_known, &("IsoWeek::new", year, week));
+        let expected = is_there.then_some((year, week));
+        let found = IsoWeek::new(year, week).map(|found| (found.year(), found.week()));
+        holds_at(found == expected, &("IsoWeek::new", year, week));
     }
     for &(parts, (year, week, weekday)) in &WEEKS {
-        let found = IsoWeek { year, week }.date_on(weekday);
+        let found = week_of(year, week).date_on(weekday);
         holds_at(found == Some(date(parts)), &("date_on", parts));
     }
     for &(year, week, weekday) in &NO_WEEKS {
-        let found = IsoWeek { year, week }.date_on(weekday);
+        let found = IsoWeek::new(year, week).and_then(|week| week.date_on(weekday));
         holds_at(found.is_none(), &("date_on", year, week, weekday));
     }
 }
@@ -281,8 +286,9 @@ const NAMES: [(Weekday, &str); 7] = [
 #[test]
 fn strings_of_weeks() {
     for &(year, week, string) in &STRINGS_OF_WEEKS {
-        let printed = IsoWeek { year, week }.to_string();
-        holds_at(printed == string, &("to_string", string));
+        let week = week_of(year, week);
+        holds_at(week.to_string() == string, &("to_string", string));
+        holds_at(string.parse() == Ok(week), &("parse", string));
     }
     for &(weekday, name) in &NAMES {
         let is_read = name.parse() == Ok(weekday);

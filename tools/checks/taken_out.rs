@@ -5,7 +5,7 @@ extern crate std;
 
 use crate::guards as tests;
 use crate::integer_core::guards;
-use crate::integer_core::Integer;
+use crate::integer_core::{Integer, Magnitudes};
 use std::sync::OnceLock;
 
 fn is_out(number: usize) -> bool {
@@ -48,6 +48,20 @@ pub(crate) fn product_or<T: Integer>(number: usize, a: T, b: T, reason: &'static
         a * b
     } else {
         guards::product_or(a, b, reason)
+    }
+}
+
+/// Without the test the number wraps.
+#[track_caller]
+pub(crate) fn number_or<T: Magnitudes>(
+    number: usize,
+    magnitude: T::Magnitude,
+    reason: &'static str,
+) -> T {
+    if is_out(number) {
+        T::from_magnitude(magnitude)
+    } else {
+        guards::number_or(magnitude, reason)
     }
 }
 

@@ -30,10 +30,13 @@ PRELUDE = Path(__file__).parent / 'prelude'
 JOBS = 2
 SECONDS = '300'                                 # for a build and the calls of a program
 # The clauses of its traits.
-OF_TRAITS = {'cmp', 'from_gives', 'from_str_gives', 'is_default', 'output', 'partial_cmp', 'steps'}
+OF_TRAITS = {'add_gives', 'cmp', 'from_gives', 'from_str_gives', 'is_default', 'output', 'partial_cmp', 'steps', 'sub_gives'}
 # By crate and file: code, and what it becomes. Rust cuts off what does not fit, where Rattle has a condition.
-CHANGED = {('integer_core', 'src/native.rt'): (
-    ('        magnitude.as_()\n', '        <Self as NumCast>::from(magnitude.to_128_bits()).expect("attempt to narrow with overflow")\n'),)}
+CHANGED = {('integer_core', 'src/native.rt'): ((
+    '        magnitude.as_()\n',
+    '        let number: Self = magnitude.as_();\n'
+    '        assert!(number >= zero() && number.magnitude() == magnitude, "attempt to narrow with overflow");\n'
+    '        number\n'),)}
 # By crate and a name: the files of prelude/ that the lines of the crate with that name get.
 PRELUDES = {('integer_core', 'Own('): ('own',), ('integer_roots', 'Own('): ('own', 'roots_of_own'), ('intcalc_core', 'writer('): ('sink', 'writer'),
             ('intcalc', 'writer('): ('writer',), ('intcalc', 'args('): ('args',)}

@@ -33,9 +33,6 @@ KEPT = {'allow', 'cfg_attr', 'cold', 'default', 'deprecated', 'derive', 'doc', '
 MACROS = {'matches', 'unreachable', 'write'}
 RATTLE = {'ghost', 'requires', 'ensures', 'final', 'prove', 'Drop'}
 LOOPS = ('while', 'for', 'loop', '{')
-# By crate, module and trait: a trait that no other crate can name, but which a public trait has above it. Its `final` functions stand
-# in a trait of this name, which no public trait has above it, so no other crate can call them. rust/by_hand exports it to the crate.
-APART = {('integer_core', 'native', 'Native'): 'Magnitudes'}
 
 
 class Eraser:
@@ -103,42 +100,11 @@ class Eraser:
             self.parameters(item)
         if item.kind in ('trait', 'impl', 'mod') and item.open:
             self.walk(item.word, item.open)
-            self.items(item.items, item)
-            if item.kind == 'trait' and self.key(item) in APART:
-                self.put_apart(item)
-            return None
+            return self.items(item.items, item)
         return self.walk(item.word, item.last)
-
-    def key(self, item: Item) -> tuple[str, str, str]:
-        return self.crate, '/'.join(self.module.path), item.name
 
     def is_test(self, item: Item) -> bool:
         return any(self.at(first + 2) == 'cfg' and self.at(first + 4) == 'test' for first, _ in item.attributes)
-
-    def put_apart(self, item: Item) -> None:
-        """Ends a trait before its functions, and begins the trait that has them."""
-        functions = [inner for inner in item.items if inner.kind == 'fn']
-        for inner in item.items[item.items.index(functions[0]):]:
-            if inner.kind != 'fn' or all(self.at(k) != 'final' for k in range(inner.first, inner.word)):
-                self.refuse(inner.word, f'`{inner.name}`, which is no `final` function, after one that stands apart')
-        name = APART[self.key(item)]
-        first = (self.source.docs(functions[0]) or [self.source.code[functions[0].first]])[0]
-        self.texts[first] = (f'}}\n\n/// What this crate alone calls of a `{item.name}`.\npub(crate) trait {name}: {item.name} {{\n'
-                             + self.texts[first])
-        self.write(item.last, f'}}\n\nimpl<T: {item.name}> {name} for T {{}}')
-
-    def import_apart(self) -> None:
-        """Imports the traits whose functions stand apart and are called in the file."""
-        code = ''.join(self.texts[i] for i in self.source.code)
-        for (crate, path, trait), name in APART.items():
-            module = self.library.modules.get((crate, tuple(path.split('/'))))
-            if module is None or module is self.module:
-                continue
-            [item] = [item for item in module.items if item.kind == 'trait' and item.name == trait]
-            names = '|'.join(inner.name for inner in item.items if inner.kind == 'fn')
-            if re.search(rf'(?:\.|::)(?:{names})\(', code):
-                use = next(item for item in self.module.items if item.kind == 'use')
-                self.put_before(use.first, f'use crate::{crate}::{name};\n')
 
     def only_returns(self, item: Item, owner: Item | None) -> bool:
         """Whether a call of the item is of no use where its result is not used: a public function that changes nothing.
@@ -300,7 +266,6 @@ class Eraser:
     def rust(self) -> str:
         """The file as Rust."""
         self.items(self.module.items)
-        self.import_apart()
         for k in range(len(self.source.code)):
             text = self.texts[self.source.code[k]]
             if text and (self.at(k) in RATTLE or self.kind(k) in ('sign', 'word') and not self.at(k).isascii()):
@@ -330,7 +295,7 @@ def head_of_root(library: RustLibrary, others: Iterable[str], rust: str) -> str:
 
 def texts_of(library: RustLibrary) -> dict[str, str]:
     """The texts of the files of the crate, by their place."""
-    for crate, name in {*WITHIN, *(key[:2] for key in APART)}:
+    for crate, name in WITHIN:
         if (crate, (name,)) not in library.modules:
             raise Unknown(f'tools/erase: crates/{crate} has no module `{name}`, which a table names')
     page, bounds = documentation.Page(library.folder), Bounds(library)

@@ -1,5 +1,6 @@
 -- Each day has a date, and is in a year and in a week.
-use Rattle.calendar.proofs.Common.{◌≡◌, ◌+◌, ◌*◌, ◌/◌, ◌<◌, ◌≤◌, ◌+ℤ◌, ◌-ℤ◌, ℕ, zero, suc, ℤ, pos, negsuc, unsigned_abs, ◌∙◌, arith, inl, inr, le_refl, refl, subst, cases_lt, ints}
+use Rattle.calendar.proofs.Common.{◌≡◌, ◌+◌, ◌*◌, ◌/◌, ◌<◌, ◌≤◌, ◌+ℤ◌, ◌-ℤ◌, ℕ, zero, suc, ℤ, pos, negsuc, unsigned_abs, FitsSigned, MatchOption, Option, Some, None, w64, ◌∙◌, ap, arith, inl, inr, le_refl, refl, subst, sym, cases_lt, ints}
+use Rattle.std.specs.Prelude.{IfSome, IsSome}
 use Rattle.calendar.specs.declared.date.Date.{Date}
 use Rattle.calendar.specs.declared.weekday.Weekday.TheVariants.{Thursday}
 use Rattle.calendar.specs.Dates.{number_of}
@@ -77,6 +78,16 @@ date_exists (pos n) = date_from_epoch n
 date_exists (negsuc n) =
     let (date, is) = date_from_epoch (146096 * (n + 1)) in
     (later date (negsuc n), omega (arith, ints, is, number_later date (negsuc n)))
+
+-- if the date of a day fits, a call that returns it returns it
+pub some_date : (o : Option Date) {day : ℤ} → MatchOption o ((date : Date) → number_of date ≡ day → ¬ (FitsSigned w64 date.year)) (λ date. number_of date ≡ day)
+    → ((date : Date) → number_of date ≡ day → FitsSigned w64 date.year) → IsSome o
+some_date None {day = day} beyond fits = let (date, is) = date_exists day in absurd (beyond date is (fits date is))
+some_date (Some date) own fits = refl
+
+pub this_date : (o : Option Date) (date : Date) (P : Type 0) {day : ℤ} → MatchOption o P (λ date. number_of date ≡ day) → IsSome o → IfSome o (λ found. found ≡ date) → number_of date ≡ day
+this_date None date P none there same = absurd (cc)
+this_date (Some found) date P own there same = ap number_of (sym same) ∙ own
 
 -- ---- its year
 

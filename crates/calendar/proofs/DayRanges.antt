@@ -1,5 +1,6 @@
 -- The days from one date to another: the first of them and the others, and how many they are.
-use Rattle.calendar.proofs.Common.{◌≡◌, ◌≤◌, ◌<ℤ◌, ◌≤ℤ◌, ◌+ℤ◌, ◌-ℤ◌, ℕ, zero, suc, ℤ, pos, List, [], ◌∷◌, length, unsigned_abs, int_max, ap, arith, inl, inr, refl, by_lt_z, clamps, linear, sizes}
+use Rattle.std.specs.Prelude.{not}
+use Rattle.calendar.proofs.Common.{Bool, IsTrue, true, false, ◌↔◌, from_not_less, ◌≡◌, ◌≤◌, ◌++◌, ◌<ℤ◌, ◌≤ℤ◌, ◌+ℤ◌, ◌-ℤ◌, ℕ, zero, suc, ℤ, pos, List, [], ◌∷◌, length, unsigned_abs, int_max, ap, arith, inl, inr, refl, by_lt_z, clamps, ints, linear, sizes}
 use Rattle.calendar.specs.declared.date.Date.{Date}
 use Rattle.calendar.specs.Dates.{day_numbers, number_of, numbers_from}
 use Rattle.calendar.proofs.DateOrder.{order}
@@ -26,6 +27,24 @@ first_of_days {first} {end} is = by_lt_z first end
 pub no_days : {first end : ℤ} → day_numbers first end ≡ [] → end ≤ℤ first
 no_days {first} {end} is = by_lt_z first end (λ before. let own = next_left first end before in absurd cc) (λ past. past)
 
+pub is_none : (earlier : Bool) (first end : ℤ) → IsTrue earlier ↔ (first <ℤ end) → IsTrue (not earlier) ↔ (day_numbers first end ≡ [])
+is_none true first end h = (λ t. absurd (cc), λ none. let past : end ≤ℤ first = no_days none in absurd (omega (arith, linear, h.0 refl)))
+is_none false first end h = (λ t. none_left first end (from_not_less (λ less. let wrong = h.1 less in absurd (cc))), λ none. refl)
+
+-- The list ends with the last of the numbers.
+numbers_end : (count : ℕ) (first : ℤ) → numbers_from (suc count) first ≡ numbers_from count first ++ (first +ℤ pos count) ∷ []
+unfolding numbers_from
+numbers_end zero first = ap (λ (n : ℤ). n ∷ []) (omega (arith, ints))
+numbers_end (suc count) first =
+    let same : first +ℤ pos 1 +ℤ pos count ≡ first +ℤ pos (suc count) = omega (arith, ints) in
+    ap (λ (xs : List ℤ). first ∷ xs) (rw same at (numbers_end count (first +ℤ pos 1)))
+
+pub last_left : (first end : ℤ) → first <ℤ end → day_numbers first end ≡ day_numbers first (end -ℤ pos 1) ++ (end -ℤ pos 1) ∷ []
+last_left first end before =
+    let more : unsigned_abs (int_max (pos 0) (end -ℤ first)) ≡ suc (unsigned_abs (int_max (pos 0) (end -ℤ pos 1 -ℤ first))) = omega (arith, sizes, clamps) in
+    let last : first +ℤ pos (unsigned_abs (int_max (pos 0) (end -ℤ pos 1 -ℤ first))) ≡ end -ℤ pos 1 = omega (arith, sizes, clamps) in
+    rw more (rw last at (numbers_end (unsigned_abs (int_max (pos 0) (end -ℤ pos 1 -ℤ first))) first))
+
 length-numbers : (count : ℕ) (first : ℤ) → length (numbers_from count first) ≡ count
 unfolding numbers_from
 length-numbers zero first = refl
@@ -41,4 +60,12 @@ none_later a b years month day less = elim ((order a b).1 less) [
   | inl year ↦ omega (arith, linear)
   | inr (same, inl later) ↦ omega (arith, b.valid.month_to_twelve)
   | inr (same, inr (at, later)) ↦ omega (arith, b.valid.day_to_last, (month_length_range b.year b.month b.valid.month_from_one b.valid.month_to_twelve).1)
+]
+
+-- and none earlier than 1 January of the first
+pub none_earlier : (a b : Date) → b.year ≤ℤ a.year → b.month ≤ 1 → b.day_of_month ≤ 1 → ¬ (number_of a <ℤ number_of b)
+none_earlier a b years month day less = elim ((order a b).1 less) [
+  | inl year ↦ omega (arith, linear)
+  | inr (same, inl later) ↦ omega (arith, a.valid.month_from_one)
+  | inr (same, inr (at, later)) ↦ omega (arith, a.valid.day_from_one)
 ]

@@ -1,5 +1,6 @@
 -- Numbers that fit an `i64`, or lie beyond it.
-use Rattle.calendar.proofs.Common.{◌≡◌, ℤ, FitsSigned, MatchOption, Option, Some, None, w64, SomeIff, subst, sym}
+use Rattle.calendar.proofs.Common.{◌≡◌, ℤ, FitsSigned, MatchOption, Option, Result, Ok, Err, Some, None, w64, SomeIff, subst, sym}
+use Rattle.std.specs.Result.{OkIff, result_ok}
 
 -- a number that is the only one, if it fits, and else no number that fits
 pub only_or_beyond : (P : ℤ → Type 0) (o : Option ℤ) {found : ℤ} → ((a b : ℤ) → P a → P b → a ≡ b) → SomeIff o (FitsSigned w64 found) found → P found → MatchOption o ((z : ℤ) → P z → ¬ (FitsSigned w64 z)) P
@@ -10,3 +11,8 @@ only_or_beyond P (Some x) only fits h = subst P (sym fits.1) h
 pub found_or_beyond : (P : ℤ → Type 0) (o : Option ℤ) {found : ℤ} → SomeIff o (FitsSigned w64 found) found → P found → MatchOption o ((z : ℤ) × P z × ¬ (FitsSigned w64 z)) P
 found_or_beyond P None {found} beyond h = (found, h, beyond)
 found_or_beyond P (Some x) fits h = subst P (sym fits.1) h
+
+-- the value of a conversion that succeeds if it fits
+pub some_from_ok : {A E : Type 0} (P : Type 0) (x : A) (r : Result A E) {o : Option A} → OkIff r P x → o ≡ result_ok r → SomeIff o P x
+some_from_ok P x (Ok n) h e = rw e h
+some_from_ok P x (Err d) h e = rw e h

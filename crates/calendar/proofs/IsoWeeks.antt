@@ -1,9 +1,12 @@
 -- The weeks of ISO 8601.
-use Rattle.calendar.proofs.Common.{◌≡◌, ◌+◌, ◌/◌, ◌%◌, ◌<◌, ◌≤ℤ◌, ◌<ℤ◌, ◌+ℤ◌, ◌-ℤ◌, ◌*ℤ◌, ℕ, ℤ, pos, negsuc, FitsSigned, MatchOption, Option, Some, None, w64, ap, arith, inl, inr, refl, subst, sym, cases_lt, ints, floored_by_range, floored_remainder_range, linear, IsFloored, IsRemainder}
+use Rattle.calendar.proofs.Common.{◌≡◌, ◌+◌, ◌/◌, ◌%◌, ◌<◌, ◌≤◌, ◌≤ℤ◌, ◌<ℤ◌, ◌+ℤ◌, ◌-ℤ◌, ◌*ℤ◌, ℕ, ℤ, pos, negsuc, FitsSigned, MatchOption, Option, Some, None, w64, ap, arith, inl, inr, refl, subst, sym, cases_lt, ints, floored_by_range, floored_remainder_range, linear, IsFloored, IsRemainder}
+use Rattle.std.proofs.Math.Logic.{∥∥₁_elim, ∥∥₁_prop}
+use Rattle.std.proofs.Props.{props}
+use mathlib.Core.HLevel.{is_prop→PathP}
 use Rattle.calendar.specs.declared.date.Date.{Date}
 use Rattle.calendar.specs.Dates.{number_of}
 use Rattle.calendar.specs.IsoWeeks.{HasIsoWeek, HasIsoWeeks, IsDayOfIsoWeek, IsInIsoWeek, IsThursdayOfWeek}
-use Rattle.calendar.specs.Laws.{IsoDayExists, IsoDayIsOnly, IsoWeekIsOnly, IsoWeeksAreOnly, OrderOfIsoWeeks, WeeksOfAYear, YearOfDayIsOnly}
+use Rattle.calendar.specs.Laws.{IsoDayExists, IsoDayIsOnly, IsoWeekIsOnly, IsoWeekOfNumbersIsOnly, IsoWeeksAreOnly, OrderOfIsoWeeks, WeeksOfAYear, YearOfDayIsOnly}
 use Rattle.calendar.specs.Years.{HasDay, days_in_year, first_day}
 use Rattle.calendar.specs.Weekday.{weekday_number}
 use Rattle.calendar.specs.Weeks.{HasWeekday}
@@ -76,6 +79,17 @@ week_range day year week h =
     let length = length_range year in
     let next = next_first_day year in
     (omega (arith, ints, h.of_year.from, h.from, h.before), omega (arith, ints, h.of_year.before, h.from))
+
+pub number_range : {year : ℤ} {week : ℕ} → ∥ HasIsoWeek year week ∥₁ → (1 ≤ week) × (week ≤ 53)
+number_range {year} {week} h = ∥∥₁_elim h (hlevel props) (λ k. week_range k.day year week k.in_week)
+
+-- weeks of the same year and number are the same
+pub of_numbers : IsoWeekOfNumbersIsOnly
+of_numbers a b years weeks = λ i. record {
+  year = years i;
+  week = weeks i;
+  valid = is_prop→PathP (λ i. ∥ HasIsoWeek (years i) (weeks i) ∥₁) (λ i. ∥∥₁_prop) a.valid b.valid i;
+}
 
 -- the days of an earlier week are before those of a later one
 pub ordered_weeks : OrderOfIsoWeeks

@@ -23,7 +23,7 @@ pub use Rattle.calendar.proofs.NextLastWeekdays.{next_last_weekday_exists, only_
 
 pub use Rattle.calendar.proofs.WeekdayPlaces.{first_exists as first_weekday_exists, last_exists as last_weekday_exists, next_weekdays as weekdays_follow, only_first as first_weekday_is_only, only_iso_number as iso_number_is_only, only_last as last_weekday_is_only, only_weekday as weekday_is_only}
 pub use Rattle.calendar.proofs.DatesOfDays.{iso_week_exists}
-pub use Rattle.calendar.proofs.IsoWeeks.{iso_day_exists, one_day as iso_day_is_only, one_number as iso_weeks_are_only, one_week as iso_week_is_only, ordered_weeks as order_of_iso_weeks, week_range as weeks_of_a_year}
+pub use Rattle.calendar.proofs.IsoWeeks.{iso_day_exists, of_numbers as iso_week_of_numbers_is_only, one_day as iso_day_is_only, one_number as iso_weeks_are_only, one_week as iso_week_is_only, ordered_weeks as order_of_iso_weeks, week_range as weeks_of_a_year}
 -- ---- Easter
 
 pub use Rattle.calendar.proofs.EasterSundays.{different_moons as full_moons_differ, earlier_moons as earlier_full_moons, only_easter as easter_is_only}

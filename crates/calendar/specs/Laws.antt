@@ -11,6 +11,7 @@ use Rattle.calendar.specs.Text.{text_of}
 use Rattle.calendar.specs.Weekday.{iso_number, weekday_number}
 use Rattle.calendar.specs.Weeks.{HasWeekday, IsFirstWeekday, IsLastWeekday}
 use Rattle.calendar.specs.declared.date.Date.{Date}
+use Rattle.calendar.specs.declared.iso_weeks.IsoWeek.{IsoWeek}
 use Rattle.calendar.specs.declared.weekday.Weekday.{Weekday}
 use Rattle.calendar.specs.declared.weekday.Weekday.TheVariants.{Thursday}
 
@@ -137,6 +138,10 @@ IsoWeekExists = (day : ℤ) → (year : ℤ) × (week : ℕ) × IsInIsoWeek day 
 -- Each day is in at most one week, of one year.
 abbrev pub IsoWeekIsOnly : Type 0
 IsoWeekIsOnly = (day y z : ℤ) (v w : ℕ) → IsInIsoWeek day y v → IsInIsoWeek day z w → (y ≡ z) × (v ≡ w)
+
+-- At most one `IsoWeek` has a given year and a given number of the week.
+abbrev pub IsoWeekOfNumbersIsOnly : Type 0
+IsoWeekOfNumbersIsOnly = (a b : IsoWeek) → a.year ≡ b.year → a.week ≡ b.week → a ≡ b
 
 -- Each week has each day of the week.
 abbrev pub IsoDayExists : Type 0

@@ -199,6 +199,20 @@ impl Date {
         Self::from_day_number(i64::from(day + rest) - EPOCH_IN_ERA_0).eras_later(era + eras)
     }
 
+    /// Returns the date `days` days before this one, or after it if `days` is negative, or `None` if its
+    /// year does not fit an `i64`. `Date::new(2000, 3, 1).unwrap().minus_days(1)` is
+    /// `Date::new(2000, 2, 29)`.
+    pub fn minus_days(&self, days: i64) -> Option<Self>
+        ensures { MatchOption result
+            ((date : Date) → number_of date ≡ number_of self.now -ℤ days → ¬ (FitsSigned w64 date.year))
+            (λ date. number_of date ≡ number_of self.now -ℤ days) }
+    {
+        let (era, day) = self.day_of_era();
+        let (before, rest) = eras_in_days(days);
+        let near = Self::from_day_number(i64::from(day) - i64::from(rest) - EPOCH_IN_ERA_0);
+        near.eras_later(era - before)
+    }
+
     /// Returns the date `eras` times 400 years after this one, or `None` if its year does not fit.
     fn eras_later(&self, eras: i64) -> Option<Self>
         ensures { MatchOption result (¬ (FitsSigned w64 (self.now.year +ℤ pos 400 *ℤ eras)))

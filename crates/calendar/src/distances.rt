@@ -30,6 +30,39 @@ impl Date {
         })
     }
 
+    /// Returns the number of days from this date to `to`, which is negative if `to` is earlier, or `None` if
+    /// it does not fit. `Date::from_day_number(5).days_between(&Date::from_day_number(3))` is `Some(-2)`.
+    pub fn days_between(&self, to: &Self) -> Option<i64>
+        ensures { SomeIff result (FitsSigned w64 (number_of to.now -ℤ number_of self.now))
+            (number_of to.now -ℤ number_of self.now) }
+    {
+        at_64_bits(to.wide_day_number() - self.wide_day_number())
+    }
+
+    /// Returns the number of whole months from this date to `to`, which is negative if `to` is earlier, or
+    /// `None` if it does not fit. It is the largest number of months after which this date has become one that
+    /// is not later than `to`.
+    /// `Date::new(2000, 1, 31).unwrap().months_between(&Date::new(2000, 2, 29).unwrap())` is `Some(1)`.
+    pub fn months_between(&self, to: &Self) -> Option<i64>
+        ensures { MatchOption result
+            ((months : ℤ) × IsMonthsBetween self.now to.now months × ¬ (FitsSigned w64 months))
+            (λ months. IsMonthsBetween self.now to.now months) }
+    {
+        at_64_bits(whole_months(self, to))
+    }
+
+    /// Returns the number of whole years from this date to `to`, which is negative if `to` is earlier, or
+    /// `None` if it does not fit. It is the largest number of years after which this date has become one that
+    /// is not later than `to`. In a common year 29 February becomes 28 February.
+    /// `Date::new(2000, 2, 29).unwrap().years_between(&Date::new(2025, 2, 28).unwrap())` is `Some(25)`.
+    pub fn years_between(&self, to: &Self) -> Option<i64>
+        ensures { MatchOption result
+            ((years : ℤ) × IsYearsBetween self.now to.now years × ¬ (FitsSigned w64 years))
+            (λ years. IsYearsBetween self.now to.now years) }
+    {
+        at_64_bits(div_floor(whole_months(self, to), 12))
+    }
+
     /// Returns the number of the month, counted from January of year 0.
     fn month_number(&self) -> i128
         ensures value { result ≡ month_number self.now.year self.now.month }
@@ -45,7 +78,7 @@ pub fn days_between(from: &Date, to: &Date) -> Option<i64>
     ensures { SomeIff result (FitsSigned w64 (number_of to.now -ℤ number_of from.now))
         (number_of to.now -ℤ number_of from.now) }
 {
-    at_64_bits(to.wide_day_number() - from.wide_day_number())
+    from.days_between(to)
 }
 
 /// Returns the number of whole months from `from` to `to`, which is negative if `to` is earlier, or `None`
@@ -57,7 +90,7 @@ pub fn months_between(from: &Date, to: &Date) -> Option<i64>
         ((months : ℤ) × IsMonthsBetween from.now to.now months × ¬ (FitsSigned w64 months))
         (λ months. IsMonthsBetween from.now to.now months) }
 {
-    at_64_bits(whole_months(from, to))
+    from.months_between(to)
 }
 
 /// Returns the number of whole years from `from` to `to`, which is negative if `to` is earlier, or `None`
@@ -69,7 +102,7 @@ pub fn years_between(from: &Date, to: &Date) -> Option<i64>
         ((years : ℤ) × IsYearsBetween from.now to.now years × ¬ (FitsSigned w64 years))
         (λ years. IsYearsBetween from.now to.now years) }
 {
-    at_64_bits(div_floor(whole_months(from, to), 12))
+    from.years_between(to)
 }
 
 /// Returns the number of whole months from `from` to `to`, which may not fit an `i64`.

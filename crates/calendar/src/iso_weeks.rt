@@ -17,18 +17,34 @@ use crate::{Date, Weekday};
 /// An ISO 8601 week, from Monday to Sunday. Its year is the year of its Thursday. Week 1 contains the first
 /// Thursday of the year. An earlier week is less than a later one.
 ///
-/// `Date::from_day_number(4).iso_week()` is `Some(IsoWeek { year: 1970, week: 2 })`.
+/// `Date::from_day_number(4).iso_week()` is `IsoWeek::new(1970, 2)`.
 #[derive(Debug, Clone, Copy, PartialEq, Eq, PartialOrd, Ord, Hash)]
 pub struct IsoWeek {
-    /// The year of the Thursday of the week.
     pub year: i64,
-    /// The number of the week in its year, from 1 to 52 or 53.
     pub week: u8,
+    pub ghost valid: { ∥ HasIsoWeek year week ∥₁ },
 }
 
 impl IsoWeek {
-    /// Returns a week of a year, or `None` if the year has no such week. `IsoWeek::new(2004, 53)` is
-    /// `Some(IsoWeek { year: 2004, week: 53 })`, and `IsoWeek::new(2005, 53)` is `None`.
+    /// Returns the year of the Thursday of the week. `IsoWeek::new(2004, 53).unwrap().year()` is `2004`.
+    pub const fn year(&self) -> i64
+        ensures { result ≡ self.now.year }
+    {
+        self.year
+    }
+
+    /// Returns the number of the week in its year, from 1 to 52 or 53.
+    /// `IsoWeek::new(2004, 53).unwrap().week()` is `53`.
+    pub const fn week(&self) -> u8
+        ensures week { result ≡ self.now.week }
+        ensures from_one { 1 ≤ result }
+        ensures to_53 { result ≤ 53 }
+    {
+        self.week
+    }
+
+    /// Returns a week of a year, or `None` if the year has no such week.
+    /// `IsoWeek::new(2004, 53).unwrap().week()` is `53`, and `IsoWeek::new(2005, 53)` is `None`.
     #[tactic(auto, using(crate::proofs::YearLengths::year_steps))]
     pub fn new(year: i64, week: u8) -> Option<Self>
         ensures { MatchOption result (¬ (HasIsoWeek year week))
@@ -41,9 +57,8 @@ impl IsoWeek {
         }
     }
 
-    /// Returns the date of `weekday` in this week. Returns `None` if the year has no such week, or if the year
-    /// of the date does not fit in `i64`. `IsoWeek { year: 2009, week: 53 }.date_on(Weekday::Sunday)` is
-    /// `Date::new(2010, 1, 3)`.
+    /// Returns the date of `weekday` in this week, or `None` if the year of the date does not fit in `i64`.
+    /// `IsoWeek::new(2009, 53).unwrap().date_on(Weekday::Sunday)` is `Date::new(2010, 1, 3)`.
     #[tactic(auto, using(crate::proofs::YearLengths::year_steps))]
     pub fn date_on(&self, weekday: Weekday) -> Option<Date>
         ensures { MatchOption result
@@ -57,7 +72,7 @@ impl IsoWeek {
 
 impl Date {
     /// Returns the ISO 8601 week of the date, or `None` if the year of the week does not fit in `i64`.
-    /// `Date::new(2005, 1, 1).unwrap().iso_week()` is `Some(IsoWeek { year: 2004, week: 53 })`.
+    /// `Date::new(2005, 1, 1).unwrap().iso_week()` is `IsoWeek::new(2004, 53)`.
     #[tactic(auto, using(crate::proofs::YearLengths::year_steps))]
     pub fn iso_week(&self) -> Option<IsoWeek>
         ensures week { MatchOption result

@@ -8,6 +8,7 @@ mod eras;
 mod feasts;
 mod iso_weeks;
 mod months;
+mod operators;
 mod text;
 mod weekday;
 mod weeks;

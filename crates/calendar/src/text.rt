@@ -46,7 +46,7 @@ impl Text for Date {
     }
 }
 
-/// Prints the week in the format of ISO 8601. `IsoWeek { year: 2004, week: 53 }.to_string()` is
+/// Prints the week in the format of ISO 8601. `IsoWeek::new(2004, 53).unwrap().to_string()` is
 /// `"2004-W53"`.
 impl fmt::Display for IsoWeek {
     ghost output = { λ week. Some (week_text week) };

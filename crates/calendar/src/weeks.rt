@@ -58,6 +58,24 @@ pub fn last_weekday_of_month(year: i64, month: u8, weekday: Weekday) -> Option<D
     }
 }
 
+impl Date {
+    /// Returns the first date after this one that is the last `weekday` of its month, or `None` if its year
+    /// does not fit an `i64`.
+    /// `Date::new(2026, 10, 30).unwrap().next_last_weekday(Weekday::Friday)` is `Date::new(2026, 11, 27)`.
+    pub fn next_last_weekday(&self, weekday: Weekday) -> Option<Self>
+        ensures { MatchOption result
+            ((date : Date) → IsNextLastWeekday self.now weekday date → ¬ (FitsSigned w64 date.year))
+            (λ date. IsNextLastWeekday self.now weekday date) }
+    {
+        let of_this_month = last_weekday(self.year, self.month, weekday);
+        if self.day_of_month < of_this_month.day_of_month {
+            return Some(of_this_month);
+        }
+        let next_month = self.plus_months(1)?;
+        Some(last_weekday(next_month.year, next_month.month, weekday))
+    }
+}
+
 /// Returns the first date after another that is the last `weekday` of its month, or `None` if its year does
 /// not fit an `i64`.
 /// `next_last_weekday(&Date::new(2026, 10, 30).unwrap(), Weekday::Friday)` is `Date::new(2026, 11, 27)`.
@@ -66,12 +84,7 @@ pub fn next_last_weekday(after: &Date, weekday: Weekday) -> Option<Date>
         ((date : Date) → IsNextLastWeekday after.now weekday date → ¬ (FitsSigned w64 date.year))
         (λ date. IsNextLastWeekday after.now weekday date) }
 {
-    let of_this_month = last_weekday(after.year, after.month, weekday);
-    if after.day_of_month < of_this_month.day_of_month {
-        return Some(of_this_month);
-    }
-    let next_month = after.plus_months(1)?;
-    Some(last_weekday(next_month.year, next_month.month, weekday))
+    after.next_last_weekday(weekday)
 }
 
 /// Returns the date of the last `weekday` of the month.

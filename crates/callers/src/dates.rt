@@ -1,9 +1,10 @@
 //! Functions that call `calendar`.
 
-ghost use Rattle.std.specs.Prelude.{◌≡◌, ◌⊎◌, ◌↔◌, ◌+◌, ◌-◌, ◌<◌, ◌≤◌, ◌<ℤ◌, ◌+ℤ◌, ◌-ℤ◌, FitsSigned, IfOk, IfSome, IsTrue, MatchOption, Ok, map, pos, slice_index, ℕ, ℤ};
+ghost use Rattle.std.specs.Prelude.{[], ◌∷◌, ◌++◌, ◌^◌, List, length, ◌≡◌, ◌⊎◌, ◌↔◌, ◌+◌, ◌-◌, ◌<◌, ◌≤◌, ◌<ℤ◌, ◌+ℤ◌, ◌-ℤ◌, FitsSigned, IfOk, IfSome, IsTrue, MatchOption, Ok, map, pos, slice_index, ℕ, ℤ};
 ghost use Rattle.std.specs.Int.{w64};
+ghost use Rattle.std.specs.Option.{SomeIff};
 ghost use Rattle.calendar.specs.Dates.{HasMonths, IsEarlier, IsLastWeekdayOfMonth, IsMonthsAfter, IsMonthsBetween, IsNextLastWeekday, IsNthWeekday, IsYearsBetween, day_numbers, number_of, year_day_of};
-ghost use Rattle.calendar.specs.IsoWeeks.{HasIsoWeeks, IsDayOfIsoWeek, IsInIsoWeek};
+ghost use Rattle.calendar.specs.IsoWeeks.{HasIsoWeek, HasIsoWeeks, IsDayOfIsoWeek, IsInIsoWeek};
 ghost use Rattle.calendar.specs.Months.{IsDate, days_in_month, month_number};
 ghost use Rattle.calendar.specs.Weekday.{iso_number};
 ghost use Rattle.calendar.specs.Weeks.{HasWeekday, IsFirstWeekday, IsLastWeekday};
@@ -257,7 +258,7 @@ pub fn week_of(date: &Date) -> Option<(i64, u8)>
         ((year : ℤ) (week : ℕ) → IsInIsoWeek (number_of date.now) year week → ¬ (FitsSigned w64 year))
         (λ r. IsInIsoWeek (number_of date.now) r.0 r.1) }
 {
-    let IsoWeek { year, week } = date.iso_week()?;
+    let IsoWeek { year, week, .. } = date.iso_week()?;
     Some((year, week))
 }
 
@@ -518,4 +519,125 @@ pub fn dates_until(alloc: Global, from: Date, end: Date) -> Result<Vec<Date>, Al
     ensures { IfOk result (λ v. map number_of v.items ≡ day_numbers (number_of from) (number_of end)) }
 {
     from.days_until(end).collect(alloc)
+}
+
+// ---- methods, operators and ranges of dates
+
+/// Returns the next date, whose year fits.
+pub fn day_after(date: Date) -> Date
+    requires { (next : Date) → number_of next ≡ number_of date +ℤ pos 1 → FitsSigned w64 next.year }
+    ensures { number_of result ≡ number_of date +ℤ pos 1 }
+{
+    date + 1
+}
+
+/// Returns the date a week earlier, whose year fits.
+pub fn a_week_earlier(date: Date) -> Date
+    requires { (earlier : Date) → number_of earlier ≡ number_of date -ℤ pos 7 → FitsSigned w64 earlier.year }
+    ensures { number_of result ≡ number_of date -ℤ pos 7 }
+{
+    date - 7
+}
+
+/// Moves the date a number of days on. The year of that date fits.
+pub fn postpone(due: &mut Date, days: i64)
+    requires { (later : Date) → number_of later ≡ number_of due.old +ℤ days → FitsSigned w64 later.year }
+    ensures { number_of due.new ≡ number_of due.old +ℤ days }
+{
+    *due += days;
+}
+
+/// Returns the days from the first date to the second, which fit.
+pub fn exact_nights(arrival: Date, departure: Date) -> i64
+    requires { FitsSigned w64 (number_of departure -ℤ number_of arrival) }
+    ensures { result ≡ number_of departure -ℤ number_of arrival }
+{
+    departure - arrival
+}
+
+/// Returns the days from the first date to the second, or `None` if they do not fit.
+pub fn checked_nights(arrival: &Date, departure: &Date) -> Option<i64>
+    ensures { SomeIff result (FitsSigned w64 (number_of departure.now -ℤ number_of arrival.now))
+        (number_of departure.now -ℤ number_of arrival.now) }
+{
+    arrival.days_between(departure)
+}
+
+/// Returns the whole months from the first date to the second. They are a number of months after the first date that
+/// leads to a date not later than the second. Returns `None` if they do not fit.
+pub fn whole_months(from: &Date, to: &Date) -> Option<i64>
+    ensures { IfSome result (λ months. HasMonths from.now to.now months) }
+{
+    match from.months_between(to) {
+        Some(months) => Some(months),
+        None => None,
+    }
+}
+
+/// Returns the age in whole years, or `None` if it does not fit.
+pub fn whole_years(born: &Date, today: &Date) -> Option<i64>
+    ensures { IfSome result (λ years. IsYearsBetween born.now today.now years) }
+{
+    born.years_between(today)
+}
+
+/// Returns the date `days` days earlier, or `None` if its year does not fit.
+pub fn days_earlier(date: &Date, days: i64) -> Option<Date>
+    ensures { MatchOption result
+        ((earlier : Date) → number_of earlier ≡ number_of date.now -ℤ days → ¬ (FitsSigned w64 earlier.year))
+        (λ earlier. number_of earlier ≡ number_of date.now -ℤ days) }
+{
+    match date.minus_days(days) {
+        Some(earlier) => Some(earlier),
+        None => None,
+    }
+}
+
+/// Returns the next date that is the last Friday of its month, or `None` if its year does not fit.
+pub fn next_payday(today: &Date) -> Option<Date>
+    ensures { MatchOption result
+        ((date : Date) → IsNextLastWeekday today.now Weekday.Friday date → ¬ (FitsSigned w64 date.year))
+        (λ date. IsNextLastWeekday today.now Weekday.Friday date) }
+{
+    today.next_last_weekday(Weekday::Friday)
+}
+
+/// Returns the last date that is not before `from` and is before `end`, or `None` if there is none.
+pub fn last_date(from: Date, end: Date) -> Option<Date>
+    ensures { MatchOption result (day_numbers (number_of from) (number_of end) ≡ [])
+        (λ last. (others : List ℤ) × (day_numbers (number_of from) (number_of end) ≡ others ++ number_of last ∷ [])) }
+{
+    from.days_until(end).next_back()
+}
+
+/// Returns how many dates there are from `from` on that are before `end`, or `None` if the number does not fit.
+pub fn number_of_dates(from: Date, end: Date) -> Option<usize>
+    ensures { SomeIff result (length (day_numbers (number_of from) (number_of end)) < 2 ^ 64)
+        (length (day_numbers (number_of from) (number_of end))) }
+{
+    from.days_until(end).len()
+}
+
+/// Returns `true` if no date from `from` on is before `end`.
+pub fn has_no_dates(from: Date, end: Date) -> bool
+    ensures { IsTrue result ↔ (day_numbers (number_of from) (number_of end) ≡ []) }
+{
+    from.days_until(end).is_empty()
+}
+
+/// Returns `true` if the year has the week.
+pub fn has_week(year: i64, week: u8) -> bool
+    ensures { IsTrue result ↔ HasIsoWeek year week }
+{
+    match IsoWeek::new(year, week) {
+        Some(_) => true,
+        None => false,
+    }
+}
+
+/// Returns the item of the week in a table of the 53 weeks of a year.
+pub fn of_week(week: &IsoWeek, table: &[u8; 53]) -> u8
+    ensures { result ≡ slice_index table.now (week.now.week - 1) }
+{
+    table[usize::from(week.week()) - 1]
 }

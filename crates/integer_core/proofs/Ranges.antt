@@ -1,9 +1,7 @@
 -- What fits, by the range of a type.
-use Rattle.integer_core.proofs.Common.{negsuc, ◌≡◌, ◌⊎◌, ◌≤ℤ◌, ◌<ℤ◌, ◌+ℤ◌, ◌-ℤ◌, natural, sym, ℕ, ℤ, pos, unsigned_abs, Width, ◌∙◌, arith, subst, linear, None, Option, Some, refl, sizes, IsLeastCommonMultiple, IsRange, EachFits}
+use Rattle.integer_core.proofs.Common.{negsuc, ◌≡◌, ◌⊎◌, ◌≤ℤ◌, ◌<ℤ◌, ◌+ℤ◌, ◌-ℤ◌, natural, sym, ℕ, ℤ, pos, unsigned_abs, Width, ◌∙◌, arith, subst, linear, sizes, IsLeastCommonMultiple, IsRange, EachFits}
 use Rattle.integer_core.specs.Between.{Between}
 use Rattle.integer_core.specs.NativeRanges.{IsNative}
-use Rattle.num_traits.specs.Laws.{Casts, Checks}
-use Rattle.std.specs.Prelude.{IfSome, IsSome}
 
 -- z lies between 0 and n
 abbrev pub LiesWithin : ℤ → ℤ → Type 0
@@ -28,25 +26,6 @@ no_minus_one range none fits_it = omega (arith, linear, (range.between (negsuc 0
 -- the distance of a negative number from -1
 pub distance_fits : {fits : ℤ → Type 0} {low high x : ℤ} → IsRange fits low high → fits x → x <ℤ pos 0 → fits (pos 0 -ℤ (x +ℤ pos 1))
 distance_fits {x = x} range x_fits negative = (range.between _).1 (omega (arith, linear, range.low_end, (range.between x).0 x_fits))
-
-module _ {T : Type 0} (value : T → ℤ) (fits : ℤ → Type 0) where
-  -- a checked number that fits is there
-  checked_gives : {z : ℤ} (r : Option T) → fits z → Checks value fits z r → IsSome r
-  checked_gives None z_fits checks = absurd (checks z_fits)
-  checked_gives (Some y) z_fits checks = refl
-
-  -- the checked number is the one that was asked for
-  checked_is : {z : ℤ} {n : T} (r : Option T) → fits z → Checks value fits z r → IfSome r (λ v. v ≡ n) → fits (value n) × (value n ≡ z)
-  checked_is None z_fits checks same = absurd (checks z_fits)
-  checked_is (Some y) z_fits checks same = rw (sym same, checks.1) (z_fits, refl)
-
-  -- a cast of a number that fits gives a number of the type
-  pub cast_gives : {z : ℤ} {from : Option ℤ} (r : Option T) → from ≡ Some z → fits z → Casts value fits from r → IsSome r
-  cast_gives r is z_fits casts = checked_gives r z_fits (rw is at casts).0
-
-  -- it is the number that was cast
-  pub cast_is : {z : ℤ} {n : T} {from : Option ℤ} (r : Option T) → from ≡ Some z → fits z → Casts value fits from r → IfSome r (λ v. v ≡ n) → fits (value n) × (value n ≡ z)
-  cast_is r is z_fits casts same = checked_is r z_fits (rw is at casts).0 same
 
 module _ {w : Width} {number : ℕ → ℤ} {fits wide : ℤ → Type 0} {low high : ℤ} (native : IsNative w number fits low high wide) where
   -- a number of the type that is not negative is a magnitude

@@ -6,6 +6,7 @@ ghost use Rattle.integer_core.specs.Bezout.{HasPair};
 ghost use Rattle.integer_core.specs.Divisors.{GcdFits, IsLeastCommonMultiple};
 ghost use Rattle.integer_core.specs.Range.{EachFits};
 
+use crate::native::{Magnitudes, Native};
 use crate::{Integer, plain};
 use num_traits::Num;
 
@@ -40,6 +41,15 @@ pub fn product_or<T: Num>(a: T, b: T, reason: &str) -> T
     ensures value { T.value result ≡ T.value a *ℤ T.value b }
 {
     plain::product(a, b)
+}
+
+/// Returns the non-negative number with this magnitude. In plain Rust it panics with the reason if the number does not fit.
+pub(crate) fn number_or<T: Native>(magnitude: T::Magnitude, reason: &str) -> T
+    requires number_fits { T.fits (T.Magnitude.value magnitude) }
+    ensures in_range { T.fits (T.value result) }
+    ensures value { T.value result ≡ T.Magnitude.value magnitude }
+{
+    T::from_magnitude(magnitude)
 }
 
 /// Says that the greatest common divisor and a pair of coefficients fit. In plain Rust it panics at a built-in type if they do not.

@@ -22,6 +22,7 @@ mod stein;
 
 pub use bezout::ExtendedGcd;
 use bezout::extended_gcd_counted;
+pub use native::Magnitudes;
 pub use native_integer::NativeInteger;
 use num_traits::{Num, Signed};
 use operators::{difference, is_zero, predecessor, successor, sum};

@@ -8,14 +8,11 @@ ghost use Rattle.integer_core.specs.NativeRanges.{IsNative, signed_native, unsig
 use crate::operators::{is_negative, zero};
 use crate::plain::{difference, successor};
 use crate::stein::Magnitude;
-use num_traits::{
-    AsPrimitive, Bounded, CheckedAdd, CheckedMul, CheckedSub, FixedWidth, Num, NumCast,
-};
+use num_traits::{AsPrimitive, Bounded, CheckedAdd, CheckedMul, CheckedSub, FixedWidth, Num};
 
 /// A native integer type. No other crate can name this trait.
 pub trait Native: Copy
     + Num
-    + NumCast
     + CheckedAdd
     + CheckedSub
     + CheckedMul
@@ -28,7 +25,10 @@ pub trait Native: Copy
 
     ghost native_law: { IsNative Self.width (λ n. Self.value (Self.of_bits n)) Self.fits Self.low
         Self.high Self.Magnitude.fits };
+}
 
+/// The absolute value of a number of a native type, and back. In plain Rust, no other crate can name this trait.
+pub trait Magnitudes: Native {
     /// Returns the absolute value.
     final fn magnitude(self) -> Self::Magnitude
         requires { Self.fits (Self.value self) }
@@ -59,6 +59,8 @@ pub trait Native: Copy
         magnitude.as_()
     }
 }
+
+impl<T: Native> Magnitudes for T {}
 
 impl Native for i8 {
     type Magnitude = u64;

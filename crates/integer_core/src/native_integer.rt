@@ -1,12 +1,12 @@
 //! `Integer` and `GcdCounted` for the native types.
 
 use crate::counted::GcdCounted;
-use crate::guards::some;
-use crate::native::Native;
+use crate::guards::number_or;
+use crate::native::{Magnitudes, Native};
 use crate::operators::{is_minus_one, zero};
 use crate::stein::{binary_gcd, gcd_lcm_of_magnitudes};
 use crate::{Integer, division, divisors};
-use num_traits::{PrimInt, cast};
+use num_traits::PrimInt;
 
 /// A native integer type: `i8` to `i128`, `u8` to `u128`, `isize` or `usize`. The trait is sealed: no other
 /// crate can implement it.
@@ -71,13 +71,13 @@ impl<T: Native> Integer for T {
 
     fn lcm(&self, other: &T) -> T {
         let lcm = gcd_lcm_of_magnitudes(self.magnitude(), other.magnitude()).1;
-        some(cast(lcm), "the least common multiple does not fit")
+        number_or(lcm, "the least common multiple does not fit")
     }
 
     fn gcd_lcm(&self, other: &T) -> (T, T) {
         let (gcd, lcm) = gcd_lcm_of_magnitudes(self.magnitude(), other.magnitude());
-        let gcd = some(cast(gcd), "the greatest common divisor does not fit");
-        let lcm = some(cast(lcm), "the least common multiple does not fit");
+        let gcd = number_or(gcd, "the greatest common divisor does not fit");
+        let lcm = number_or(lcm, "the least common multiple does not fit");
         (gcd, lcm)
     }
 }

@@ -11,12 +11,12 @@ ghost use Rattle.integer_core.specs.NativeRanges.{within_128_bits};
 ghost use Rattle.integer_core.specs.Range.{EachFits};
 ghost use Rattle.num_traits.specs.Ints.{unsigned-low};
 
-use crate::guards::{product_or, some};
-use crate::native::Native;
-use num_traits::{Bounded, Integral, cast};
+use crate::guards::{number_or, product_or};
+use crate::native::{Magnitudes, Native};
+use num_traits::{Bounded, Integral};
 
 /// A type of magnitudes, `u64` or `u128`, with the operations on bits that Stein's method needs.
-pub trait Magnitude: Copy + num_traits::NumCast + PartialOrd + Integral {
+pub trait Magnitude: Copy + PartialOrd + Integral {
     /// Returns `true` if the number is 0. `7.is_zero()` is `false`.
     fn is_zero(self) -> bool
         ensures { IsTrue result ↔ (Self.value self ≡ pos 0) };
@@ -346,7 +346,7 @@ pub(crate) fn binary_gcd<T: Native>(a: T, b: T) -> (T, u32)
     ensures gcd { IsCountedGcd T.Bounded.low (T.value a) (T.value b) (T.value result.0) result.1 }
 {
     let (gcd, turns) = gcd_of_magnitudes(a.magnitude(), b.magnitude(), has_smallest(a, b));
-    let gcd = some(cast(gcd), "the greatest common divisor does not fit");
+    let gcd = number_or(gcd, "the greatest common divisor does not fit");
     (gcd, turns)
 }
 

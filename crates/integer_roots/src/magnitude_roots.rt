@@ -8,8 +8,8 @@ ghost use Rattle.integer_roots.specs.SquareRuns.{AreSquareRootTurns};
 use crate::cube_root::cube_root;
 use crate::root_of_degree::root_of_degree;
 use crate::square_root::square_root_counted;
-use integer_core::NativeInteger;
 use integer_core::operators::{is_negative, negated, zero};
+use integer_core::{Magnitudes, NativeInteger};
 use num_traits::PrimInt;
 
 /// Returns the square root, and the number of iterations of its loops.

@@ -193,11 +193,7 @@ fn tasks_on_months_and_weeks(rt: HostRuntime) {
         Date::new(2000, 2, 29),
         Date::new(2027, 1, 1),
     ) {
-        let week = IsoWeek {
-            year: 2026,
-            week: 53,
-        };
         assert!(rt; due(&start) == Some(end) && age_in_months(&start, &end) == Some(1));
-        assert!(rt; week_of(&day) == Some(week));
+        assert!(rt; week_of(&day) == IsoWeek::new(2026, 53));
     }
 }

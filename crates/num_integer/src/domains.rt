@@ -11,7 +11,7 @@ ghost use Rattle.num_integer.specs.Multinomial.{IsMultinomial};
 use crate::bounded_coefficients::{RunningMultinomial, coefficient_within};
 use crate::sign_magnitude::{product_is_within, sum_is_within};
 use integer_core::operators::{difference, is_minus_one, is_negative, is_zero};
-use integer_core::{Integer, NativeInteger};
+use integer_core::{Integer, Magnitudes, NativeInteger};
 
 /// Tests whether a call may be made with its arguments. `7.quotient_fits(&0)` is `false`, so `7.div_rem(&0)`
 /// may not be called. Your own type implements `parts` and `ends`.

@@ -1,15 +1,17 @@
 -- Quotients by a positive number, and the nearest integer.
-use Rattle.std.specs.Prelude.{◌≡◌, ◌<◌, ◌≤◌, ◌*◌, ◌^◌, ◌<ℤ◌, ◌≤ℤ◌, ◌+ℤ◌, ◌-ℤ◌, ◌*ℤ◌, ℤ, pos, negsuc, neg_ℤ, unsigned_abs, FitsSigned, MatchOption, Option, Some, None}
+use Rattle.std.specs.Prelude.{◌≡◌, ◌⊎◌, ◌<◌, ◌≤◌, ◌*◌, ◌^◌, ◌<ℤ◌, ◌≤ℤ◌, ◌+ℤ◌, ◌-ℤ◌, ◌*ℤ◌, ℤ, pos, negsuc, neg_ℤ, unsigned_abs, FitsSigned, MatchOption, Option, Some, None}
 use Rattle.std.specs.Int.{Width, w64}
 use Rattle.std.proofs.Common.{ap, arith, inl, inr, subst, sym}
 use Rattle.std.proofs.lemmas.Int.{by_lt_z, ints}
-use Rattle.num_integer.proofs.ForCallers.{LiesWithin, expand, linear, multiples_apart, product_from_zero, products, sizes}
+use Rattle.num_integer.proofs.ForCallers.{LiesWithin, expand, floored_range, linear, multiples_apart, product_from_zero, products, sizes, zero_or_not}
+use Rattle.num_integer.proofs.Laws.{division_exists}
 use Rattle.num_integer.specs.Checked.{AnswersWhere}
-use Rattle.num_integer.specs.Division.{IsDivision, IsQuotient, IsTruncated}
+use Rattle.num_integer.specs.Division.{IsDivision, IsFloored, IsQuotient, IsTruncated}
+use Rattle.num_integer.specs.Divisors.{IsEven}
 use Rattle.num_integer.specs.Only.{IsOnly}
 use Rattle.num_integer.specs.Range.{EachFits}
-use Rattle.ratio64.specs.Laws.{RoundedIsOnly}
-use Rattle.ratio64.specs.Rounding.{IsRounded}
+use Rattle.ratio64.specs.Laws.{RoundedEvenIsOnly, RoundedIsOnly}
+use Rattle.ratio64.specs.Rounding.{IsRounded, IsRoundedEven}
 
 -- ---- a quotient by a positive number fits if the dividend does
 
@@ -72,6 +74,54 @@ rounded_apart {n} {d} {r} {s} up x y less =
 
 pub only_rounded : RoundedIsOnly
 only_rounded n d r up x s y = let least = rounded_apart up x y in let most = rounded_apart up y x in grind (arith, linear)
+
+-- ---- the nearest number, a tie to the even one
+
+pub rounded_even_division : {n d r : ℤ} → pos 0 <ℤ d → IsRoundedEven n d r → IsDivision n d r (n -ℤ r *ℤ d)
+rounded_even_division {n} {d} {r} up h = let near = h.nearest in record { equation = omega (arith, linear); small = omega (arith, sizes) }
+
+not_both_even : {q p : ℤ} → p ≡ q +ℤ pos 1 → IsEven q → ¬ (IsEven p)
+not_both_even next even other = let half = even.product in let other_half = other.product in omega (arith, products)
+
+even_or_next : (q : ℤ) → ¬ (IsEven q) → IsEven (q +ℤ pos 1)
+even_or_next q odd =
+    let half = division_exists.1 q (pos 2) (λ e. omega (arith, linear)) in
+    elim (zero_or_not half.1) [
+      | inl none ↦ absurd (odd (record { factor = half.0; product = omega (arith, products) }))
+      | inr one ↦ record { factor = half.0 +ℤ pos 1; product = omega (arith, products, sizes) }
+    ]
+
+-- the quotient rounded down, if less than half is left, or half and it is even
+pub rounded_even_below : {n d q r : ℤ} → pos 0 <ℤ d → IsFloored n d q r → ((r +ℤ r) <ℤ d) ⊎ ((r +ℤ r ≡ d) × IsEven q) → IsRoundedEven n d q
+rounded_even_below {n} {d} {q} {r} up h (inl less) =
+    let rest : n -ℤ q *ℤ d ≡ r = omega (arith, linear, h.division.equation) in
+    let range = floored_range up h in
+    record { nearest = rw rest (omega (arith, sizes)); tie = rw rest (λ e. absurd (omega (arith, sizes))) }
+rounded_even_below {n} {d} {q} {r} up h (inr (half, even)) =
+    let rest : n -ℤ q *ℤ d ≡ r = omega (arith, linear, h.division.equation) in
+    record { nearest = rw rest (omega (arith, sizes)); tie = λ _. even }
+
+-- otherwise the next one
+pub rounded_even_above : {n d q r : ℤ} → pos 0 <ℤ d → IsFloored n d q r → d ≤ℤ (r +ℤ r) → (r +ℤ r ≡ d → ¬ (IsEven q)) → IsRoundedEven n d (q +ℤ pos 1)
+rounded_even_above {n} {d} {q} {r} up h large odd =
+    let product : (q +ℤ pos 1) *ℤ d ≡ q *ℤ d +ℤ d = simp expand (omega (arith, products)) in
+    let rest : n -ℤ (q +ℤ pos 1) *ℤ d ≡ r -ℤ d = omega (arith, linear, h.division.equation, product) in
+    let range = floored_range up h in
+    record { nearest = rw rest (omega (arith, sizes)); tie = rw rest (λ e. even_or_next q (odd (omega (arith, sizes)))) }
+
+rounded_even_apart : {n d r s : ℤ} → pos 0 <ℤ d → IsRoundedEven n d r → IsRoundedEven n d s → ¬ (r <ℤ s)
+rounded_even_apart {n} {d} {r} {s} up x y less =
+    let near = x.nearest in
+    let other_near = y.nearest in
+    let apart = multiples_apart r s d up less in
+    let halves : (2 * unsigned_abs (n -ℤ r *ℤ d) ≡ unsigned_abs d) × (2 * unsigned_abs (n -ℤ s *ℤ d) ≡ unsigned_abs d) = (omega (arith, sizes), omega (arith, sizes)) in
+    let next : s ≡ r +ℤ pos 1 = by_lt_z (r +ℤ pos 1) s
+    (λ far. let more = multiples_apart (r +ℤ pos 1) s d up far in let one : (r +ℤ pos 1) *ℤ d ≡ r *ℤ d +ℤ d = simp expand (omega (arith, products)) in absurd (omega (arith, sizes)))
+    (λ fine. omega (arith, linear)) in
+    not_both_even next (x.tie halves.0) (y.tie halves.1)
+
+pub only_rounded_even : RoundedEvenIsOnly
+only_rounded_even n d r up x s y = let least = rounded_even_apart up x y in let most = rounded_even_apart up y x in grind (arith, linear)
 
 -- ---- an integer that is narrowed to 64 bits
 

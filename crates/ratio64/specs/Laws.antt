@@ -8,7 +8,7 @@ use Rattle.ratio64.specs.Fraction.{AreEqual, IsExact, IsFraction, IsReduced, fra
 use Rattle.ratio64.specs.Limiting.{IsNearestWithin}
 use Rattle.ratio64.specs.Ratio.{AnswersFraction, num_of, den_of, text_of}
 use Rattle.ratio64.specs.RatioText.{ReadsFraction}
-use Rattle.ratio64.specs.Rounding.{IsRounded}
+use Rattle.ratio64.specs.Rounding.{IsRounded, IsRoundedEven}
 use Rattle.ratio64.specs.declared.error.RatioError.{RatioError}
 use Rattle.ratio64.specs.declared.fraction.Ratio.{Ratio}
 use Rattle.ratio64.specs.declared.parse.ParseRatioError.{ParseRatioError}
@@ -58,6 +58,10 @@ OrderOverOneDenominator = (a c d : ℤ) → pos 0 <ℤ d → a <ℤ c → fracti
 -- Each fraction has only one nearest integer.
 abbrev pub RoundedIsOnly : Type 0
 RoundedIsOnly = (n d r : ℤ) → pos 0 <ℤ d → IsRounded n d r → IsOnly (IsRounded n d) r
+
+-- Each fraction has only one nearest integer of which a tie is even.
+abbrev pub RoundedEvenIsOnly : Type 0
+RoundedEvenIsOnly = (n d r : ℤ) → pos 0 <ℤ d → IsRoundedEven n d r → IsOnly (IsRoundedEven n d) r
 
 -- ---- small denominators
 

@@ -1,3 +1,4 @@
+pub mod Decimal
 pub mod Fraction
 pub mod Laws
 pub mod Limiting

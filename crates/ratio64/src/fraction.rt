@@ -222,7 +222,12 @@ impl fmt::Display for Ratio {
     ghost output = { λ x. Some (text_of x) };
 
     fn fmt<W: fmt::Write>(&self, f: &mut fmt::Formatter<W>) -> fmt::Result {
-        self.pad(f)
+        let Some(places) = f.precision() else {
+            return self.pad_number(f);
+        };
+        let places = u32::try_from(places).map_err(|_| fmt::Error)?;
+        let rounded = self.to_decimal(places).ok_or(fmt::Error)?;
+        rounded.pad_number(f)
     }
 }
 

@@ -1,6 +1,7 @@
 //! Exact fractions of 64-bit integers, always in lowest terms.
 #![tactic(auto)]
 
+mod decimal;
 mod error;
 mod fraction;
 mod neighbours;
@@ -8,6 +9,7 @@ mod order;
 mod parse;
 mod reduction;
 
+pub use decimal::Decimal;
 pub use error::RatioError;
 pub use fraction::Ratio;
 pub use parse::ParseRatioError;

@@ -84,6 +84,7 @@ pub fn laws_of_fractions()
     ensures order_agrees_with_equality { fractions.OrderAgreesWithEquality }
     ensures order_over_one_denominator { fractions.OrderOverOneDenominator }
     ensures rounded_is_only { fractions.RoundedIsOnly }
+    ensures rounded_even_is_only { fractions.RoundedEvenIsOnly }
     ensures nearest_is_only { fractions.NearestIsOnly }
     ensures sums_of_equal_fractions { fractions.SumsOfEqualFractions }
     ensures products_of_equal_fractions { fractions.ProductsOfEqualFractions }
@@ -122,6 +123,7 @@ pub fn laws_of_dates()
     ensures last_weekday_is_only { dates.LastWeekdayIsOnly }
     ensures iso_week_exists { dates.IsoWeekExists }
     ensures iso_week_is_only { dates.IsoWeekIsOnly }
+    ensures iso_week_of_numbers_is_only { dates.IsoWeekOfNumbersIsOnly }
     ensures iso_day_exists { dates.IsoDayExists }
     ensures iso_day_is_only { dates.IsoDayIsOnly }
     ensures weeks_of_a_year { dates.WeeksOfAYear }

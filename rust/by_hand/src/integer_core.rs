@@ -2,7 +2,6 @@
 //! one's own its operators decide if a result does not fit. No other crate can make a `Reason`, so no other crate calls them.
 
 use guards::Reason;
-pub(crate) use native::Magnitudes;
 
 #[cfg_attr(
     has_diagnostic,

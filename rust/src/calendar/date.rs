@@ -278,6 +278,26 @@ impl Date {
         Self::from_day_number(i64::from(day + rest) - EPOCH_IN_ERA_0).eras_later(era + eras)
     }
 
+    /// Returns the date `days` days before this one, or after it if `days` is negative, or `None`
+    /// if its year does not fit an `i64`.
+    ///
+    /// # Examples
+    ///
+    /// ```
+    /// use cellarcove::calendar::Date;
+    ///
+    /// assert_eq!(Date::new(2000, 3, 1).unwrap().minus_days(1), Date::new(2000, 2, 29));
+    /// ```
+    ///
+    /// [Contract](crate::definitions::contracts#calendardateminus_days)
+    #[must_use]
+    pub fn minus_days(&self, days: i64) -> Option<Self> {
+        let (era, day) = self.day_of_era();
+        let (before, rest) = eras_in_days(days);
+        let near = Self::from_day_number(i64::from(day) - i64::from(rest) - EPOCH_IN_ERA_0);
+        near.eras_later(era - before)
+    }
+
     /// Returns the date `eras` times 400 years after this one, or `None` if its year does not fit.
     fn eras_later(&self, eras: i64) -> Option<Self> {
         Some(Self {

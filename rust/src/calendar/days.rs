@@ -2,8 +2,8 @@
 // It also has what rust/by_hand/src/calendar/days.rs adds.
 //! The days from one date to another.
 
-use crate::calendar::days_between;
 use crate::calendar::Date;
+use crate::integer_core::guards::some;
 use core::iter::FusedIterator;
 
 /// An iterator over the dates from one on, to the one before another. [`Date::days_until`] makes
@@ -16,7 +16,7 @@ use core::iter::FusedIterator;
 ///
 /// assert_eq!(Date::from_day_number(0).days_until(Date::from_day_number(3)).count(), 3);
 /// ```
-#[derive(Clone, Debug)]
+#[derive(Clone, Debug, PartialEq, Eq, Hash)]
 pub struct Days {
     next: Date,
     end: Date,
@@ -44,6 +44,40 @@ impl Date {
     }
 }
 
+impl Days {
+    /// Returns how many dates are left, or `None` if that number does not fit in `usize`.
+    ///
+    /// # Examples
+    ///
+    /// ```
+    /// use cellarcove::calendar::Date;
+    ///
+    /// assert_eq!(Date::from_day_number(0).days_until(Date::from_day_number(3)).len(), Some(3));
+    /// ```
+    ///
+    /// [Contract](crate::definitions::contracts#calendardayslen)
+    #[must_use]
+    pub fn len(&self) -> Option<usize> {
+        usize::try_from(days_left(&self.next, &self.end)).ok()
+    }
+
+    /// Returns `true` if no date is left.
+    ///
+    /// # Examples
+    ///
+    /// ```
+    /// use cellarcove::calendar::Date;
+    ///
+    /// assert!(Date::from_day_number(3).days_until(Date::from_day_number(0)).is_empty());
+    /// ```
+    ///
+    /// [Contract](crate::definitions::contracts#calendardaysis_empty)
+    #[must_use]
+    pub fn is_empty(&self) -> bool {
+        !is_earlier(&self.next, &self.end)
+    }
+}
+
 /// [Contract](crate::definitions::contracts#iterator-for-calendardays)
 impl Iterator for Days {
     type Item = Date;
@@ -57,22 +91,86 @@ impl Iterator for Days {
         Some(date)
     }
 
-    #[inline]
     fn size_hint(&self) -> (usize, Option<usize>) {
-        let days = days_between(&self.next, &self.end)
-            .unwrap_or(i64::MAX)
-            .max(0);
-        match usize::try_from(days) {
-            Ok(count) if days < i64::MAX => (count, Some(count)),
-            Ok(count) => (count, None),
-            Err(_) => (usize::MAX, None),
-        }
+        let length = self.len();
+        (length.unwrap_or(usize::MAX), length)
     }
+
+    fn nth(&mut self, n: usize) -> Option<Date> {
+        self.next = match days_later(self.next, n) {
+            Some(date) if is_earlier(&date, &self.end) => date,
+            _ => self.next.max(self.end),
+        };
+        self.next()
+    }
+
+    /// # Panics
+    ///
+    /// If the number of dates does not fit a `usize`: [`Days::len`] is `None` then.
+    #[track_caller]
+    fn count(self) -> usize {
+        some(self.len(), "the number of dates does not fit")
+    }
+
+    fn last(mut self) -> Option<Date> {
+        self.next_back()
+    }
+}
+
+impl DoubleEndedIterator for Days {
+    fn next_back(&mut self) -> Option<Date> {
+        if !is_earlier(&self.next, &self.end) {
+            return None;
+        }
+        let last = self.end.previous()?;
+        self.end = last;
+        Some(last)
+    }
+
+    fn nth_back(&mut self, n: usize) -> Option<Date> {
+        self.end = match days_earlier(self.end, n) {
+            Some(date) if is_earlier(&self.next, &date) => date,
+            _ => self.end.min(self.next),
+        };
+        self.next_back()
+    }
+}
+
+/// Returns how many days there are from the first date to the second, or 0 if the second is not
+/// later.
+fn days_left(first: &Date, end: &Date) -> u128 {
+    u128::try_from(end.wide_day_number() - first.wide_day_number()).unwrap_or(0)
 }
 
 /// Returns `true` if the first date is earlier than the second.
 fn is_earlier(first: &Date, second: &Date) -> bool {
     first < second
+}
+
+/// Returns the date `n` days later, or `None` if its year does not fit.
+fn days_later(date: Date, n: usize) -> Option<Date> {
+    match i64::try_from(n) {
+        Ok(days) => date.plus_days(days),
+        Err(_) => {
+            let half = (n / 2) as i64;
+            date.plus_days(half)?
+                .plus_days(half)?
+                .plus_days((n % 2) as i64)
+        }
+    }
+}
+
+/// Returns the date `n` days earlier, or `None` if its year does not fit.
+fn days_earlier(date: Date, n: usize) -> Option<Date> {
+    match i64::try_from(n) {
+        Ok(days) => date.minus_days(days),
+        Err(_) => {
+            let half = (n / 2) as i64;
+            date.minus_days(half)?
+                .minus_days(half)?
+                .minus_days((n % 2) as i64)
+        }
+    }
 }
 
 impl FusedIterator for Days {}

@@ -30,6 +30,66 @@ impl Date {
         })
     }
 
+    /// Returns the number of days from this date to `to`, which is negative if `to` is earlier, or
+    /// `None` if it does not fit.
+    ///
+    /// # Examples
+    ///
+    /// ```
+    /// use cellarcove::calendar::Date;
+    ///
+    /// assert_eq!(Date::from_day_number(5).days_between(&Date::from_day_number(3)), Some(-2));
+    /// ```
+    ///
+    /// [Contract](crate::definitions::contracts#calendardatedays_between)
+    #[must_use]
+    pub fn days_between(&self, to: &Self) -> Option<i64> {
+        at_64_bits(to.wide_day_number() - self.wide_day_number())
+    }
+
+    /// Returns the number of whole months from this date to `to`, which is negative if `to` is
+    /// earlier, or `None` if it does not fit. It is the largest number of months after which this
+    /// date has become one that is not later than `to`.
+    ///
+    /// # Examples
+    ///
+    /// ```
+    /// use cellarcove::calendar::Date;
+    ///
+    /// assert_eq!(
+    ///     Date::new(2000, 1, 31).unwrap().months_between(&Date::new(2000, 2, 29).unwrap()),
+    ///     Some(1)
+    /// );
+    /// ```
+    ///
+    /// [Contract](crate::definitions::contracts#calendardatemonths_between)
+    #[must_use]
+    pub fn months_between(&self, to: &Self) -> Option<i64> {
+        at_64_bits(whole_months(self, to))
+    }
+
+    /// Returns the number of whole years from this date to `to`, which is negative if `to` is
+    /// earlier, or `None` if it does not fit. It is the largest number of years after which this
+    /// date has become one that is not later than `to`. In a common year 29 February becomes 28
+    /// February.
+    ///
+    /// # Examples
+    ///
+    /// ```
+    /// use cellarcove::calendar::Date;
+    ///
+    /// assert_eq!(
+    ///     Date::new(2000, 2, 29).unwrap().years_between(&Date::new(2025, 2, 28).unwrap()),
+    ///     Some(25)
+    /// );
+    /// ```
+    ///
+    /// [Contract](crate::definitions::contracts#calendardateyears_between)
+    #[must_use]
+    pub fn years_between(&self, to: &Self) -> Option<i64> {
+        at_64_bits(div_floor(whole_months(self, to), 12))
+    }
+
     /// Returns the number of the month, counted from January of year 0.
     fn month_number(&self) -> i128 {
         12 * i128::from(self.year) + i128::from(self.month - 1)
@@ -50,7 +110,7 @@ impl Date {
 /// [Contract](crate::definitions::contracts#calendardays_between)
 #[must_use]
 pub fn days_between(from: &Date, to: &Date) -> Option<i64> {
-    at_64_bits(to.wide_day_number() - from.wide_day_number())
+    from.days_between(to)
 }
 
 /// Returns the number of whole months from `from` to `to`, which is negative if `to` is earlier, or
@@ -71,7 +131,7 @@ pub fn days_between(from: &Date, to: &Date) -> Option<i64> {
 /// [Contract](crate::definitions::contracts#calendarmonths_between)
 #[must_use]
 pub fn months_between(from: &Date, to: &Date) -> Option<i64> {
-    at_64_bits(whole_months(from, to))
+    from.months_between(to)
 }
 
 /// Returns the number of whole years from `from` to `to`, which is negative if `to` is earlier, or
@@ -92,7 +152,7 @@ pub fn months_between(from: &Date, to: &Date) -> Option<i64> {
 /// [Contract](crate::definitions::contracts#calendaryears_between)
 #[must_use]
 pub fn years_between(from: &Date, to: &Date) -> Option<i64> {
-    at_64_bits(div_floor(whole_months(from, to), 12))
+    from.years_between(to)
 }
 
 /// Returns the number of whole months from `from` to `to`, which may not fit an `i64`.

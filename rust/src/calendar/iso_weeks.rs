@@ -13,17 +13,49 @@ use crate::calendar::{Date, Weekday};
 /// ```
 /// use cellarcove::calendar::{Date, IsoWeek};
 ///
-/// assert_eq!(Date::from_day_number(4).iso_week(), Some(IsoWeek { year: 1970, week: 2 }));
+/// assert_eq!(Date::from_day_number(4).iso_week(), IsoWeek::new(1970, 2));
 /// ```
+///
+/// [Contract](crate::definitions::contracts#calendarisoweek)
 #[derive(Debug, Clone, Copy, PartialEq, Eq, PartialOrd, Ord, Hash)]
 pub struct IsoWeek {
-    /// The year of the Thursday of the week.
-    pub year: i64,
-    /// The number of the week in its year, from 1 to 52 or 53.
-    pub week: u8,
+    pub(in crate::calendar) year: i64,
+    pub(in crate::calendar) week: u8,
 }
 
 impl IsoWeek {
+    /// Returns the year of the Thursday of the week.
+    ///
+    /// # Examples
+    ///
+    /// ```
+    /// use cellarcove::calendar::IsoWeek;
+    ///
+    /// assert_eq!(IsoWeek::new(2004, 53).unwrap().year(), 2004);
+    /// ```
+    ///
+    /// [Contract](crate::definitions::contracts#calendarisoweekyear)
+    #[must_use]
+    pub const fn year(&self) -> i64 {
+        self.year
+    }
+
+    /// Returns the number of the week in its year, from 1 to 52 or 53.
+    ///
+    /// # Examples
+    ///
+    /// ```
+    /// use cellarcove::calendar::IsoWeek;
+    ///
+    /// assert_eq!(IsoWeek::new(2004, 53).unwrap().week(), 53);
+    /// ```
+    ///
+    /// [Contract](crate::definitions::contracts#calendarisoweekweek)
+    #[must_use]
+    pub const fn week(&self) -> u8 {
+        self.week
+    }
+
     /// Returns a week of a year, or `None` if the year has no such week.
     ///
     /// # Examples
@@ -31,7 +63,7 @@ impl IsoWeek {
     /// ```
     /// use cellarcove::calendar::IsoWeek;
     ///
-    /// assert_eq!(IsoWeek::new(2004, 53), Some(IsoWeek { year: 2004, week: 53 }));
+    /// assert_eq!(IsoWeek::new(2004, 53).unwrap().week(), 53);
     /// assert_eq!(IsoWeek::new(2005, 53), None);
     /// ```
     ///
@@ -45,18 +77,15 @@ impl IsoWeek {
         }
     }
 
-    /// Returns the date of `weekday` in this week. Returns `None` if the year has no such week, or
-    /// if the year of the date does not fit in `i64`.
+    /// Returns the date of `weekday` in this week, or `None` if the year of the date does not fit
+    /// in `i64`.
     ///
     /// # Examples
     ///
     /// ```
     /// use cellarcove::calendar::{Date, IsoWeek, Weekday};
     ///
-    /// assert_eq!(
-    ///     IsoWeek { year: 2009, week: 53 }.date_on(Weekday::Sunday),
-    ///     Date::new(2010, 1, 3)
-    /// );
+    /// assert_eq!(IsoWeek::new(2009, 53).unwrap().date_on(Weekday::Sunday), Date::new(2010, 1, 3));
     /// ```
     ///
     /// [Contract](crate::definitions::contracts#calendarisoweekdate_on)
@@ -75,10 +104,7 @@ impl Date {
     /// ```
     /// use cellarcove::calendar::{Date, IsoWeek};
     ///
-    /// assert_eq!(
-    ///     Date::new(2005, 1, 1).unwrap().iso_week(),
-    ///     Some(IsoWeek { year: 2004, week: 53 })
-    /// );
+    /// assert_eq!(Date::new(2005, 1, 1).unwrap().iso_week(), IsoWeek::new(2004, 53));
     /// ```
     ///
     /// [Contract](crate::definitions::contracts#calendardateiso_week)

@@ -60,7 +60,7 @@ impl Text for Date {
 /// ```
 /// use cellarcove::calendar::IsoWeek;
 ///
-/// assert_eq!(IsoWeek { year: 2004, week: 53 }.to_string(), "2004-W53");
+/// assert_eq!(IsoWeek::new(2004, 53).unwrap().to_string(), "2004-W53");
 /// ```
 ///
 /// [Contract](crate::definitions::contracts#display-for-calendarisoweek)

@@ -81,6 +81,33 @@ pub fn last_weekday_of_month(year: i64, month: u8, weekday: Weekday) -> Option<D
     }
 }
 
+impl Date {
+    /// Returns the first date after this one that is the last `weekday` of its month, or `None` if
+    /// its year does not fit an `i64`.
+    ///
+    /// # Examples
+    ///
+    /// ```
+    /// use cellarcove::calendar::{Date, Weekday};
+    ///
+    /// assert_eq!(
+    ///     Date::new(2026, 10, 30).unwrap().next_last_weekday(Weekday::Friday),
+    ///     Date::new(2026, 11, 27)
+    /// );
+    /// ```
+    ///
+    /// [Contract](crate::definitions::contracts#calendardatenext_last_weekday)
+    #[must_use]
+    pub fn next_last_weekday(&self, weekday: Weekday) -> Option<Self> {
+        let of_this_month = last_weekday(self.year, self.month, weekday);
+        if self.day_of_month < of_this_month.day_of_month {
+            return Some(of_this_month);
+        }
+        let next_month = self.plus_months(1)?;
+        Some(last_weekday(next_month.year, next_month.month, weekday))
+    }
+}
+
 /// Returns the first date after another that is the last `weekday` of its month, or `None` if its
 /// year does not fit an `i64`.
 ///
@@ -98,12 +125,7 @@ pub fn last_weekday_of_month(year: i64, month: u8, weekday: Weekday) -> Option<D
 /// [Contract](crate::definitions::contracts#calendarnext_last_weekday)
 #[must_use]
 pub fn next_last_weekday(after: &Date, weekday: Weekday) -> Option<Date> {
-    let of_this_month = last_weekday(after.year, after.month, weekday);
-    if after.day_of_month < of_this_month.day_of_month {
-        return Some(of_this_month);
-    }
-    let next_month = after.plus_months(1)?;
-    Some(last_weekday(next_month.year, next_month.month, weekday))
+    after.next_last_weekday(weekday)
 }
 
 /// Returns the date of the last `weekday` of the month.

@@ -2,8 +2,7 @@
 //! The checked quotient of a product.
 
 use crate::integer_core::operators::{is_negative, is_zero};
-use crate::integer_core::Magnitudes;
-use crate::integer_core::NativeInteger;
+use crate::integer_core::{Magnitudes, NativeInteger};
 use num_traits::cast;
 
 /// Returns the quotient of `a * b` by `d`, rounded down, and its remainder, for a built-in type of

@@ -326,9 +326,17 @@
 //! - `ensures { MatchOption result ((date : Date) → number_of date ≡ number_of self.now +ℤ days → ¬
 //!   (FitsSigned w64 date.year)) (λ date. number_of date ≡ number_of self.now +ℤ days) }`
 //! - Words: [`number_of`](calendar#number_of)
+//! ## `calendar::Date::minus_days`
+//! - `ensures { MatchOption result ((date : Date) → number_of date ≡ number_of self.now -ℤ days → ¬
+//!   (FitsSigned w64 date.year)) (λ date. number_of date ≡ number_of self.now -ℤ days) }`
+//! - Words: [`number_of`](calendar#number_of)
 //! ## `calendar::Date::days_until`
 //! - `ensures { result ≡ day_numbers (number_of self) (number_of end) }`
 //! - Words: [`day_numbers`](calendar#day_numbers), [`number_of`](calendar#number_of)
+//! ## `calendar::Days::len`
+//! - `ensures { SomeIff result (length self.now < 2 ^ 64) (length self.now) }`
+//! ## `calendar::Days::is_empty`
+//! - `ensures { IsTrue result ↔ (self.now ≡ []) }`
 //! ## `Iterator` for `calendar::Days`
 //! - `ghost next_gives = { YieldsFirstBy number_of (λ s. s) }`
 //! - Words: [`number_of`](calendar#number_of)
@@ -336,6 +344,18 @@
 //! - `ensures { MatchOption result ((date : Date) → IsMonthsAfter self.now months date → ¬
 //!   (FitsSigned w64 date.year)) (λ date. IsMonthsAfter self.now months date) }`
 //! - Words: [`IsMonthsAfter`](calendar#ismonthsafter)
+//! ## `calendar::Date::days_between`
+//! - `ensures { SomeIff result (FitsSigned w64 (number_of to.now -ℤ number_of self.now)) (number_of
+//!   to.now -ℤ number_of self.now) }`
+//! - Words: [`number_of`](calendar#number_of)
+//! ## `calendar::Date::months_between`
+//! - `ensures { MatchOption result ((months : ℤ) × IsMonthsBetween self.now to.now months × ¬
+//!   (FitsSigned w64 months)) (λ months. IsMonthsBetween self.now to.now months) }`
+//! - Words: [`IsMonthsBetween`](calendar#ismonthsbetween)
+//! ## `calendar::Date::years_between`
+//! - `ensures { MatchOption result ((years : ℤ) × IsYearsBetween self.now to.now years × ¬
+//!   (FitsSigned w64 years)) (λ years. IsYearsBetween self.now to.now years) }`
+//! - Words: [`IsYearsBetween`](calendar#isyearsbetween)
 //! ## `calendar::days_between`
 //! - `ensures { SomeIff result (FitsSigned w64 (number_of to.now -ℤ number_of from.now)) (number_of
 //!   to.now -ℤ number_of from.now) }`
@@ -354,6 +374,15 @@
 //! - `ensures season { ((result.month ≡ 3) × (22 ≤ result.day_of_month)) ⊎ ((result.month ≡ 4) ×
 //!   (result.day_of_month ≤ 25)) }`
 //! - Words: [`IsEaster`](calendar#iseaster), [`number_of`](calendar#number_of)
+//! ## `calendar::IsoWeek`
+//! - `pub ghost valid: { ∥ HasIsoWeek year week ∥₁ }`
+//! - Words: [`HasIsoWeek`](calendar#hasisoweek)
+//! ## `calendar::IsoWeek::year`
+//! - `ensures { result ≡ self.now.year }`
+//! ## `calendar::IsoWeek::week`
+//! - `ensures week { result ≡ self.now.week }`
+//! - `ensures from_one { 1 ≤ result }`
+//! - `ensures to_53 { result ≤ 53 }`
 //! ## `calendar::IsoWeek::new`
 //! - `ensures { MatchOption result (¬ (HasIsoWeek year week)) (λ found. HasIsoWeek year week ×
 //!   (found.year ≡ year) × (found.week ≡ week)) }`
@@ -443,6 +472,10 @@
 //! - `ensures { MatchOption result (¬ ((1 ≤ month) × (month ≤ 12))) (λ date. IsLastWeekdayOfMonth
 //!   year month weekday date) }`
 //! - Words: [`IsLastWeekdayOfMonth`](calendar#islastweekdayofmonth)
+//! ## `calendar::Date::next_last_weekday`
+//! - `ensures { MatchOption result ((date : Date) → IsNextLastWeekday self.now weekday date → ¬
+//!   (FitsSigned w64 date.year)) (λ date. IsNextLastWeekday self.now weekday date) }`
+//! - Words: [`IsNextLastWeekday`](calendar#isnextlastweekday)
 //! ## `calendar::next_last_weekday`
 //! - `ensures { MatchOption result ((date : Date) → IsNextLastWeekday after.now weekday date → ¬
 //!   (FitsSigned w64 date.year)) (λ date. IsNextLastWeekday after.now weekday date) }`
@@ -1082,6 +1115,23 @@
 //!   coefficient n (length choice.old)) }`
 //! - Words: [`IsChoice`](applied#ischoice), [`IsChoiceOfRank`](applied#ischoiceofrank),
 //!   [`rank_of`](applied#rank_of), [`coefficient`](num_integer#coefficient)
+//! ## `ratio64::Decimal`
+//! - `pub ghost few: { places ≤ 18 }`
+//! ## `ratio64::Decimal::units`
+//! - `ensures { result ≡ units_of self.now }`
+//! - Words: [`units_of`](ratio64#units_of)
+//! ## `ratio64::Decimal::places`
+//! - `ensures { result ≡ places_of self.now }`
+//! - Words: [`places_of`](ratio64#places_of)
+//! ## `ratio64::Ratio::to_decimal`
+//! - `ensures { AnswersWhere (places ≤ 18) (IsDecimalOf (num_of self.now) (den_of self.now) places)
+//!   result }`
+//! - Words: [`AnswersWhere`](integer_core#answerswhere), [`IsDecimalOf`](ratio64#isdecimalof),
+//!   [`num_of`](ratio64#num_of), [`den_of`](ratio64#den_of)
+//! ## `Display` for `ratio64::Decimal`
+//! - `ghost output = { λ x. Some (decimal_text (units_of x) (places_of x)) }`
+//! - Words: [`decimal_text`](ratio64#decimal_text), [`units_of`](ratio64#units_of),
+//!   [`places_of`](ratio64#places_of)
 //! ## `ratio64::RatioError::number`
 //! - `ensures { result ≡ number_of self.now }`
 //! - Words: [`number_of`](ratio64#number_of)
@@ -1182,6 +1232,10 @@
 //! - `ensures { IsRounded (num_of self.now) (den_of self.now) result }`
 //! - Words: [`IsRounded`](ratio64#isrounded), [`num_of`](ratio64#num_of),
 //!   [`den_of`](ratio64#den_of)
+//! ## `ratio64::Ratio::round_even`
+//! - `ensures { IsRoundedEven (num_of self.now) (den_of self.now) result }`
+//! - Words: [`IsRoundedEven`](ratio64#isroundedeven), [`num_of`](ratio64#num_of),
+//!   [`den_of`](ratio64#den_of)
 //! ## `ratio64::Ratio::fract`
 //! - `ensures num { IsRemainder IsTruncated (num_of self.now) (den_of self.now) (num_of result) }`
 //! - `ensures den { den_of result ≡ den_of self.now }`
@@ -1231,6 +1285,12 @@
 //!   self.now))) (IsRounded (num_of self.now *ℤ n) (den_of self.now)) result }`
 //! - Words: [`AnswersWhere`](integer_core#answerswhere), [`EachFits`](integer_core#eachfits),
 //!   [`IsRounded`](ratio64#isrounded), [`num_of`](ratio64#num_of), [`den_of`](ratio64#den_of)
+//! ## `ratio64::Ratio::round_even_times`
+//! - `ensures { AnswersWhere (EachFits (FitsSigned w64) (IsRoundedEven (num_of self.now *ℤ n)
+//!   (den_of self.now))) (IsRoundedEven (num_of self.now *ℤ n) (den_of self.now)) result }`
+//! - Words: [`AnswersWhere`](integer_core#answerswhere), [`EachFits`](integer_core#eachfits),
+//!   [`IsRoundedEven`](ratio64#isroundedeven), [`num_of`](ratio64#num_of),
+//!   [`den_of`](ratio64#den_of)
 //! ## `ratio64::Ratio::checked_times`
 //! - `ensures product { AnswersFraction (num_of self.now *ℤ n) (d *ℤ den_of self.now) result }`
 //! - `ensures zero_denominator { (result ≡ Err RatioError.ZeroDenominator) ↔ (d ≡ pos 0) }`
@@ -1256,6 +1316,13 @@
 //!   parts result }`
 //! - `ensures never_zero { result ≢ Err RatioError.ZeroDenominator }`
 //! - Words: [`AnswersInParts`](ratio64#answersinparts), [`IsRounded`](ratio64#isrounded),
+//!   [`num_of`](ratio64#num_of), [`den_of`](ratio64#den_of)
+//! ## `ratio64::Ratio::round_even_to`
+//! - `requires { pos 0 <ℤ parts }`
+//! - `ensures rounded { AnswersInParts (IsRoundedEven (num_of self.now *ℤ parts) (den_of self.now))
+//!   parts result }`
+//! - `ensures never_zero { result ≢ Err RatioError.ZeroDenominator }`
+//! - Words: [`AnswersInParts`](ratio64#answersinparts), [`IsRoundedEven`](ratio64#isroundedeven),
 //!   [`num_of`](ratio64#num_of), [`den_of`](ratio64#den_of)
 //! ## `Ord` for `ratio64::Ratio`
 //! - `ghost cmp = { λ x y. fraction_cmp (num_of x) (den_of x) (num_of y) (den_of y) }`

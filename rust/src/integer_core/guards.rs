@@ -3,6 +3,7 @@
 //! What panics, with its reason and the place of the first call of this crate. In Rattle these
 //! functions test nothing, since each call of them is proved to hold; here they test it.
 
+use crate::integer_core::native::{Magnitudes, Native};
 use crate::integer_core::Integer;
 
 /// Why a hidden method of `Integer` panics. No other crate can make one or name the type, so no
@@ -89,6 +90,18 @@ pub(crate) fn sum_or<T: Integer>(a: T, b: T, reason: &'static str) -> T {
 #[track_caller]
 pub(crate) fn product_or<T: Integer>(a: T, b: T, reason: &'static str) -> T {
     a.exact_product(b, Reason(reason))
+}
+
+/// Returns the number with this magnitude, or panics if it does not fit.
+#[inline]
+#[track_caller]
+pub(crate) fn number_or<T: Native>(magnitude: T::Magnitude, reason: &'static str) -> T {
+    let number = T::from_magnitude(magnitude);
+    check(
+        number >= T::zero() && number.magnitude() == magnitude,
+        reason,
+    );
+    number
 }
 
 /// Panics, at a built-in type, if the greatest common divisor or every pair of coefficients does

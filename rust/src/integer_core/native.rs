@@ -5,7 +5,7 @@
 use crate::integer_core::operators::{is_negative, zero};
 use crate::integer_core::plain::{difference, successor};
 use crate::integer_core::stein::Magnitude;
-use num_traits::{AsPrimitive, Bounded, CheckedAdd, CheckedMul, CheckedSub, Num, NumCast};
+use num_traits::{AsPrimitive, Bounded, CheckedAdd, CheckedMul, CheckedSub, Num};
 
 /// A native integer type. No other crate can name this trait.
 #[cfg_attr(
@@ -18,22 +18,14 @@ use num_traits::{AsPrimitive, Bounded, CheckedAdd, CheckedMul, CheckedSub, Num, 
     )
 )]
 pub trait Native:
-    Copy
-    + Num
-    + NumCast
-    + CheckedAdd
-    + CheckedSub
-    + CheckedMul
-    + Ord
-    + Bounded
-    + AsPrimitive<Self::Magnitude>
+    Copy + Num + CheckedAdd + CheckedSub + CheckedMul + Ord + Bounded + AsPrimitive<Self::Magnitude>
 {
     /// The type of the magnitudes.
     type Magnitude: Magnitude + AsPrimitive<Self>;
 }
 
-/// What this crate alone calls of a `Native`.
-pub(crate) trait Magnitudes: Native {
+/// The absolute value of a number of a native type, and back. No other crate can name this trait.
+pub trait Magnitudes: Native {
     /// Returns the absolute value.
     fn magnitude(self) -> Self::Magnitude {
         if is_negative(self) {

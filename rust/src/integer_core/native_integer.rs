@@ -3,14 +3,13 @@
 //! `Integer` and `GcdCounted` for the native types.
 
 use crate::integer_core::counted::GcdCounted;
-use crate::integer_core::guards::some;
-use crate::integer_core::guards::{check, Reason};
-use crate::integer_core::native::Native;
+use crate::integer_core::guards::number_or;
+use crate::integer_core::guards::{check, some, Reason};
+use crate::integer_core::native::{Magnitudes, Native};
 use crate::integer_core::operators::{is_minus_one, zero};
 use crate::integer_core::stein::{binary_gcd, gcd_lcm_of_magnitudes};
-use crate::integer_core::Magnitudes;
 use crate::integer_core::{division, divisors, Integer};
-use num_traits::{cast, PrimInt};
+use num_traits::PrimInt;
 
 /// A native integer type: `i8` to `i128`, `u8` to `u128`, `isize` or `usize`. The trait is sealed:
 /// no other crate can implement it.
@@ -79,13 +78,13 @@ impl<T: Native> Integer for T {
 
     fn lcm(&self, other: &T) -> T {
         let lcm = gcd_lcm_of_magnitudes(self.magnitude(), other.magnitude()).1;
-        some(cast(lcm), "the least common multiple does not fit")
+        number_or(lcm, "the least common multiple does not fit")
     }
 
     fn gcd_lcm(&self, other: &T) -> (T, T) {
         let (gcd, lcm) = gcd_lcm_of_magnitudes(self.magnitude(), other.magnitude());
-        let gcd = some(cast(gcd), "the greatest common divisor does not fit");
-        let lcm = some(cast(lcm), "the least common multiple does not fit");
+        let gcd = number_or(gcd, "the greatest common divisor does not fit");
+        let lcm = number_or(lcm, "the least common multiple does not fit");
         (gcd, lcm)
     }
 

@@ -2,13 +2,12 @@
 //! The greatest common divisor by Stein's binary method (Knuth, The Art of Computer Programming,
 //! volume 2, section 4.5.2, algorithm B).
 
-use crate::integer_core::guards::{product_or, some};
-use crate::integer_core::native::Native;
-use crate::integer_core::Magnitudes;
-use num_traits::{cast, Bounded};
+use crate::integer_core::guards::{number_or, product_or};
+use crate::integer_core::native::{Magnitudes, Native};
+use num_traits::Bounded;
 
 /// A type of magnitudes, `u64` or `u128`, with the operations on bits that Stein's method needs.
-pub trait Magnitude: Copy + num_traits::NumCast + PartialOrd {
+pub trait Magnitude: Copy + PartialOrd {
     /// Returns `true` if the number is 0. `7.is_zero()` is `false`.
     fn is_zero(self) -> bool;
 
@@ -232,7 +231,7 @@ fn gcd_of_magnitudes<M: Magnitude>(m: M, n: M, has_power: bool) -> (M, u32) {
 #[track_caller]
 pub(crate) fn binary_gcd<T: Native>(a: T, b: T) -> (T, u32) {
     let (gcd, turns) = gcd_of_magnitudes(a.magnitude(), b.magnitude(), has_smallest(a, b));
-    let gcd = some(cast(gcd), "the greatest common divisor does not fit");
+    let gcd = number_or(gcd, "the greatest common divisor does not fit");
     (gcd, turns)
 }
 

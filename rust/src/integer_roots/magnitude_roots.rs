@@ -2,8 +2,7 @@
 //! The roots of the native types, computed from the roots of their magnitudes.
 
 use crate::integer_core::operators::{is_negative, negated, zero};
-use crate::integer_core::Magnitudes;
-use crate::integer_core::NativeInteger;
+use crate::integer_core::{Magnitudes, NativeInteger};
 use crate::integer_roots::cube_root::cube_root;
 use crate::integer_roots::root_of_degree::root_of_degree;
 use crate::integer_roots::square_root::square_root_counted;

@@ -341,7 +341,12 @@ impl Default for Ratio {
 /// [Contract](crate::definitions::contracts#display-for-ratio64ratio)
 impl fmt::Display for Ratio {
     fn fmt(&self, f: &mut fmt::Formatter<'_>) -> fmt::Result {
-        self.pad(f)
+        let Some(places) = f.precision() else {
+            return self.pad_number(f);
+        };
+        let places = u32::try_from(places).map_err(|_| fmt::Error)?;
+        let rounded = self.to_decimal(places).ok_or(fmt::Error)?;
+        rounded.pad_number(f)
     }
 }
 

@@ -126,6 +126,8 @@ fn divisors() {
             i64::MAX.lcm(&(i64::MAX - 1));
             i64::MIN.lcm(&1);
             200u8.lcm(&201);
+            100i8.lcm(&3);
+            64i8.lcm(&3);
             usize::MAX.lcm(&(usize::MAX - 1));
             cellarcove::lcm(u128::MAX, u128::MAX - 1);
             u64::MAX.gcd_lcm(&(u64::MAX - 1));
@@ -221,12 +223,13 @@ fn coefficients() {
             binomial(u64::MAX, u64::MAX / 2);
             binomial(u128::MAX, 1 << 100);
             binomial(i64::MAX, 3);
-            multinomial(&[1u64 << 62, 1 << 62]);
             for item in IterBinomial::new(11u8) { assert!(item > 0) };
         }
         MULTINOMIAL {
             multinomial(&[255u8, 1]);
             multinomial(&[8u8, 2, 2]);
+            multinomial(&[210u8, 5, 82]);
+            multinomial(&[1u64 << 62, 1 << 62]);
             multinomial(&[u64::MAX, 1 << 62]);
         }
     }

@@ -6,8 +6,8 @@ ghost use Rattle.integer_core.specs.Range.{EachFits};
 ghost use Rattle.num_integer.specs.Checked.{AnswersWhere, Has};
 ghost use Rattle.num_integer.specs.Parts.{signed};
 
-use integer_core::NativeInteger;
 use integer_core::operators::{is_negative, is_zero};
+use integer_core::{Magnitudes, NativeInteger};
 use num_traits::cast;
 
 /// Returns the quotient of `a * b` by `d`, rounded down, and its remainder, for a built-in type of at most 64

@@ -3,13 +3,13 @@
 ghost use Rattle.std.specs.Prelude.{◌≡◌, ◌↔◌, ◌<ℤ◌, ℤ, pos, IsTrue};
 ghost use Rattle.num_integer.specs.Division.{IsDivision, IsQuotient, IsRemainder, IsTruncated};
 ghost use Rattle.ratio64.specs.Ratio.{num_of, den_of};
-ghost use Rattle.ratio64.specs.Rounding.{IsRounded};
+ghost use Rattle.ratio64.specs.Rounding.{IsRounded, IsRoundedEven};
 
 use crate::Ratio;
 use num_integer::operators::{
-    difference, is_below, is_negative, negated, predecessor, successor, sum,
+    difference, is_below, is_equal, is_negative, negated, predecessor, successor, sum,
 };
-use num_integer::{Integer, div_rem};
+use num_integer::{Integer, div_mod_floor, div_rem};
 
 impl Ratio {
     /// Returns whether the fraction is an integer. `Ratio::new(6, 3).unwrap().is_integer()` is `true`,
@@ -34,6 +34,15 @@ impl Ratio {
         ensures { IsRounded (num_of self.now) (den_of self.now) result }
     {
         nearest(self.num, self.den)
+    }
+
+    /// Returns the nearest integer, and of two equally near the even one.
+    /// `Ratio::new(5, 2).unwrap().round_even()` is `2`, and `Ratio::new(-3, 2).unwrap().round_even()` is
+    /// `-2`.
+    pub fn round_even(&self) -> i64
+        ensures { IsRoundedEven (num_of self.now) (den_of self.now) result }
+    {
+        nearest_even(self.num, self.den)
     }
 
     /// Returns the fraction minus [`Ratio::trunc`]. `Ok(Ratio::new(-3, 2).unwrap().fract())` is
@@ -72,5 +81,25 @@ pub(crate) fn nearest<T: Integer>(num: T, den: T) -> T
         whole
     } else {
         successor(whole)
+    }
+}
+
+/// Returns the integer nearest to `num / den`, and of two equally near the even one.
+///
+/// May be called if `den` is positive.
+pub(crate) fn nearest_even<T: Integer>(num: T, den: T) -> T
+    requires in_range { T.fits (T.value num) × T.fits (T.value den) }
+    requires positive { pos 0 <ℤ T.value den }
+    requires quotients_fit { (q r : ℤ) → IsDivision (T.value num) (T.value den) q r → T.fits q }
+    ensures in_range { T.fits (T.value result) }
+    ensures rounded { IsRoundedEven (T.value num) (T.value den) (T.value result) }
+{
+    let (below, rest) = div_mod_floor(num, den);
+    // What is missing to the denominator always fits. Twice the rest may not.
+    let missing = difference(den, rest);
+    if is_below(rest, missing) || (is_equal(rest, missing) && below.is_even()) {
+        below
+    } else {
+        successor(below)
     }
 }

@@ -6,9 +6,9 @@ ghost use Rattle.num_integer.specs.Checked.{AnswersWhere};
 ghost use Rattle.num_integer.specs.Division.{IsCeiled, IsFloored, IsQuotient};
 ghost use Rattle.num_integer.specs.Range.{EachFits};
 ghost use Rattle.ratio64.specs.Ratio.{AnswersFraction, num_of, den_of};
-ghost use Rattle.ratio64.specs.Rounding.{AnswersInParts, IsRounded};
+ghost use Rattle.ratio64.specs.Rounding.{AnswersInParts, IsRounded, IsRoundedEven};
 
-use crate::fraction::rounding::nearest;
+use crate::fraction::rounding::{nearest, nearest_even};
 use crate::reduction::{narrowed, product};
 use crate::{Ratio, RatioError};
 use num_integer::guards::check;
@@ -45,6 +45,17 @@ impl Ratio {
             (IsRounded (num_of self.now *ℤ n) (den_of self.now)) result }
     {
         narrowed(self.wide_round_times(n))
+    }
+
+    /// Returns the fraction times `n`, rounded to the nearest integer and a half to the even one, or `None`
+    /// if that integer does not fit. `Ratio::new(1, 2).unwrap().round_even_times(5)` is `Some(2)`, and
+    /// `Ratio::new(1, 2).unwrap().round_even_times(-3)` is `Some(-2)`.
+    pub fn round_even_times(&self, n: i64) -> Option<i64>
+        ensures { AnswersWhere
+            (EachFits (FitsSigned w64) (IsRoundedEven (num_of self.now *ℤ n) (den_of self.now)))
+            (IsRoundedEven (num_of self.now *ℤ n) (den_of self.now)) result }
+    {
+        narrowed(self.wide_round_even_times(n))
     }
 
     /// Returns the fraction times `n / d`. `Ratio::new(2, 3).unwrap().checked_times(9, 4)` is
@@ -121,6 +132,27 @@ impl Ratio {
         in_parts(self.wide_round_times(parts), parts)
     }
 
+    /// Returns the nearest multiple of `1 / parts`, and of two equally near the one that is an even number
+    /// of parts. In hundredths, `Ratio::new(1, 8).unwrap().round_even_to(100)` is `Ratio::new(3, 25)`,
+    /// which is 12 of them.
+    ///
+    /// # Panics
+    ///
+    /// In plain Rust, if the number of parts is not positive.
+    ///
+    /// # Errors
+    ///
+    /// - [`RatioError::NotFitting`] if a part of the result does not fit an `i64`.
+    pub fn round_even_to(&self, parts: i64) -> Result<Self, RatioError>
+        requires { pos 0 <ℤ parts }
+        ensures rounded { AnswersInParts
+            (IsRoundedEven (num_of self.now *ℤ parts) (den_of self.now)) parts result }
+        ensures never_zero { result ≢ Err RatioError.ZeroDenominator }
+    {
+        check(parts > 0, "the number of parts is not positive");
+        in_parts(self.wide_round_even_times(parts), parts)
+    }
+
     /// Returns the fraction times `n`, rounded down, which may not fit an `i64`.
     fn wide_floor_times(&self, n: i64) -> i128
         ensures floored { IsQuotient IsFloored (num_of self.now *ℤ n) (den_of self.now) result }
@@ -147,6 +179,16 @@ impl Ratio {
     {
         let (num, den) = self.times(n);
         nearest(num, den)
+    }
+
+    /// Returns the fraction times `n`, rounded to the nearest integer and a half to the even one, which may
+    /// not fit an `i64`.
+    pub(crate) fn wide_round_even_times(&self, n: i64) -> i128
+        ensures rounded { IsRoundedEven (num_of self.now *ℤ n) (den_of self.now) result }
+        ensures below { unsigned_abs result < 2 ^ 127 }
+    {
+        let (num, den) = self.times(n);
+        nearest_even(num, den)
     }
 
     /// Returns the parts of the fraction times `n`, which are not in lowest terms.

@@ -2,7 +2,7 @@
 //! A fraction times an integer or another fraction, and a fraction rounded to a number of parts.
 
 use crate::guards::check;
-use crate::ratio64::fraction::rounding::nearest;
+use crate::ratio64::fraction::rounding::{nearest, nearest_even};
 use crate::ratio64::reduction::{narrowed, product};
 use crate::ratio64::{Ratio, RatioError};
 use crate::{div_ceil, div_floor};
@@ -59,6 +59,24 @@ impl Ratio {
     #[must_use]
     pub fn round_times(&self, n: i64) -> Option<i64> {
         narrowed(self.wide_round_times(n))
+    }
+
+    /// Returns the fraction times `n`, rounded to the nearest integer and a half to the even one,
+    /// or `None` if that integer does not fit.
+    ///
+    /// # Examples
+    ///
+    /// ```
+    /// use cellarcove::ratio64::Ratio;
+    ///
+    /// assert_eq!(Ratio::new(1, 2).unwrap().round_even_times(5), Some(2));
+    /// assert_eq!(Ratio::new(1, 2).unwrap().round_even_times(-3), Some(-2));
+    /// ```
+    ///
+    /// [Contract](crate::definitions::contracts#ratio64ratioround_even_times)
+    #[must_use]
+    pub fn round_even_times(&self, n: i64) -> Option<i64> {
+        narrowed(self.wide_round_even_times(n))
     }
 
     /// Returns the fraction times `n / d`.
@@ -159,6 +177,33 @@ impl Ratio {
         in_parts(self.wide_round_times(parts), parts)
     }
 
+    /// Returns the nearest multiple of `1 / parts`, and of two equally near the one that is an even
+    /// number of parts. In hundredths, `Ratio::new(1, 8).unwrap().round_even_to(100)` is
+    /// `Ratio::new(3, 25)`, which is 12 of them.
+    ///
+    /// # Examples
+    ///
+    /// ```
+    /// use cellarcove::ratio64::Ratio;
+    ///
+    /// assert_eq!(Ratio::new(1, 8).unwrap().round_even_to(100), Ratio::new(3, 25));
+    /// ```
+    ///
+    /// # Panics
+    ///
+    /// If the number of parts is not positive.
+    ///
+    /// # Errors
+    ///
+    /// - [`RatioError::NotFitting`] if a part of the result does not fit an `i64`.
+    ///
+    /// [Contract](crate::definitions::contracts#ratio64ratioround_even_to)
+    #[track_caller]
+    pub fn round_even_to(&self, parts: i64) -> Result<Self, RatioError> {
+        check(parts > 0, "the number of parts is not positive");
+        in_parts(self.wide_round_even_times(parts), parts)
+    }
+
     /// Returns the fraction times `n`, rounded down, which may not fit an `i64`.
     #[track_caller]
     fn wide_floor_times(&self, n: i64) -> i128 {
@@ -179,6 +224,14 @@ impl Ratio {
     fn wide_round_times(&self, n: i64) -> i128 {
         let (num, den) = self.times(n);
         nearest(num, den)
+    }
+
+    /// Returns the fraction times `n`, rounded to the nearest integer and a half to the even one,
+    /// which may not fit an `i64`.
+    #[track_caller]
+    pub(crate) fn wide_round_even_times(&self, n: i64) -> i128 {
+        let (num, den) = self.times(n);
+        nearest_even(num, den)
     }
 
     /// Returns the parts of the fraction times `n`, which are not in lowest terms.

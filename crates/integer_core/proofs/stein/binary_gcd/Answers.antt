@@ -1,6 +1,5 @@
 use Rattle.std.proofs.Common.{inl, inr}
 use Rattle.integer_core.proofs.CommonDivisors.{gcd_fits_is}
-use Rattle.integer_core.proofs.Ranges.{cast_gives, cast_is}
 use Rattle.integer_core.proofs.SteinSteps.{counted_by_magnitudes, power_of_smallest}
 use Rattle.integer_core.proofs.stein.binary_gcd.Goals as goal
 
@@ -10,22 +9,16 @@ gcd_of_magnitudes-gcd-requires-clause-power g c smallest m_nonzero n_nonzero = e
   | inr low ↦ inr (power_of_smallest g.met.T.Native.native_law.least low c.magnitude-2.ensures.value n_nonzero)
 ]
 
-pub some-gcd-requires : goal.some-gcd-requires
-some-gcd-requires g c =
+pub number_or-gcd-requires : goal.number_or-gcd-requires
+number_or-gcd-requires g c =
     let counted = c.gcd_of_magnitudes-gcd.ensures in
     let all = counted_by_magnitudes c.magnitude.ensures.value c.magnitude-2.ensures.value c.has_smallest.ensures counted.greatest counted.at_once counted.by_turns counted.bound in
-    let fits = (gcd_fits_is g.met.T.Native.native_law.range c.requires.in_range.0 c.requires.in_range.1).0 c.requires.gcd_fits _ all.greatest in
-    let is = g.met.T.Magnitude.ToPrimitive.integer_law c.gcd_of_magnitudes-gcd.result.0 g.met.T.Magnitude.Integral.exact_law in
-    cast_gives g.T.Number.value g.T.Number.fits _ is fits (c.cast.ensures.value g.met.T.Integral.exact_law)
+    record { number_fits = (gcd_fits_is g.met.T.Native.native_law.range c.requires.in_range.0 c.requires.in_range.1).0 c.requires.gcd_fits _ all.greatest }
 
 pub returns : goal.returns
 returns g c =
     let counted = c.gcd_of_magnitudes-gcd.ensures in
-    let all = counted_by_magnitudes c.magnitude.ensures.value c.magnitude-2.ensures.value c.has_smallest.ensures counted.greatest counted.at_once counted.by_turns counted.bound in
-    let fits = (gcd_fits_is g.met.T.Native.native_law.range c.requires.in_range.0 c.requires.in_range.1).0 c.requires.gcd_fits _ all.greatest in
-    let is = g.met.T.Magnitude.ToPrimitive.integer_law c.gcd_of_magnitudes-gcd.result.0 g.met.T.Magnitude.Integral.exact_law in
-    let gcd = cast_is g.T.Number.value g.T.Number.fits _ is fits (c.cast.ensures.value g.met.T.Integral.exact_law) c.some-gcd.ensures in
     record {
-      in_range = gcd.0;
-      gcd = rw gcd.1 all;
+      in_range = c.number_or-gcd.ensures.in_range;
+      gcd = rw c.number_or-gcd.ensures.value (counted_by_magnitudes c.magnitude.ensures.value c.magnitude-2.ensures.value c.has_smallest.ensures counted.greatest counted.at_once counted.by_turns counted.bound);
     }

@@ -4,6 +4,7 @@ use Rattle.std.specs.Int.{w16, w8}
 use Rattle.calendar.specs.Years.{HasDay}
 use Rattle.calendar.proofs.IsoWeeks.{same_thursday, week_of}
 use Rattle.calendar.proofs.YearLengths.{length_range}
+use Rattle.std.proofs.lemmas.Grind.{merely}
 use Rattle.calendar.proofs.date.Date.iso_week.Goals as goal
 
 -- the number of a week fits
@@ -30,6 +31,14 @@ returns-in_err-year-clause-week c =
     let place : FitsSigned w64 c.days_to_thursday_of_date.result = omega (arith, ints) in
     let none = simp to_z-of_z at c.in_err-year.ensures in
     rw c.from_residual.ensures (λ y week k fits. none y (subst (λ (t : ℤ). HasDay y t) (same_thursday k.of_week c.days_to_thursday_of_date.ensures.of_week) k.of_year) fits)
+
+pub invariant_of-result : goal.invariant_of-result
+invariant_of-result c =
+    let year : FitsSigned w64 c.args.self.now.year = search rules in
+    let own : FitsSigned w64 c.in_ok-year.year = search rules in
+    let fits : FitsSigned w64 c.days_to_thursday_of_date.result = omega (arith, ints) in
+    let (within, place) = simp to_z-of_z at c.in_ok-year.ensures in
+    simp to_z-of_z (record { valid = merely (record { day = _; in_week = week_of c.days_to_thursday_of_date.ensures.of_week within place refl }) })
 
 pub returns-clause-week : goal.returns-clause-week
 returns-clause-week c =

@@ -1,6 +1,6 @@
 use Rattle.integer_core.proofs.Common.{◌∙◌, arith, subst, sym, linear}
 use Rattle.integer_core.proofs.Ranges.{distance_fits, magnitude_by_distance, within_fits}
-use Rattle.integer_core.proofs.native.Native.magnitude.Goals as goal
+use Rattle.integer_core.proofs.native.Magnitudes.magnitude.Goals as goal
 
 pub successor-requires-clause-sum_fits : goal.successor-requires-clause-sum_fits
 successor-requires-clause-sum_fits g c = within_fits g.met.Self.Native.native_law.range c.requires (grind (arith, linear))

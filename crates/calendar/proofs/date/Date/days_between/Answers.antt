@@ -1,5 +1,5 @@
 use Rattle.calendar.proofs.Common.{◌<◌, ◌^◌, ◌-ℤ◌, ℤ, unsigned_abs, FitsSigned, w128, arith, ints, to_z-of_z}
-use Rattle.calendar.proofs.distances.days_between.Goals as goal
+use Rattle.calendar.proofs.date.Date.days_between.Goals as goal
 
 -- the days and their difference fit
 fitting : (a b : ℤ) → unsigned_abs a < 2 ^ 73 → unsigned_abs b < 2 ^ 73 → FitsSigned w128 a × FitsSigned w128 b × FitsSigned w128 (a -ℤ b)

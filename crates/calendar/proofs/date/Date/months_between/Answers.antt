@@ -1,9 +1,9 @@
 use Rattle.calendar.proofs.Common.{FitsSigned, w128, rules, to_z-of_z}
 use Rattle.calendar.specs.Dates.{IsMonthsBetween}
 use Rattle.calendar.proofs.FoundOrBeyond.{found_or_beyond}
-use Rattle.calendar.proofs.distances.months_between.Goals as goal
+use Rattle.calendar.proofs.date.Date.months_between.Goals as goal
 
 pub returns : goal.returns
 returns c =
     let fits : FitsSigned w128 c.whole_months.result = search rules in
-    found_or_beyond (IsMonthsBetween c.args.from.now c.args.to.now) c.at_64_bits.result (simp to_z-of_z at c.at_64_bits.ensures) c.whole_months.ensures
+    found_or_beyond (IsMonthsBetween c.args.self.now c.args.to.now) c.at_64_bits.result (simp to_z-of_z at c.at_64_bits.ensures) c.whole_months.ensures

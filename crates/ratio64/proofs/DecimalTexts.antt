@@ -1,0 +1,130 @@
+-- The strings of decimal numbers: their digits as they are written.
+use Rattle.std.specs.Prelude.{◌≡◌, ◌≤◌, ◌+◌, ◌-◌, ◌*◌, ◌/◌, ◌%◌, ◌^◌, ◌<◌, ◌++◌, ◌==◌, ℕ, zero, suc, ℤ, List, [], ◌∷◌, false, length, pos, replicate, unsigned_abs, FitsSigned, OnOk, Result}
+use Rattle.std.specs.Fmt.{WritesInCalls, char_count, decimal, format_spec, padded_integral, sign_text, styled_decimal}
+use Rattle.std.specs.Int.{is_negative, w64}
+use Rattle.std.proofs.Common.{append_assoc, arith, ap, inl, inr, refl, subst, sym, ◌∙◌}
+use Rattle.std.proofs.lemmas.Bool.{cases_lt}
+use Rattle.std.proofs.lemmas.Bool.Decides.{nat_tests}
+use Rattle.std.proofs.lemmas.Int.{ints}
+use Rattle.std.proofs.lemmas.Fmt.{decimal_digit, decimal_step}
+use Rattle.std.proofs.lemmas.List.{append-nil, length-append}
+use Rattle.std.proofs.Math.Nat.{div-add-mod, mod-eq_of_lt, mod-lt, mul-add-mod_self_left, pow-succ'}
+use Rattle.ratio64.specs.Decimal.{decimal_text, last_digits}
+
+-- ---- powers of ten
+
+pub ten_up : (k : ℕ) → 0 < 10 ^ k
+ten_up zero = omega arith
+ten_up (suc k) = omega (arith, pow-succ' 10 k, ten_up k)
+
+pub ten_grows : (k n : ℕ) → k ≤ n → 10 ^ k ≤ 10 ^ n
+ten_grows k zero low = let same : k ≡ 0 = omega arith in rw same (omega arith)
+ten_grows k (suc n) low = elim (cases_lt k (suc n)) [
+  | inl less ↦ omega (arith, pow-succ' 10 n, ten_grows k n (omega arith))
+  | inr most ↦ let same : k ≡ suc n = omega arith in rw same (omega arith)
+]
+
+-- ---- the last digits
+
+zeros : ℕ → List ℕ
+zeros k = replicate k 48
+
+zero_behind : (k : ℕ) → zeros k ++ (48 ∷ []) ≡ 48 ∷ zeros k
+unfolding zeros
+zero_behind zero = refl
+zero_behind (suc k) = ap (λ (t : List ℕ). 48 ∷ t) (zero_behind k)
+
+last_of_zero : (k : ℕ) → last_digits k 0 ≡ zeros k
+unfolding last_digits zeros
+last_of_zero zero = refl
+last_of_zero (suc k) = rw (last_of_zero k) (zero_behind k)
+
+-- a number with zeros in front of its digits
+filled : ℕ → ℕ → List ℕ
+filled k n = replicate (k - length (decimal n)) 48 ++ decimal n
+
+filled_is : (k n : ℕ) → n < 10 ^ suc k → n < 2 ^ 64 → filled (suc k) n ≡ last_digits (suc k) n
+unfolding filled last_digits zeros
+filled_is zero n small fits =
+    let one : n < 10 = omega arith in
+    let same : n % 10 ≡ n = omega arith in
+    rw (decimal_digit n one, same) refl
+filled_is (suc k) n small fits = elim (cases_lt n 10) [
+  | inl one ↦
+      let none : n / 10 ≡ 0 = omega arith in
+      let same : n % 10 ≡ n = omega arith in
+      let lead : suc (suc k) - length (decimal n) ≡ suc k = rw (decimal_digit n one) (omega arith) in
+      rw (lead, decimal_digit n one, none, same, last_of_zero (suc k)) refl
+  | inr more ↦
+      let rest = filled_is k (n / 10) (omega (arith, pow-succ' 10 (suc k))) (omega arith) in
+      let long : length (decimal n) ≡ suc (length (decimal (n / 10))) = rw (decimal_step n more fits) (simp length-append (omega arith)) in
+      let zeros : suc (suc k) - length (decimal n) ≡ suc k - length (decimal (n / 10)) = omega arith in
+      rw (zeros, decimal_step n more fits) (sym (append_assoc (replicate (suc k - length (decimal (n / 10))) 48) (decimal (n / 10)) ((48 + n % 10) ∷ [])) ∙ ap (λ (t : List ℕ). t ++ (48 + n % 10) ∷ []) rest)
+]
+
+rest_by_tens : (m n : ℕ) → 0 < m → (n % (10 * m) / 10 ≡ n / 10 % m) × (n % (10 * m) % 10 ≡ n % 10)
+rest_by_tens m n up =
+    let whole = n / (10 * m) in
+    let rest = n % (10 * m) in
+    let some : 0 < 10 * m = omega arith in
+    let small : rest < 10 * m = mod-lt n some in
+    let parts : 10 * (m * whole) + rest ≡ n = omega (arith, div-add-mod n (10 * m)) in
+    let front : n / 10 ≡ m * whole + rest / 10 = omega arith in
+    let below : rest / 10 < m = omega arith in
+    (sym (rw front (mul-add-mod_self_left m whole (rest / 10) ∙ mod-eq_of_lt below)), omega arith)
+
+-- the last digits are those of the rest by the power
+last_of_rest : (k n : ℕ) → last_digits k (n % 10 ^ k) ≡ last_digits k n
+unfolding last_digits
+last_of_rest zero n = refl
+last_of_rest (suc k) n =
+    let parts = rest_by_tens (10 ^ k) n (ten_up k) in
+    rw (pow-succ' 10 k, parts.1, parts.0, last_of_rest k (n / 10)) refl
+
+-- ---- what is written
+
+zero_padded : (k n : ℕ) → padded_integral (format_spec 32 0 4 k 18446744073709551615) false [] (decimal n) ≡ filled k n
+unfolding padded_integral char_count filled
+zero_padded k n =
+    let same : k - length (decimal n) - 0 - 0 ≡ k - length (decimal n) = omega arith in
+    rw (append-nil, same) refl
+
+some_padded : (k n : ℕ) → 0 < k → n < 10 ^ k → n < 2 ^ 64 → styled_decimal (format_spec 32 0 4 k 18446744073709551615) n ≡ last_digits k n
+some_padded zero n some small fits = absurd (omega arith)
+some_padded (suc k) n some small fits =
+    let shown : (suc k == 0) ≡ false = grind (arith, nat_tests) in
+    rw shown (zero_padded (suc k) n ∙ filled_is k n small fits)
+
+pub integer_text : (units : ℤ) (places : ℕ) → places ≡ 0 → sign_text (is_negative units) ++ decimal (unsigned_abs units / 10 ^ places) ≡ decimal_text units places
+unfolding last_digits
+integer_text units places none =
+    let text = sign_text (is_negative units) ++ decimal (unsigned_abs units / 10 ^ 0) in
+    rw none (sym (append-nil (text ++ []) ∙ append-nil text))
+
+pub places_text : (units : ℤ) (places : ℕ) → 0 < places → places ≤ 18
+    → sign_text (is_negative units) ++ (decimal (unsigned_abs units / 10 ^ places) ++ (46 ∷ styled_decimal (format_spec 32 0 4 places 18446744073709551615) (unsigned_abs units % 10 ^ places))) ≡ decimal_text units places
+places_text units places some few =
+    let up = ten_up places in
+    let small = mod-lt (unsigned_abs units) up in
+    let most = ten_grows places 18 few in
+    let digits = some_padded places (unsigned_abs units % 10 ^ places) some small (omega arith) ∙ last_of_rest places (unsigned_abs units) in
+    let shown : (places == 0) ≡ false = grind (arith, nat_tests) in
+    let sign = sign_text (is_negative units) in
+    let whole = decimal (unsigned_abs units / 10 ^ places) in
+    let part = last_digits places (unsigned_abs units) in
+    rw (digits, shown) (sym (append_assoc sign whole (46 ∷ part)) ∙ sym (append_assoc (sign ++ whole) (46 ∷ []) part))
+
+-- the same text in another form
+pub same_written : {W A E : Type 0} (took : W → List ℕ → W → Type 0) (r : Result A E) (w : W) (a b : List ℕ) (v : W) → a ≡ b → OnOk r (WritesInCalls took w a v) → OnOk r (WritesInCalls took w b v)
+same_written took r w a b v e = subst (λ (t : List ℕ). OnOk r (WritesInCalls took w t v)) e
+
+-- ---- which powers of ten fit
+
+pub fitting_scale : (places : ℕ) → places ≤ 18 → FitsSigned w64 (pos (10 ^ places))
+fitting_scale places few = let most = ten_grows places 18 few in record { sfits = omega (arith, ints) }
+
+pub few_places : (places : ℕ) → FitsSigned w64 (pos (10 ^ places)) → places ≤ 18
+few_places places fits = elim (cases_lt 18 places) [
+  | inl more ↦ let least = ten_grows 19 places (omega arith) in let low = fits.sfits in absurd (omega (arith, ints))
+  | inr few ↦ few
+]

@@ -1,0 +1,20 @@
+use Rattle.std.specs.Prelude.{◌^◌, pos}
+use Rattle.std.specs.Int.{w64}
+use Rattle.std.proofs.Common.{refl}
+use Rattle.std.proofs.lemmas.Int.{to_z-of_z}
+use Rattle.ratio64.proofs.DecimalTexts.{few_places, fitting_scale}
+use Rattle.ratio64.proofs.WideSums.{read}
+use Rattle.ratio64.proofs.fraction.Ratio.to_decimal.Goals as goal
+
+pub returns-in_err-scale : goal.returns-in_err-scale
+returns-in_err-scale c = rw c.from_residual.ensures (λ few. c.in_err-scale.ensures (fitting_scale c.args.places few))
+
+pub invariant_of-result : goal.invariant_of-result
+invariant_of-result c = record { few = few_places c.args.places c.in_ok-scale.ensures.0 }
+
+pub returns : goal.returns
+returns c =
+    let power = c.in_ok-scale.ensures in
+    let own = c.wide_round_even_times.ensures in
+    let rounded = rw (power.1, to_z-of_z w64 (pos (10 ^ c.args.places)) power.0) at own.rounded in
+    (few_places c.args.places power.0, record { places_are = refl; rounded = rw (read c.wide_round_even_times.result own.below) rounded })

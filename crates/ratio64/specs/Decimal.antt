@@ -1,0 +1,53 @@
+-- Decimal numbers, and their strings.
+use Rattle.std.specs.Prelude.{◌≡◌, ◌++◌, ◌/◌, ◌%◌, ◌+◌, ◌^◌, ◌*ℤ◌, ◌==◌, ℤ, ℕ, zero, suc, List, [], ◌∷◌, codes, length, pos, unsigned_abs, if◌then◌else◌}
+use Rattle.std.specs.Fmt.{decimal, sign_text}
+use Rattle.std.specs.Int.{is_negative}
+use Rattle.std.specs.Str.Parse.{IsNumeral}
+use Rattle.ratio64.specs.RatioText.{SpellsWhole, unsigned_part}
+use Rattle.ratio64.specs.Rounding.{IsRoundedEven}
+use Rattle.ratio64.specs.declared.decimal.Decimal.{Decimal}
+
+-- The units of a decimal number are the number times 10^places.
+-- Examples: of 246.80: 24680; of -0.05: -5; of 7: 7.
+abbrev pub units_of : Decimal → ℤ
+units_of x = x.units
+
+-- The places of a decimal number are its digits after the point.
+-- Examples: of 246.80: 2; of 7: 0.
+abbrev pub places_of : Decimal → ℕ
+places_of x = x.places
+
+-- x is the nearest to n/d of the decimal numbers with so many places. Of two that are equally near, it is the one whose units are even.
+-- Examples: 1234/5 with 2 places: 246.80; 1/8 with 2: 0.12; -1/20 with 1: 0.0.
+pub record IsDecimalOf (n d : ℤ) (places : ℕ) (x : Decimal) : Type 0 where
+  pub places_are : places_of x ≡ places
+  pub rounded : IsRoundedEven (n *ℤ pos (10 ^ places)) d (units_of x)
+
+-- These are the last decimal digits of the number.
+-- Examples: two of 5: `05`; two of 24680: `80`; none of 7: the empty string.
+unfoldable pub last_digits : ℕ → ℕ → List ℕ
+last_digits zero n = []
+last_digits (suc k) n = last_digits k (n / 10) ++ (48 + n % 10) ∷ []
+
+-- This is a point if there are places after it.
+-- Examples: 2: `.`; 0: the empty string.
+abbrev pub point : ℕ → List ℕ
+point places = if places == 0 then [] else codes "."
+
+-- The string of a decimal number is a minus if it is negative, the digits of its integer part, and a point and the digits after it if there are any.
+-- Examples: 24680 and 2 places: `246.80`; -5 and 2: `-0.05`; 7 and 0: `7`.
+abbrev pub decimal_text : ℤ → ℕ → List ℕ
+decimal_text units places =
+    let size = unsigned_abs units in
+    sign_text (is_negative units) ++ decimal (size / 10 ^ places) ++ point places ++ last_digits places size
+
+-- The string spells the decimal number with these units. It has an optional `-` and one or more digits, and then a point and as many digits as there
+-- are places, if there are any. Without the point it spells the units.
+-- Examples: `246.80`: 24680 and 2; `-00.5`: -5 and 1; `5.` and `.5` spell none.
+pub record SpellsDecimal (text : List ℕ) (units : ℤ) (places : ℕ) : Type 0 where
+  pub whole : List ℕ
+  pub part : List ℕ
+  pub parts : text ≡ whole ++ point places ++ part
+  pub part_places : length part ≡ places
+  pub whole_digits : IsNumeral 10 (unsigned_part whole)
+  pub spelled : SpellsWhole (whole ++ part) units
