@@ -15,7 +15,7 @@ use crate::plain::{difference, negated, product};
 
 /// A greatest common divisor with Bezout's coefficients: for the operands `a` and `b`, `a * x + b * y`
 /// equals `gcd`. `240.extended_gcd(&46)` is `ExtendedGcd { gcd: 2, x: -9, y: 47 }`.
-#[derive(Debug, Clone, Copy, PartialEq, Eq)]
+#[derive(Debug, Clone, Copy, PartialEq, Eq, Hash)]
 pub struct ExtendedGcd<A> {
     /// The greatest common divisor. For 240 and 46 it is 2.
     pub gcd: A,
