@@ -2,8 +2,9 @@
 
 A file with the path of a made file adds to it. A function in it that the made file has too, of the same type or trait, stands in the
 place of that one, below its comment if it has none of its own. A trait or an implementation whose head the made file has gives it the
-other methods, and its attributes, as does a struct or an enum by its name. Every other item follows the items of the file. Where it has all functions
-of the made file it is the whole file. A file with another path is a module of its own."""
+other methods, and its attributes, as does a struct or an enum by its name; an implementation also has the bounds by hand. Every other item
+follows the items of the file. Where it has all functions of the made file it is the whole file. A file with another path is a module of
+its own."""
 from __future__ import annotations
 
 from collections.abc import Iterable
@@ -16,8 +17,10 @@ BLOCKS = ('struct', 'enum', 'trait', 'impl')    # items of which the two files m
 
 
 def head(source: Source, item: Item) -> str:
-    """The words by which a type, a trait or an implementation is found: the name, or the whole head."""
-    return item.name if item.kind != 'impl' or item.open is None else ' '.join(source.text(item.word, item.open - 1).split())
+    """The words by which a type, a trait or an implementation is found: the name, or the head without what is generic."""
+    if item.kind != 'impl' or item.open is None:
+        return item.name
+    return ' '.join(['impl', *source.text(source.angle(item.word + 1), item.open - 1).split()])
 
 
 def start(source: Source, item: Item) -> int:
@@ -47,6 +50,7 @@ class Joined:
         for item in (item for item in others if item.kind in BLOCKS):
             block = self.blocks.get(head(added, item))
             if block:
+                self.put_head(block, item)
                 self.put_attributes(block, item)
                 self.append(block, self.others(block.items, item.items))
             else:
@@ -75,6 +79,12 @@ class Joined:
         first = self.made.code[block.first]
         lines = [self.added.text(*attribute) for attribute in item.attributes]
         self.made.texts[first] = '\n'.join([*lines, self.made.texts[first]])
+
+    def put_head(self, block: Item, item: Item) -> None:
+        """Puts the head of an implementation in the place of that of the made one."""
+        if item.kind == 'impl' and item.open and block.open:
+            first, last = self.made.code[block.word], self.made.code[block.open]
+            self.made.texts[first:last] = [self.added.text(item.word, item.open - 1) + ' ', *[''] * (last - first - 1)]
 
     def append(self, block: Item, items: list[Item]) -> None:
         """Puts items at the end of a trait or an implementation."""

@@ -1,11 +1,16 @@
 //! The calls of the other modules named `checked`, so that one import has all of them.
 
+#[doc(inline)]
 pub use crate::counting::checked::{factorial, falling};
+#[doc(inline)]
 pub use crate::lists::checked::{gcd_of, lcm_of};
+#[doc(inline)]
 pub use crate::modular::checked::{
     chinese_remainder, count_congruent, difference_modulo, inverse_modulo, negation_modulo, next_common_solution,
     next_common_solution_of, next_congruent, power_modulo, previous_congruent, product_modulo, quotient_modulo, residue, solutions,
     sum_modulo,
 };
+#[doc(inline)]
 pub use crate::powers::checked::{ilog, sqrt_rem};
+#[doc(inline)]
 pub use crate::rounding::checked::{div_round, div_round_even};

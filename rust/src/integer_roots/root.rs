@@ -169,7 +169,7 @@ pub fn cbrt<T: Roots>(x: T) -> T {
 }
 
 #[cfg_attr(has_do_not_recommend, diagnostic::do_not_recommend)]
-impl<T: Integer + NativeInteger<Magnitude = u64>> Roots for T {
+impl<T: HasRoots> Roots for T {
     fn nth_root(&self, n: u32) -> T {
         check(n != 0, "attempt to take a root of degree 0");
         check(
@@ -202,3 +202,18 @@ impl<T: NativeInteger<Magnitude = u64>> SqrtCounted for T {
         square_root_by_magnitude(*self)
     }
 }
+
+/// A built-in type that has roots: one of at most 64 bits.
+#[cfg_attr(
+    has_diagnostic,
+    diagnostic::on_unimplemented(
+        message = "`{Self}` does not implement `Roots` of cellarcove",
+        note = "those of at most 64 bits implement it; generic code has the bound `T: Roots`",
+        note = "`i128` and `u128` have no roots here: `isqrt` of std is their square root",
+        note = "a type of your own implements it by hand"
+    )
+)]
+pub trait HasRoots: NativeInteger<Magnitude = u64> {}
+
+#[cfg_attr(has_do_not_recommend, diagnostic::do_not_recommend)]
+impl<T: NativeInteger<Magnitude = u64>> HasRoots for T {}

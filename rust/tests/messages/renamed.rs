@@ -34,7 +34,9 @@ fn ones<T: NativeInteger>(a: T) -> u32 {
 
 fn roots_of_128_bits(a: u128, b: i128) -> (u128, i128) {
     let root = sqrt(a); // E0277 `u128` does not implement `Roots` of cellarcove
-    (root, nth_root(b, 3)) // E0277 `i128` does not implement `Roots` of cellarcove
+    let cube = nth_root(b, 3); // E0277 `i128` does not implement `Roots` of cellarcove
+    let _ = a.cbrt(); // E0599 `u128` does not implement `Roots` of cellarcove
+    (root, cube)
 }
 
 fn floats(a: f64) -> f64 {

@@ -21,3 +21,9 @@ impl Row {
 }
 
 impl Clone for Row {}
+
+#[cfg_attr(x, y)]
+impl<T: Wide + Fine> Low for T {}
+
+#[derive(Hash)]
+enum Place {}

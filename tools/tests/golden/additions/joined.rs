@@ -23,6 +23,16 @@ impl Row {
     fn first(&self) {}
 }
 
+#[cfg_attr(x, y)]
+impl<T: Wide + Fine> Low for T {
+    fn lowest(&self) {}
+}
+
+#[derive(Hash)]
+enum Place {
+    First,
+}
+
 
 /// Returns nothing.
 pub fn high() {}

@@ -15,3 +15,11 @@ impl Row {
 
     fn last(&self) {}
 }
+
+impl<T: Wide> Low for T {
+    fn lowest(&self) {}
+}
+
+enum Place {
+    First,
+}
