@@ -104,34 +104,19 @@ def object_of(call: Call) -> str:
 
 def form_text(call: Call) -> str:
     """The functions of a form, and its entry."""
-    has_status = EXPORTS().has_status(call)
-    taken = arguments(call, lambda k, kind: f'({TYPES[LETTERS[kind]]})a[{k}].{"i" if kind[0] == "i" else "u"}')
-    many = arguments(call, lambda k, kind: f'AT({TYPES[LETTERS[kind]]}, {k})')
-    name = call.symbol.removeprefix('cellarcove_')
-    found = results(call)
-    letters = ''.join(LETTERS[kind] for _, kind in found) + ('B' if has_status else '')
-    stores = [f'TO({TYPES[LETTERS[kind]]}, {k}) = r{path};' for k, (path, kind) in enumerate(found)]
-    if has_status:
-        stores.append(f'TO(uint8_t, {len(found)}) = (uint8_t)r.status;')
+    has_status, found = EXPORTS().has_status(call), results(call)
+    stores = [f'        TO({TYPES[LETTERS[kind]]}, {k}) = r{path};' for k, (path, kind) in enumerate(found)]
+    stores += [f'        TO(uint8_t, {len(found)}) = (uint8_t)r.status;'] * has_status
     refused = '''    if (r.status != CELLARCOVE_ANSWER) {
         *status = r.status;
         return NULL;
-    }
-''' if has_status else '    (void)status;\n'
-    return f'''static PyObject *one_{name}(const cell *a, uint32_t *status) {{
-    {c_type(call.result)} r = {call.symbol}({taken});
-{refused}    return {object_of(call)};
-}}
-
-static void many_{name}(Py_ssize_t count, char *const *in, const Py_ssize_t *steps, char *const *out) {{
-    for (Py_ssize_t k = 0; k < count; k++) {{
-        {c_type(call.result)} r = {call.symbol}({many});
-''' + ''.join(f'        {store}\n' for store in stores) + f'''    }}
-}}
-
-static const form form_{name} = {{"{''.join(LETTERS[kind] for kind in cells(call))}", "{letters}", {'true' if has_status else 'false'}, one_{name}, many_{name}}};
-
-'''
+    }''' if has_status else '    (void)status;'
+    return filled(
+        'form.c', name=call.symbol.removeprefix('cellarcove_'), type=c_type(call.result), symbol=call.symbol, refused=refused,
+        taken=arguments(call, lambda k, kind: f'({TYPES[LETTERS[kind]]})a[{k}].{"i" if kind[0] == "i" else "u"}'), object=object_of(call),
+        many=arguments(call, lambda k, kind: f'AT({TYPES[LETTERS[kind]]}, {k})'), stores='\n'.join(stores),
+        cells=''.join(LETTERS[kind] for kind in cells(call)), letters=''.join(LETTERS[kind] for _, kind in found) + 'B' * has_status,
+        has_status='true' if has_status else 'false')
 
 
 def bools(values: Sequence[bool]) -> str:
@@ -219,22 +204,16 @@ def call_text(name: str, forms: list[Call]) -> str:
     call, two = forms[0], len(forms) == 2
     follows = [two and a != b for a, b in zip(cells(forms[0]), cells(forms[-1]))]
     named = {form.form: f'&form_{form.symbol.removeprefix("cellarcove_")}' for form in forms}
-    forms_text = f'NULL, {named["i64"]}, {named["u64"]}' if two else f'&form_{call.symbol.removeprefix("cellarcove_")}, NULL, NULL'
-    shapes = ''.join('w' if parameter.name == WEEKDAY else SHAPES.get(parameter.kind, 'n') for parameter in call.parameters)
-    names = ', '.join(f'"{parameter}"' for parameter in parameter_names(call))
-    of_many = f'''    if (count != 2 && names == NULL) {{
+    of_many = f'''
+    if (count != 2 && names == NULL) {{
         return of_any_count(py_{name}_of, args, count);
     }}
 ''' if name in OF_MANY else ''
-    return f'''static const call call_{name} = {{"{name}", {len(call.parameters)}, {{{names}}}, "{shapes}",
-    {bools(divides(call))}, {bools(follows)}, {forms_text}}};
-
-static PyObject *py_{name}(PyObject *module, PyObject *const *args, Py_ssize_t count, PyObject *names) {{
-    (void)module;
-{of_many}    return run(&call_{name}, args, count, names);
-}}
-
-'''
+    return filled(
+        'call.c', name=name, count=str(len(call.parameters)), names=', '.join(f'"{parameter}"' for parameter in parameter_names(call)),
+        shapes=''.join('w' if parameter.name == WEEKDAY else SHAPES.get(parameter.kind, 'n') for parameter in call.parameters),
+        divides=bools(divides(call)), follows=bools(follows), of_many=of_many,
+        forms=f'NULL, {named["i64"]}, {named["u64"]}' if two else f'&form_{call.symbol.removeprefix("cellarcove_")}, NULL, NULL')
 
 
 def list_text(name: str, forms: list[Call]) -> str:
@@ -243,9 +222,6 @@ def list_text(name: str, forms: list[Call]) -> str:
     place, width = next((k, len(EXPORTS().leaves(item))) for k, item in enumerate(items) if item)
     for form in forms:
         assert {parameter.kind for parameter in form.parameters if not parameter.item} <= {form.form} and not form.writes, form
-    several = count > 1
-    head = 'PyObject *const *args, Py_ssize_t given' if several else 'PyObject *object'
-    taken = f'args, given, {count}' if several else '&object, 1, 1'
 
     def case(form: Call) -> str:
         others = iter(range(count))
@@ -257,47 +233,21 @@ def list_text(name: str, forms: list[Call]) -> str:
         Py_END_ALLOW_THREADS
         return of_list(&of, r.status, {OBJECTS[form.form]}(r.value));
 '''
-    signed = f'''    if (of.is_signed) {{
+    signed = f'''
+    if (of.is_signed) {{
 {case(forms[0])}    }}
 ''' if len(forms) == 2 else ''
-    return f'''static PyObject *py_{name}(PyObject *module, {head}) {{
-    (void)module;
-    list of;
-    cell others[{count}];
-    if (read_list("{name}", {taken}, {place}, {width}, {"true" if len(forms) == 2 else "false"}, &of, others) != 0) {{
-        return NULL;
-    }}
-{signed}    {{
-{case(forms[-1])}    }}
-}}
-
-'''
+    return filled('list.c', name=name, parameters='PyObject *const *args, Py_ssize_t given' if count > 1 else 'PyObject *object',
+                  taken=f'args, given, {count}' if count > 1 else '&object, 1, 1', count=str(count), place=str(place), width=str(width),
+                  has_signed='true' if len(forms) == 2 else 'false', signed=signed, unsigned=case(forms[-1]))
 
 
 def written_text(name: str, call: Call) -> str:
     """The function of a call that writes unsigned numbers, whose other parameters are unsigned numbers before it."""
-    count = len(call.parameters)
+    last = len(call.parameters) - 1
     assert call.parameters[-1].is_written and {parameter.item or parameter.kind for parameter in call.parameters} == {'u64'}, call
-    return f'''static PyObject *py_{name}(PyObject *module, PyObject *const *args, Py_ssize_t given) {{
-    (void)module;
-    cell numbers[{count}];
-    if (unsigned_numbers("{name}", args, given, {count}, numbers) != 0) {{
-        return NULL;
-    }}
-    uint64_t *written = room_for(numbers[{count - 1}].u);
-    if (written == NULL) {{
-        return NULL;
-    }}
-    uint32_t status;
-    Py_BEGIN_ALLOW_THREADS
-    status = {call.symbol}({", ".join(f"numbers[{k}].u" for k in range(count - 1))}, written, (size_t)numbers[{count - 1}].u);
-    Py_END_ALLOW_THREADS
-    PyObject *result = status == CELLARCOVE_ANSWER ? tuple_of_numbers(written, (Py_ssize_t)numbers[{count - 1}].u) : refused(status, false);
-    PyMem_Free(written);
-    return result;
-}}
-
-'''
+    return filled('written.c', name=name, symbol=call.symbol, count=str(last + 1), last=str(last),
+                  passed=', '.join(f'numbers[{k}].u' for k in range(last)))
 
 
 def method(name: str, forms: list[Call]) -> str:
