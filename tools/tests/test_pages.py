@@ -20,7 +20,7 @@ CLASSES = {'Refused ValueError', 'NotFitting Refused, OverflowError'}
 ])
 def test_blocks(kind: str, text: str, quoted: list[bool]) -> None:
     files = pages.Files([RUST], [PROOF], 'half: std\n')
-    assert [files.has(block) for block in pages.blocks('sample', f'```{kind}\n{text}\n```\n')] == quoted
+    assert [files.has(block) for block in pages.blocks(f'```{kind}\n{text}\n```\n')] == quoted
 
 
 @pytest.mark.parametrize('text, passed', [
