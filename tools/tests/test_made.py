@@ -8,39 +8,21 @@ import pytest
 from tools import ROOT, as_made, write
 from tools.bindings import exports, files, python
 from tools.pages import reference
-
-# A file of cellarcove_c, an old text and a new one: a type, a result, the order of fields, a name, a status, a comment.
-EXPORTS = [
-    ('roots.rt', 'cellarcove_sqrt_u64(x: u64)', 'cellarcove_sqrt_u64(x: u32)'),
-    ('operators.rt', 'cellarcove_checked_sum_i64(a: i64, b: i64) -> I64Answer', 'cellarcove_checked_sum_i64(a: i64, b: i64) -> U64Answer'),
-    ('fractions.rt', '    pub num: i64,\n    pub den: i64,', '    pub den: i64,\n    pub num: i64,'),
-    ('weekdays.rt', 'fn cellarcove_weekday(', 'fn cellarcove_day_of_week('),
-    ('answers.rt', 'BAD_MODULUS: u32 = 5', 'BAD_MODULUS: u32 = 7'),
-    ('division.rt', 'if `y` is 0', 'if `x` is 0'),
-]
-# A page of the reference, a file of crates, an old text and a new one.
-PAGES = [
-    ('ratio64.md', 'ratio64/src/fraction.rt', 'IfErr result (λ _. den ≤ℤ pos 0)', 'IfErr result (λ _. den <ℤ pos 0)'),
-    ('integer_core.md', 'integer_core/specs/Divisors.antt', 'pub divides_left : Divides g a', 'pub divides_left : Divides a g'),
-    ('num_integer.md', 'integer_core/proofs/Coprimes.antt', 'pub natural_gcd_positive : {n m d : ℕ} → 0 < m',
-     'pub natural_gcd_positive : {n m d : ℕ} → 0 < n'),
-    ('calendar.md', 'calendar/src/feasts.rt', '/// Returns', '/// Computes'),
-    ('theorems_by_subject.md', 'theorems_by_subject/src/dates.rt', 'ensures { result ≡ Some day }', 'ensures { result ≡ None }'),
-    ('callers.md', 'callers/src/plain.rt', 'IsQuotient IsFloored n d result', 'IsQuotient IsFloored d n result'),
-]
+from tools.tests import samples
 
 
-def change(file: Path, old: str, new: str) -> None:
-    text = file.read_text()
+def change(file: Path, slip: str) -> None:
+    """Puts a new text in the place of an old one: the two stand above and below a line."""
+    text, (old, new) = file.read_text(), slip.rstrip('\n').split('\n----\n')
     assert old in text
     file.write_text(text.replace(old, new, 1))
 
 
-@pytest.mark.parametrize('name, old, new', EXPORTS)
-def test_exports(tmp_path: Path, monkeypatch: pytest.MonkeyPatch, name: str, old: str, new: str) -> None:
+@pytest.mark.parametrize('name, slip', samples.cases('exports'))
+def test_exports(tmp_path: Path, monkeypatch: pytest.MonkeyPatch, name: str, slip: str) -> None:
     before = files.made()
     monkeypatch.setattr(exports, 'SOURCES', shutil.copytree(exports.SOURCES, tmp_path / 'src'))
-    change(tmp_path / 'src' / name, old, new)
+    change(tmp_path / 'src' / name, slip)
     exports.EXPORTS.cache_clear()
     after = files.made()
     monkeypatch.undo()
@@ -66,11 +48,12 @@ def test_reference(tmp_path: Path, monkeypatch: pytest.MonkeyPatch) -> None:
     shutil.copytree(ROOT / 'crates', crates, ignore=shutil.ignore_patterns('out'))
     monkeypatch.setattr(reference, 'CRATES', crates)
     assert reference.Reference().made() == before
-    for _, name, old, new in PAGES:
-        change(crates / name, old, new)
+    slips = [(*head.split(', '), slip) for head, slip in samples.cases('reference')]
+    for _, name, slip in slips:
+        change(crates / name, slip)
     after = reference.Reference().made()
     changed = {page for page in before if before[page] != after[page]}
-    assert changed >= {page for page, *_ in PAGES}
+    assert changed >= {page for page, *_ in slips}
 
 
 def test_as_made(tmp_path: Path) -> None:
