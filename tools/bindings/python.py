@@ -3,6 +3,7 @@ import re
 import textwrap
 from collections.abc import Callable, Sequence
 
+from tools import ROOT
 from tools.bindings.exports import EXPORTS, Call, Field, c_type, filled, without_returns
 
 # The operators of `fractions.Fraction` and the calls of `math` do the same.
@@ -16,32 +17,14 @@ WEEKDAY = 'weekday'        # the parameter that may be a `Weekday`
 WRITTEN = 'count'          # the parameter in place of an array that is written
 # What a call does that returns in Python what C writes.
 DOCS = {
-    'choice_of_rank': 'The choice of `count` numbers below `n` that has the rank, as a tuple: it is the inverse of `rank`. For 2, 5 and 3'
-                      ' it is (0, 2, 3).',
+    'choice_of_rank': 'The choice of `count` numbers below `n` that has the rank, as a tuple: it is the inverse of `rank`.',
     'next_common_solution_of': 'Returns the smallest number from `from` on that solves each of up to 64 congruences, which are pairs of a residue and'
-                               ' a modulus. No product of the moduli need fit. For 10 and [(1, 4), (3, 6), (0, 7)] it is 21.',
+                               ' a modulus. No product of the moduli need fit.',
 }
 
-# Examples in a sentence of a comment that `example` does not read: the sentence, and in Python the calls and what they return.
-EXAMPLES: dict[str, tuple[str, list[tuple[str, str]]]] = {
-    'is_multiple_of': ('', [('12, 4', 'True'), ('0, 0', 'True'), ('4, 0', 'False')]),
-    'lcm_of': ('That of -4, 6 and 10 is 60, that of numbers of which one is 0 is 0, and that of no numbers is 1.',
-               [('[-4, 6, 10]', '60'), ('[4, 0]', '0'), ('[]', '1')]),
-    'is_square': ('144 is one, and -144 is not.', [('144', 'True'), ('-144', 'False')]),
-    'is_power': ('For -243 and 5 it is `true`, and for 244 and 5 it is `false`; for the degree 0 it is `true` at 1 alone.',
-                 [('-243, 5', 'True'), ('244, 5', 'False'), ('1, 0', 'True'), ('2, 0', 'False')]),
-    'is_perfect_power': ('128 is one, and 72 is not.', [('128', 'True'), ('72', 'False')]),
-    'previous_congruent': ('', [('2, 7, 28', '-21')]),
-    'rank': ('For 0, 2 and 3, and 5, it is 2.', [('[0, 2, 3], 5', '2')]),
-    'choice_of_rank': ('For 2, 5 and 3 it is (0, 2, 3).', [('2, 5, 3', '(0, 2, 3)')]),
-    'next_common_solution_of': ('For 10 and [(1, 4), (3, 6), (0, 7)] it is 21.', [('10, [(1, 4), (3, 6), (0, 7)]', '21')]),
-    'iso_week': ('That of 2005-01-01 is week 53 of 2004.', [('Date(2005, 1, 1)', 'IsoWeek(year=2004, week=53)')]),
-    'is_leap_year': ('2000 and 0 have one, and 1900 and -1 do not.', [('2000', 'True'), ('0', 'True'), ('1900', 'False'), ('-1', 'False')]),
-    'weeks_in_year': ('2020 has 53.', [('2020', '53')]),
-    'days_in_month': ('February 1900 has 28.', [('1900, 2', '28')]),
-}
-EXAMPLE = re.compile(r'(?:[Tt]hat of|Those of|Those for|For|From|The date for) (.*?) (?:it is|they are|is|are) ([^`]*)')
-TERM = re.compile(r'-?\d+-\d\d-\d\d|-?\d+(?:/\d+)?')  # a date, a fraction or a number
+# A sentence of a comment with an example, in whose place a docstring has the lines of the call in the last part of rows.txt.
+EXAMPLE = re.compile(r'(?:That of|Those of|Those for|For|From|The date for|February|-?\d).*\d.*')
+ROWS = (ROOT / 'bindings/python/tests/rows.txt').read_text().rpartition('\n\n')[2]
 
 LETTERS = {'i64': 'q', 'u64': 'Q', 'u32': 'I', 'u8': 'B', 'i32': 'i', 'bool': '?'}
 TYPES = {'q': 'int64_t', 'Q': 'uint64_t', 'I': 'uint32_t', 'B': 'uint8_t', 'i': 'int32_t', '?': 'uint8_t'}
@@ -49,7 +32,6 @@ OBJECTS = {'i64': 'PyLong_FromLongLong', 'u64': 'PyLong_FromUnsignedLongLong', '
            'bool': 'PyBool_FromLong'}
 # The class of a result, and the scalar result of the stubs.
 CLASSES = {'Bezout': ('class_gcd', 'ExtendedGcd'), 'Solutions': ('class_solutions', 'Solutions'), 'IsoWeek': ('class_week', 'IsoWeek')}
-FIELDS = {'ExtendedGcd': ('gcd', 'x', 'y'), 'Solutions': ('first', 'step')}
 SHAPES = {'Fraction': 'f', 'Date': 'd'}
 
 
@@ -143,51 +125,25 @@ def raised(call: Call) -> str:
     return ' '.join(re.sub('^`([A-Z_]+)`', exception, sentence) for sentence in call.statuses)
 
 
-def value_of(term: str, of: str) -> str:
-    """A date, a fraction or a number in Python, as an argument or as it is printed."""
-    if '/' in term:
-        return f'{of}({", ".join(term.split("/"))})'
-    if '-' in term[1:]:
-        year, month, day = map(int, term.rsplit('-', 2))
-        return f'Date(year={year}, month={month}, day={day})' if of else f'Date({year}, {month}, {day})'
-    return term
-
-
-def example(call: Call, sentence: str) -> list[tuple[str, str]]:
-    """The examples of a sentence such as "That of -8 by 3 is -3.": the arguments and the result in Python. There are none if it has no example."""
-    found = []
-    for clause in re.split(', and (?=that of)', sentence):
-        said = EXAMPLE.fullmatch(clause.removesuffix('.'))
-        if not said:
-            return []
-        given = ', '.join(value_of(term, '') for term in TERM.findall(said[1]))
-        terms, kind = [value_of(term, 'Fraction') for term in TERM.findall(said[2])], scalar_result(call)
-        fields = FIELDS.get(kind, ())
-        named = [f'{field}={term}' for field, term in zip(fields, terms)] or terms
-        found.append((f'[{given}]' if call.has_slice else given, named[0] if len(named) == 1 else f'{kind if fields else ""}({", ".join(named)})'))
+def examples(name: str) -> list[tuple[str, str]]:
+    """The calls of a name of which the docstring has the results, with these."""
+    found = [(call, value) for call, value in re.findall(r'^(\w+\(.*\))  # (.*)$', ROWS, re.M) if call.startswith(f'{name}(')]
+    assert found, f'{name}: the last part of rows.txt has no example'
     return found
 
 
-def examples(name: str, call: Call, doc: str) -> tuple[str, list[tuple[str, str]]]:
+def split(doc: str) -> tuple[str, list[str]]:
     """The comment of a call without the sentences that have examples, and those."""
-    sentence, by_hand = EXAMPLES.get(name, ('', []))
-    assert sentence in doc, f'{name}: the comment has no "{sentence}"'
-    kept, found = [], list(by_hand)
-    for part in re.split('(?<=[.]) ', doc.replace(sentence, '').strip()):
-        read = example(call, part)
-        found += read
-        kept += [] if read else [part]
-    assert found, f'{name}: the comment has no example'
-    return ' '.join(kept), found
+    parts = re.split('(?<=[.]) ', doc)
+    return ' '.join(part for part in parts if not EXAMPLE.fullmatch(part)), list(filter(EXAMPLE.fullmatch, parts))
 
 
 def docstring(name: str, forms: list[Call]) -> str:
     """What a call does, its errors, its arrays, and its examples, which the tests of the package run."""
     call = forms[0]
-    doc, found = examples(name, call, without_returns(DOCS.get(name, call.doc)))
-    parts = [doc, raised(call), 'It takes any count of numbers.' if name in OF_MANY else '']
+    parts = [split(without_returns(DOCS.get(name, call.doc)))[0], raised(call), 'It takes any count of numbers.' if name in OF_MANY else '']
     text = ['\n'.join(textwrap.wrap(in_python(part), 88)) for part in parts if part]
-    return '\n\n'.join([*text, '\n'.join(f'>>> {name}({given})\n{result}' for given, result in found)])
+    return '\n\n'.join([*text, '\n'.join(f'>>> {given}\n{result}' for given, result in examples(name))])
 
 
 def in_python(text: str) -> str:

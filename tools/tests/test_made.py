@@ -1,6 +1,8 @@
 """A slip in the sources changes what is made of them."""
+import contextlib
 import re
 import shutil
+from collections import Counter
 from pathlib import Path
 
 import pytest
@@ -9,6 +11,10 @@ from tools import ROOT, as_made, write
 from tools.bindings import exports, files, python
 from tools.pages import reference
 from tools.tests import samples
+
+
+# Calls whose comment has the numbers of an example in another order than Python.
+OTHER_ORDER = {'is_power', 'iso_week'}
 
 
 def change(file: Path, slip: str) -> None:
@@ -24,23 +30,38 @@ def test_exports(tmp_path: Path, monkeypatch: pytest.MonkeyPatch, name: str, sli
     monkeypatch.setattr(exports, 'SOURCES', shutil.copytree(exports.SOURCES, tmp_path / 'src'))
     change(tmp_path / 'src' / name, slip)
     exports.EXPORTS.cache_clear()
-    after = files.made()
+    after = dict[str, str]()
+    with contextlib.suppress(AssertionError):       # a call of another name has no example
+        after = files.made()
     monkeypatch.undo()
     exports.EXPORTS.cache_clear()
     assert before != after
 
 
-def test_examples_of_python() -> None:
-    """Each example of a comment is one that the tests of the package run, and no sentence has another one."""
-    for name, forms in python.public_calls():
-        words, mark, _ = python.docstring(name, forms).partition('>>> ')
-        assert mark and not re.search(r'\b(?:That|Those) (?:of|for) [-\d]|\b(?:For|From) [-\d]', words), name
+def numbers(text: str) -> list[int]:
+    """The numbers of a text, of which those of a date have no sign."""
+    return [int(number) for number in re.findall(r'(?<![\w.])-?\d+', re.sub(r'(?<=\d)-', ' ', text))]
 
 
-def test_comment_without_its_example() -> None:
-    forms = [form._replace(doc='Returns the quotient.') for form in dict(python.public_calls())['div_floor']]
-    with pytest.raises(AssertionError, match='div_floor: the comment has no example'):
-        python.docstring('div_floor', forms)
+def is_within(some: list[int], all_of_them: list[int]) -> bool:
+    """Whether these numbers are among those, in the same order."""
+    others = iter(all_of_them)
+    return all(number in others for number in some)
+
+
+@pytest.mark.parametrize('name, forms', python.public_calls())
+def test_examples_of_python(name: str, forms: list[exports.Call]) -> None:
+    """Each example of a comment is one that the tests of the package run."""
+    prose, sentences = python.split(forms[0].doc)
+    assert not re.search(r'\b(?:[Tt]hat|Those) (?:of|for) [-\d]|\b(?:For|From) [-\d]', prose)
+    said = numbers(' '.join(sentences))
+    shown = numbers(' '.join(part for row in python.examples(name) for part in row))
+    assert is_within(said, shown) or name in OTHER_ORDER and not Counter(said) - Counter(shown)
+
+
+def test_call_without_an_example() -> None:
+    with pytest.raises(AssertionError, match='div_flo: the last part of rows.txt has no example'):
+        python.examples('div_flo')
 
 
 def test_reference(tmp_path: Path, monkeypatch: pytest.MonkeyPatch) -> None:
