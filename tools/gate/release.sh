@@ -101,11 +101,12 @@ with_python() {
             --no-build-isolation "$2" >&2 && echo "$there/environment/bin/python"
 }
 
-tries_the_wheel() {
-    local python tests=$work/one/clone/bindings/python/tests/test_cellarcove.py turns=100000
-    [ "$quick" = no ] || turns=2000
-    python=$(with_python wheel "$files"/*.whl) && (cd "$(empty nowhere)" && CELLARCOVE_TURNS=$turns "$python" "$tests")
-}
+tries_the_wheel() (
+    local python here=$work/one/clone minutes=1
+    [ "$quick" = no ] || minutes=0.05
+    python=$(with_python wheel "$files"/*.whl) && cd "$(empty nowhere)" && "$python" "$here/bindings/python/tests/test_cellarcove.py" &&
+        "$python" "$here/tools/cellarcove" check fuzz --minutes "$minutes"
+)
 
 tries_the_source_distribution() {
     local python
