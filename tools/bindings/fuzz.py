@@ -1,5 +1,5 @@
-"""Calls all exports on random numbers, and compares what they return with the integers, the fractions and the dates of Python
-(by_python.py). The package `cellarcove` makes the calls, as it is installed: over arrays, with and without outputs, and of one
+"""Calls all exports on all small numbers and on random ones, and compares what they return with the integers, the fractions and the dates
+of Python (by_python.py). The package `cellarcove` makes the calls, as it is installed: over arrays, with and without outputs, and of one
 number. Of those that it lacks the shared library makes them, if it is given.
 
     tools/cellarcove check fuzz [--seed N] [--minutes M] [--library libcellarcove_c.so]
@@ -12,21 +12,25 @@ from __future__ import annotations
 import argparse
 import array
 import ctypes
+import datetime
+import itertools
 import random
 import time
 from collections.abc import Callable, Iterable, Iterator, Sequence
 from fractions import Fraction
 from functools import partial
+from types import SimpleNamespace
 from typing import Any
 
 import cellarcove
 
-from tools.bindings.by_python import I64, NOT_FITTING, PROPERTIES, RESULTS, U64
+from tools.bindings.by_python import BAD_MODULUS, I64, NOT_FITTING, OUTSIDE, PROPERTIES, RESULTS, U64, ZERO_DENOMINATOR
 from tools.bindings.exports import EXPORTS, Call
 from tools.bindings.python import LETTERS, cells, public_calls, results
 
 COUNT = 200                                     # elements of an array
 ONE_BY_ONE = 8                                  # of them, which are called alone too
+SMALL = {1: 600, 2: 144, 3: 20, 4: 14, 5: 7, 6: 5}  # numbers of each cell in the calls of all small ones, by the number of cells
 RANGES = {'i64': I64, 'u64': U64, 'u32': (0, 2**32 - 1), 'i32': (-2**31, 2**31 - 1), 'u16': (0, 2**16 - 1), 'u8': (0, 255)}
 MOST_SHOWN = 20
 C_TYPES = {'i64': ctypes.c_int64, 'u64': ctypes.c_uint64, 'u32': ctypes.c_uint32, 'i32': ctypes.c_int32, 'u16': ctypes.c_uint16, 'u8': ctypes.c_uint8,
@@ -68,6 +72,26 @@ def grouped(call: Call, numbers: Sequence[Any]) -> list[Any]:
     return found
 
 
+def small(call: Call) -> list[array.array[int]]:
+    """All small numbers, from those below 0 to those above it, as arrays for the cells of a call."""
+    kinds = cells(call)
+    count = SMALL[len(kinds)]
+    ranges = (range(-count // 2, count - count // 2) if kind == 'i64' else range(min(count, 256)) for kind in kinds)
+    return [array.array(LETTERS[kind], column) for kind, column in zip(kinds, zip(*itertools.product(*ranges)))]
+
+
+def as_object(value: Any) -> Any:
+    """A number; or a fraction or a date, at times as an object in place of a tuple."""
+    if not isinstance(value, tuple) or random.random() < 0.3:
+        return value
+    if len(value) == 2:
+        return Fraction(*value) if value[1] > 0 else value
+    try:
+        return random.choice((datetime.date, cellarcove.Date))(*value)
+    except (OverflowError, ValueError):
+        return SimpleNamespace(year=value[0], month=value[1], day=value[2])
+
+
 # ---- results
 
 def plain(result: Any) -> tuple[int, ...]:
@@ -91,19 +115,23 @@ def judge(call: Call, arguments: Sequence[Any], status: int, values: Sequence[in
         raise Wrong(f'{call.symbol}{tuple(arguments)} is {values} with status {status}, and not {said}')
 
 
-def of_arrays(name: str, call: Call) -> tuple[int, list[array.array[int]]]:
-    """Calls of arrays."""
-    taken, outputs = columns(call), None
+def of_arrays(name: str, call: Call, taken: list[array.array[int]], number_last: bool = False) -> int:
+    """Calls of arrays, of which the last may be a number beside the others."""
+    count, outputs, given = len(taken[0]), None, list[Any](taken)
     has_status = EXPORTS().has_status(call)
     if random.random() < 0.3:
         letters = [LETTERS[kind].replace('?', 'B') for _, kind in results(call)] + ['B'] * has_status
-        outputs = tuple(array.array(letter, [77]) * COUNT for letter in letters)
-    returned = getattr(cellarcove, name)(*grouped(call, taken), **({'out': outputs} if outputs else {}))
+        outputs = tuple(array.array(letter, [77]) * count for letter in letters)
+    if number_last:
+        given[-1] = taken[-1][0]
+        taken = [*taken[:-1], array.array(taken[-1].typecode, given[-1:]) * count]
+    returned = getattr(cellarcove, name)(*grouped(call, given), **({'out': outputs} if outputs else {}))
     found = returned if isinstance(returned, tuple) else (returned,)
-    statuses = found[-1] if has_status else [0] * COUNT
+    statuses = found[-1] if has_status else [0] * count
+    assert {len(column) for column in found} == {count}
     for numbers, status, values in zip(zip(*taken), statuses, zip(*found[:len(found) - has_status])):
         judge(call, grouped(call, numbers), status, values)
-    return COUNT, taken
+    return count
 
 
 def in_ranges(call: Call, numbers: Sequence[int]) -> bool:
@@ -121,7 +149,7 @@ def alone(name: str, forms: list[Call], numbers: Sequence[int]) -> int:
         return 0
     if two and call.form == 'u64' and call.name in RESULTS and RESULTS[call.name](U64, *arguments) == NOT_FITTING and in_ranges(forms[0], numbers):
         call = forms[0]
-    judge_one(name, call, arguments, arguments)
+    judge_one(name, call, [as_object(argument) for argument in arguments], arguments)
     return 1
 
 
@@ -158,6 +186,8 @@ def of_list(name: str, forms: list[Call]) -> int:
         call = next(form for form in forms if (form.form == 'i64') == any(value < 0 for value in flat))
         if not all(RANGES[call.form][0] <= value <= RANGES[call.form][1] for value in flat):
             return 0
+        if call.name in ('gcd_of', 'lcm_of') and random.random() < 0.5:
+            judge_one(call.name.removesuffix('_of'), call, items, [items])
     judge_one(name, call, [*others[:place], given, *others[place:]], [*others[:place], items, *others[place:]])
     return 1
 
@@ -170,12 +200,24 @@ def of_written(name: str, call: Call) -> int:
     return 1
 
 
+def is_by_zero(call: Call, status: int, arguments: Sequence[Any]) -> bool:
+    """Whether the reason of a status is that a divisor, a modulus or a denominator is 0."""
+    if status != BAD_MODULUS:
+        return status == ZERO_DENOMINATOR or status == OUTSIDE and call.module == 'division'
+    pairs = zip((parameter.name for parameter in call.parameters), arguments)
+    return any(m == 0 for name, given in pairs for m in ((item[1] for item in given) if isinstance(given, list) else [given])
+               if isinstance(given, list) or name in ('m', 'n', 'step'))
+
+
 def judge_one(name: str, call: Call, given: Sequence[Any], arguments: Sequence[Any]) -> None:
-    """Makes a call, and judges what it returns for the arguments."""
+    """Makes a call, and judges what it returns for the arguments, or the class of the error."""
     try:
         status, values = 0, plain(getattr(cellarcove, name)(*given))
     except cellarcove.Refused as refused:
         status, values = int(refused.status), None
+        kinds = {ZeroDivisionError: is_by_zero(call, status, arguments), OverflowError: status == NOT_FITTING}
+        if any(isinstance(refused, kind) != wanted for kind, wanted in kinds.items()):
+            raise Wrong(f'{call.symbol}{tuple(arguments)} raises {type(refused).__name__} with status {status}') from refused
     judge(call, arguments, status, values)
 
 
@@ -187,8 +229,9 @@ def of_package(name: str, forms: list[Call]) -> int:
         return sum(of_list(name, forms) for _ in range(COUNT // 10))
     done = 0
     for call in forms:
-        count, taken = of_arrays(name, call)
-        done += count + sum(alone(name, forms, numbers) for numbers in list(zip(*taken))[:ONE_BY_ONE])
+        taken = columns(call)
+        done += of_arrays(name, call, taken, len(taken) > 1 and random.random() < 0.3)
+        done += sum(alone(name, forms, numbers) for numbers in list(zip(*taken))[:ONE_BY_ONE])
     return done
 
 
@@ -277,8 +320,13 @@ def check(words: list[str]) -> bool:
     if options.library:
         others = list(lacking(ctypes.CDLL(options.library)))
         runners, exports = runners + others, exports + len(others)
+    all_small = [partial(of_arrays, name, form, small(form)) for name, forms in public_calls() for form in forms if not form.has_slice]
     begin = time.monotonic()
-    done, wrong = run(options.seed, options.minutes, runners, MOST_SHOWN)
+    done, wrong = run(options.seed, 0, all_small, MOST_SHOWN)
+    if not wrong:
+        print(f'all small numbers: {done:,} calls in {time.monotonic() - begin:.0f} s')
+        begin = time.monotonic()
+        done, wrong = run(options.seed, options.minutes, runners, MOST_SHOWN)
     spent = (time.monotonic() - begin) / 60
     print(f'seed {options.seed}: {done:,} calls of {exports} exports in {spent:.1f} minutes, {done / spent:,.0f} a minute; {wrong} runs are wrong')
     return wrong == 0

@@ -146,10 +146,9 @@ makes_a_wheel() {
 
 # The wheel, unpacked, runs in an empty folder, with a Python.
 passes_its_tests() {
-    local tests=$PWD/bindings/python/tests/test_cellarcove.py
     rm -rf "$work/site" "$work/empty_folder"
     python3 -m zipfile -e "$work"/wheel/*.whl "$work/site" && mkdir "$work/empty_folder" &&
-        (cd "$work/empty_folder" && PYTHONPATH=$work/site PYTHONDONTWRITEBYTECODE=1 "$@" "$tests")
+        with_package "$PWD/bindings/python/tests/test_cellarcove.py"
 }
 
 # with_package SCRIPT WORD..: the script runs with the package of the wheel, in an empty folder.
@@ -162,7 +161,7 @@ counted() {
     judge "$1, $(tail -n 1 "$work/log")" "$status"
 }
 
-# All exports return what Python computes, for random arguments.
+# All exports return what Python computes, for all small arguments and for random ones.
 fuzz() {
     cc -shared "$(dirname "$archive")/cellarcove_c.o" -o "$work/all_calls.so" &&
         with_package "$PWD/tools/cellarcove" check fuzz --seed "$1" --minutes "$2" --library "$work/all_calls.so"
@@ -183,9 +182,10 @@ assert {'LICENSE-APACHE', 'LICENSE-MIT'} <= {file.name for file in importlib.met
 
 # So does one that is built with the sanitizers.
 passes_with_sanitizers() {
-    CFLAGS='-O1 -g -fsanitize=address,undefined -fno-sanitize-recover' CC=gcc makes_a_wheel &&
-        CELLARCOVE_TURNS=500 LD_PRELOAD="$(gcc -print-file-name=libasan.so) $(gcc -print-file-name=libubsan.so)" \
-            ASAN_OPTIONS=detect_leaks=0 PYTHONMALLOC=malloc passes_its_tests python3
+    CFLAGS='-O1 -g -fsanitize=address,undefined -fno-sanitize-recover' CC=gcc makes_a_wheel || return 1
+    local -x ASAN_OPTIONS=detect_leaks=0 PYTHONMALLOC=malloc LD_PRELOAD
+    LD_PRELOAD="$(gcc -print-file-name=libasan.so) $(gcc -print-file-name=libubsan.so)"
+    passes_its_tests && with_package "$PWD/tools/cellarcove" check fuzz --minutes 0
 }
 
 # A source distribution has all that a wheel is built of by cargo, and its names are those of the package.
@@ -240,14 +240,15 @@ looks_at() {
     fi
 }
 
+# python_calls MINUTES: the wheel, its tests, and so many minutes of random calls.
 python_calls() {
     if has python3 Python && has cc Python; then
         if python3 -m pip --version >/dev/null 2>&1; then
             languages=$((languages + 1))
             check 'the wheel' makes_a_wheel
-            check 'Python' passes_its_tests python3
+            check 'Python' passes_its_tests
             check 'the files and the tags of the wheel' with_package "$PWD/bindings/python/tests/test_wheel.py" "$work"/wheel/*.whl
-            counted 'random calls' fuzz 1 0.05
+            counted 'random calls' fuzz 1 "$1"
         else
             echo 'Python: skipped, since there is no pip'
         fi
@@ -259,7 +260,7 @@ if [ "$libraries" != --cargo ]; then
     looks_at
     cp "$work/sums" "$work/proved_sums" 2>/dev/null
     c_with gcc
-    python_calls
+    python_calls 0.2
 fi
 if builds_by_cargo; then
     archive=$work/by_cargo/libcellarcove_c.a
@@ -268,10 +269,10 @@ if builds_by_cargo; then
     looks_at
     c_with gcc
     if [ "$libraries" = --cargo ]; then
-        python_calls
+        python_calls 0.2
     else
         check 'the results of both' diff "$work/proved_sums" "$work/sums"
-        CELLARCOVE_TURNS=5000 python_calls
+        python_calls 0.05
     fi
 fi
 if has cc C; then
