@@ -38,11 +38,11 @@ pub(crate) fn next_factors<T: Integer + Copy>(c: T, n: T, k: T) -> (T, T) {
 }
 
 /// Returns the coefficient of `n` and `k + 1`. `c` is that of `n` and `k`. No intermediate value
-/// exceeds the result.
+/// exceeds the result. `reason` is that of a result which does not fit.
 #[track_caller]
-pub(crate) fn next_coefficient<T: Integer + Copy>(c: T, n: T, k: T) -> T {
+pub(crate) fn next_coefficient<T: Integer + Copy>(c: T, n: T, k: T, reason: &'static str) -> T {
     let (x, y) = next_factors(c, n, k);
-    product_or(x, y, "the binomial coefficient does not fit")
+    product_or(x, y, reason)
 }
 
 /// Returns the smaller of `k` and `n - k`.
@@ -53,6 +53,25 @@ pub(crate) fn nearer_end<T: Integer + Copy>(n: T, k: T) -> T {
     } else {
         k
     }
+}
+
+/// Returns [`binomial_counted`] of numbers that are not negative. `reason` is that of a coefficient
+/// which does not fit.
+#[track_caller]
+fn coefficient_counted<T: Integer + Copy>(n: T, k: T, reason: &'static str) -> (T, u32) {
+    if is_below(n, k) {
+        return (zero(), 0);
+    }
+    let last = nearer_end(n, k);
+    let mut coefficient = one();
+    let mut place = zero();
+    let mut turns = 0;
+    while is_below(place, last) {
+        coefficient = next_coefficient(coefficient, n, place, reason);
+        place = successor(place);
+        turns += 1;
+    }
+    (coefficient, turns)
 }
 
 /// Returns [`binomial`] and the number of turns of its loop.
@@ -76,19 +95,7 @@ pub(crate) fn nearer_end<T: Integer + Copy>(n: T, k: T) -> T {
 pub fn binomial_counted<T: Integer + Copy>(n: T, k: T) -> (T, u32) {
     check(!is_negative(n), "`n` is negative");
     check(!is_negative(k), "`k` is negative");
-    if is_below(n, k) {
-        return (zero(), 0);
-    }
-    let last = nearer_end(n, k);
-    let mut coefficient = one();
-    let mut place = zero();
-    let mut turns = 0;
-    while is_below(place, last) {
-        coefficient = next_coefficient(coefficient, n, place);
-        place = successor(place);
-        turns += 1;
-    }
-    (coefficient, turns)
+    coefficient_counted(n, k, "the binomial coefficient does not fit")
 }
 
 /// Returns the binomial coefficient of `n` and `k`, the number of ways to choose `k` of `n` things.
@@ -147,15 +154,13 @@ pub fn binomial<T: Integer + Copy>(n: T, k: T) -> T {
 #[must_use]
 pub fn multinomial<T: Integer + Copy>(k: &[T]) -> T {
     check_none_negative(k, "a count is negative");
+    let reason = "the multinomial coefficient does not fit";
     let mut multinomial = one();
     let mut total = zero();
     for count in k {
-        total = sum_or(total, *count, "the multinomial coefficient does not fit");
-        multinomial = product_or(
-            multinomial,
-            binomial(total, *count),
-            "the multinomial coefficient does not fit",
-        );
+        total = sum_or(total, *count, reason);
+        let ways = coefficient_counted(total, *count, reason).0;
+        multinomial = product_or(multinomial, ways, reason);
     }
     multinomial
 }

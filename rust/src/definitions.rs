@@ -59,6 +59,7 @@
 //! - `MatchOption r A P`: A if r is `None`, and P of the value if it is `Some`
 //! - `SomeIff r A v`: r is `Some` of v if A holds, and otherwise `None`
 //! - `IfOk r P`, `IfErr r P`: if r is `Ok`, P holds of its value; if it is `Err`, of the error
+//! - `IsOk r`, `OnOk r A`, `OnErr r A`: r is `Ok`; if it is, A holds; if it is `Err`, A holds
 //! - `All P xs`, `AllWithin P xs i j`, `EachIndex xs P`: P holds of each item; of each from place i
 //!   to before place j; of each place
 //! - `length xs`, `map f xs`, `sum xs`, `sum_by f xs`: the number of items; f of each; their sum;
@@ -1702,6 +1703,22 @@ pub mod applied {
     //!   pub from_first : first ≤ℤ t
     //!   pub congruent : AreCongruent period t first
     //! ```
+    //! ## `IsTimeTo`
+    //! The time t is in the schedule, and at most `to`. Examples: first 3, period 6, to 15: 3; 9;
+    //! 15; not 21; not -3.
+    //! ```text
+    //! pub record IsTimeTo (first period to t : ℤ) : Type 0 where
+    //!   pub time : IsTime first period t
+    //!   pub to_there : t ≤ℤ to
+    //! ```
+    //! ## `IsCountOfTimes`
+    //! count is how many times of the schedule are in from..=to. Examples: first 3, period 6: from
+    //! 4, to 15: 2 (9 and 15); from -9, to 15: 3; from -9, to 2: 0.
+    //! ```text
+    //! abbrev pub IsCountOfTimes : ℤ → ℤ → ℤ → ℤ → ℤ → Type 0
+    //! IsCountOfTimes from to first period count = IsCountFrom from (IsTimeTo first period to)
+    //!     count
+    //! ```
     //! ## `IsMeeting`
     //! The time t is in the schedule (a, p) and in the schedule (b, q). Examples: (1, 4) and (3,
     //! 6): 9; 21; 33; not 3.
@@ -1759,6 +1776,41 @@ pub mod applied {
     //!   pub not_above : share * total < amount * weight + total
     //!   pub not_below : amount * weight < share * total + total
     //! ```
+    //! ## `rounded_down`
+    //! This is the exact share of a weight, rounded down. The exact share is amount · weight /
+    //! total. Examples: amount 100, total 3: weight 1: 33; weight 2: 66.
+    //! ```text
+    //! abbrev pub rounded_down : ℕ → ℕ → ℕ → ℕ
+    //! rounded_down amount total weight = amount * weight / total
+    //! ```
+    //! ## `remainder_of`
+    //! This is the remainder of the exact share, in parts of 1 / total. Examples: amount 100, total
+    //! 3: weight 1: 1; weight 2: 2.
+    //! ```text
+    //! abbrev pub remainder_of : ℕ → ℕ → ℕ → ℕ
+    //! remainder_of amount total weight = amount * weight % total
+    //! ```
+    //! ## `AreSharesByRemainder`
+    //! Together the shares are the amount. Each is its exact share rounded down, or 1 more. A
+    //! weight that gets 1 more has a larger remainder than one that does not, or the same remainder
+    //! and stands before it. Examples: amount 2, weights 1, 1, 98: 0, 0, 2; amount 100: weights 1,
+    //! 1, 1: 34, 33, 33; weights 1, 2: 33, 67.
+    //! ```text
+    //! pub record AreSharesByRemainder (amount : ℕ) (weights shares : List ℕ) : Type 0 where
+    //!   pub one_each : length shares ≡ length weights
+    //!   pub whole : sum shares ≡ amount
+    //!     pub rounded : EachIndex weights (λ i. (slice_index shares i ≡ rounded_down amount (sum
+    //!       weights) (slice_index weights i))
+    //!             ⊎ (slice_index shares i ≡ rounded_down amount (sum weights) (slice_index weights
+    //!           i) + 1))
+    //!   pub largest : (i j : ℕ) → i < length weights → j < length weights
+    //!       → slice_index shares i ≡ rounded_down amount (sum weights) (slice_index weights i) + 1
+    //!       → slice_index shares j ≡ rounded_down amount (sum weights) (slice_index weights j)
+    //!             → (remainder_of amount (sum weights) (slice_index weights j) < remainder_of
+    //!           amount (sum weights) (slice_index weights i))
+    //!             ⊎ ((remainder_of amount (sum weights) (slice_index weights j) ≡ remainder_of
+    //!           amount (sum weights) (slice_index weights i)) × (i < j))
+    //! ```
     //! ## `signed_sum`
     //! This is the sum of signed numbers. Examples: -34, -33, -33: -100; 5, -7: -2; no numbers: 0.
     //! ```text
@@ -1775,5 +1827,13 @@ pub mod applied {
     //!   pub magnitudes : AreShares (unsigned_abs amount) weights (map unsigned_abs shares)
     //!   pub from_zero : pos 0 ≤ℤ amount → All (λ share. pos 0 ≤ℤ share) shares
     //!   pub to_zero : amount ≤ℤ pos 0 → All (λ share. share ≤ℤ pos 0) shares
+    //! ```
+    //! ## `error_text`
+    //! This is the message of an error, which `Display` prints. Examples: `ZeroWeights`: `the
+    //! weights are all 0`.
+    //! ```text
+    //! abbrev pub error_text : SharesError → List ℕ
+    //! error_text DifferentLengths = codes "there is not one share for each weight"
+    //! error_text ZeroWeights = codes "the weights are all 0"
     //! ```
 }

@@ -2,8 +2,8 @@
 //! The combinatorial number system: a choice is a list of increasing numbers below `n`, and its
 //! rank is how many choices of the same length come before it.
 
-use crate::guards::sum_or;
 use crate::guards::{check_choice, check_rank};
+use crate::guards::{some, sum_or};
 use crate::halving::midpoint;
 use crate::{binomial, checked, Fits};
 
@@ -87,7 +87,10 @@ pub fn rank(choice: &[u64], n: u64) -> u64 {
     );
     let mut rank = 0;
     for (i, number) in choice.iter().enumerate() {
-        let count = binomial(*number, i as u64 + 1);
+        let count = some(
+            checked::binomial(*number, i as u64 + 1),
+            "the rank does not fit",
+        );
         rank = sum_or(rank, count, "the rank does not fit");
     }
     rank

@@ -3,7 +3,7 @@
 
 use crate::guards::{check, check_second_positive};
 pub use crate::modular::CommonSolution;
-use crate::modular::{next_common_solution, next_common_solution_of, Modular};
+use crate::modular::{count_congruent, next_common_solution, next_common_solution_of, Modular};
 use crate::operators::{is_below, zero};
 use crate::{Fits, Integer};
 
@@ -72,6 +72,31 @@ pub fn next_meeting<T: Modular + Fits>(
 pub fn next_meeting_of<T: Modular + Fits>(now: T, schedules: &[Schedule<T>]) -> CommonSolution<T> {
     check_second_positive(schedules, "a period is not positive");
     next_common_solution_of(latest(now, schedules), schedules)
+}
+
+/// Returns how many times of the schedule are in `from..=to`, or `None` if the type cannot hold
+/// that count. No time is before the first time of the schedule.
+///
+/// # Examples
+///
+/// ```
+/// use cellarcove::schedules::count;
+///
+/// assert_eq!(count(4, 15, (3, 6)), Some(2));
+/// assert_eq!(count(-9, 15, (3, 6)), Some(3));
+/// assert_eq!(count(-128i8, 127, (-128, 1)), None);
+/// ```
+///
+/// # Panics
+///
+/// If the period is not positive.
+///
+/// [Contract](crate::definitions::contracts#schedulescount)
+#[track_caller]
+#[must_use]
+pub fn count<T: Fits>(from: T, to: T, schedule: Schedule<T>) -> Option<T> {
+    check(is_below(zero(), schedule.1), "the period is not positive");
+    count_congruent(maximum(from, schedule.0), to, schedule.0, schedule.1)
 }
 
 /// Returns the later of `now` and the latest first time of the schedules.

@@ -4,7 +4,8 @@ use cellarcove::calendar::{easter, last_weekday_of_month, months_between, Date, 
 use cellarcove::modular::{inverse_modulo, residue, CommonSolution};
 use cellarcove::ratio64::{ParseRatioError, Ratio};
 use cellarcove::schedules::next_meeting;
-use cellarcove::{checked, layout, paging, ranking, Integer};
+use cellarcove::shares::SharesError;
+use cellarcove::{checked, layout, paging, ranking, shares, Integer};
 use std::str::FromStr;
 
 fn pages(items: u64) -> u64 {
@@ -18,6 +19,12 @@ fn items_of(page: usize, items: &[u64]) -> &[u64] {
 
 fn shares(cents: u64, people: u64) -> (u64, u64) {
     cents.div_mod_floor(&people)
+}
+
+fn budgets(cents: u64, people: [u64; 3]) -> Result<[u64; 3], SharesError> {
+    let mut budgets = [0; 3];
+    shares::shares(cents, &people, &mut budgets)?;
+    Ok(budgets)
 }
 
 fn aligned(offset: u64) -> Option<u64> {
@@ -108,6 +115,9 @@ fn tasks_on_numbers() {
     assert_eq!(items_of(2, &items), [40]);
     assert!(items_of(3, &items).is_empty());
     assert_eq!(shares(1000, 3), (333, 1));
+    assert_eq!(budgets(1001, [5, 3, 2]), Ok([501, 300, 200]));
+    assert_eq!(budgets(1, [1, 1, 98]), Ok([1, 0, 0]));
+    assert_eq!(budgets(1001, [0; 3]), Err(SharesError::ZeroWeights));
     assert_eq!((aligned(13), aligned(u64::MAX)), (Some(16), None));
     assert_eq!(both_buses(10), CommonSolution::At(21));
     assert_eq!(tax(i64::MAX), Some(1752440687002407403));

@@ -1,7 +1,9 @@
 -- The laws of specs/Laws.antt, a lemma each.
 use Rattle.std.specs.Prelude.{◌≡◌, ◌<◌, ◌≤◌, ◌≤ℤ◌, ◌<ℤ◌, ◌+ℤ◌, ◌-ℤ◌, ◌*ℤ◌, ◌∷◌}
-use Rattle.applied.proofs.Common.{ℕ, ℤ, pos, List, [], length, AllWithin, arith, ap, refl, subst, AreCongruent, CommonSolution, Never, Beyond, At, congruent-equal, IsLeastFrom, Divides-difference, ceiled_quotient_least, expand, floored_by_range, floored_range, least_is_only, linear, only_pair_by_range, products, division_exists, next_multiple_least, AlignedUpExists, AlignedUpIsOnly, GcdOfIsOnly, LcmOfIsOnly, LeastTimeIsOnly, LowerBoundIsOnly, MidpointIsOnly, PaddingIsOnly, PagesAreOnly, PartsDifferByOne, PlaceExists, PlaceIsOnly, IsLeastTime}
+use Rattle.applied.proofs.Common.{ℕ, ℤ, pos, List, [], length, AllWithin, arith, ap, refl, subst, AreCongruent, CommonSolution, Never, Beyond, At, congruent-equal, IsLeastFrom, Divides-difference, ceiled_quotient_least, expand, floored_by_range, floored_range, least_is_only, linear, only_pair_by_range, products, division_exists, next_multiple_least, AlignedUpExists, AlignedUpIsOnly, CountOfTimesIsOnly, GcdOfIsOnly, LcmOfIsOnly, LeastTimeIsOnly, LowerBoundIsOnly, MidpointIsOnly, PaddingIsOnly, PagesAreOnly, PartsDifferByOne, PlaceExists, PlaceIsOnly, SharesByRemainderAreOnly, IsLeastTime}
 use Rattle.applied.proofs.ListDivisors.{only_gcd_of, only_lcm_of}
+use Rattle.applied.proofs.LargestRemainders.{remainder_shares_only}
+use Rattle.modular.proofs.Laws.{count_is_only}
 pub use Rattle.applied.proofs.Choices.{choice_of_rank_is_only, rank_is_below}
 pub use Rattle.applied.proofs.ReducedPairs.{reduced_pair_exists, reduced_pair_is_only}
 pub use Rattle.applied.proofs.ListDivisors.{gcd_of_exists, gcd_of_fits_exactly}
@@ -72,6 +74,14 @@ same_time value fits P one now (At t) Beyond h k = absurd (not_at fits h.1 h.0 k
 
 pub least_time_is_only : {X : Type 0} (value : X → ℤ) (fits P : ℤ → Type 0) → LeastTimeIsOnly value fits P
 least_time_is_only value fits P = λ one now answer h other k. same_time value fits P one now answer other h k
+
+pub count_of_times_is_only : CountOfTimesIsOnly
+count_of_times_is_only = λ from to first period count h. count_is_only h
+
+-- ---- shares
+
+pub shares_by_remainder_are_only : SharesByRemainderAreOnly
+shares_by_remainder_are_only = λ amount weights shares h. remainder_shares_only h
 
 -- ---- halves
 

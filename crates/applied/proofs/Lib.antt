@@ -7,6 +7,7 @@ pub mod ItemRanges
 pub mod ReducedPairs
 pub mod ListDivisors
 pub mod WeightedShares
+pub mod LargestRemainders
 pub mod NearestQuotients
 pub mod FallingFactorials
 pub mod Laws

@@ -1,6 +1,6 @@
 -- Greatest common divisors and least common multiples of lists.
-use Rattle.std.specs.Prelude.{◌≡◌, ◌<◌, ◌+◌, ◌<ℤ◌, ◌∷◌, ◌++◌, ◌≢◌}
-use Rattle.applied.proofs.Common.{append-nil, append_assoc, GcdOfFitsExactly, ℕ, ℤ, pos, negsuc, neg_ℤ, unsigned_abs, List, [], length, get_or, map, take, Option, Some, All, arith, inl, inr, refl, subst, sym, ints, map_more, All-head, All-nil, All-pop, All-push, All-tail, All-weaker, AnswersWhere, Divides, IsGreatestCommonDivisor, IsRange, Divides-antisym, Divides-trans, Divides-zero, answers_as, gcd_fits_is, linear, no_minus_one, sizes, within_fits, zero_fits, zero_or_not, gcd_exists, GcdOfFits, IsGreatestCommonDivisorOf, take-map, HoldsAt, ◌∙◌, get_or-map, length-map, take_at, All-map, All-take, IsLeastCommonMultiple, EachFits, answer_only, divisor_at_most, fits_below, lcm-positive, one_divides, zero_divides, lcm_exists, IsLeastCommonMultipleOf}
+use Rattle.std.specs.Prelude.{◌≡◌, ◌<◌, ◌+◌, ◌≤ℤ◌, ◌<ℤ◌, ◌∷◌, ◌++◌, ◌≢◌}
+use Rattle.applied.proofs.Common.{append-nil, append_assoc, GcdOfFitsExactly, ℕ, ℤ, pos, negsuc, neg_ℤ, unsigned_abs, List, [], length, get_or, map, take, Option, Some, All, arith, inl, inr, refl, subst, sym, ints, map_more, All-head, All-nil, All-pop, All-push, All-tail, All-weaker, AnswersWhere, Divides, IsGreatestCommonDivisor, IsRange, Divides-antisym, Divides-refl, Divides-trans, Divides-zero, answers_as, gcd_fits_is, linear, no_minus_one, sizes, within_fits, zero_fits, zero_or_not, gcd_exists, GcdOfFits, IsGreatestCommonDivisorOf, take-map, HoldsAt, ◌∙◌, get_or-map, length-map, take_at, All-map, All-take, IsLeastCommonMultiple, EachFits, answer_only, divisor_at_most, fits_below, lcm-positive, one_divides, zero_divides, divides_magnitude, magnitude_divides, lcm_exists, IsLeastCommonMultipleOf}
 use Rattle.applied.proofs.ReducedPairs.{gcd_with_magnitude}
 
 -- ---- the gcd of one number more
@@ -91,6 +91,26 @@ pub gcd_of_next : {X : Type 0} (value : X → ℤ) (numbers : List X) (i : ℕ) 
     → IsGreatestCommonDivisor d (value x) (pos (unsigned_abs r)) → IsGreatestCommonDivisorOf (map value (take (i + 1) numbers)) (pos (unsigned_abs r))
 gcd_of_next value numbers i d r {x = x} before within at both = rw (map_more value numbers i x within, ← at) (gcd_of_more before (gcd_with_magnitude both))
 
+-- a divisor of the number is the gcd of both, up to its sign
+pub gcd_of_multiple : {d x : ℤ} → Divides d x → IsGreatestCommonDivisor d x (pos (unsigned_abs d))
+gcd_of_multiple {d} divides = record {
+  from_zero = omega (arith, sizes);
+  divides_left = magnitude_divides d;
+  divides_right = Divides-trans (magnitude_divides d) divides;
+  greatest = λ e left _. Divides-trans left (divides_magnitude d);
+}
+
+-- if the first numbers have the gcd 1, all of them do
+pub gcd_of_one : {X : Type 0} (value : X → ℤ) (numbers : List X) (i : ℕ) {d : ℤ} → d ≡ pos 1 → IsGreatestCommonDivisorOf (map value (take i numbers)) (pos (unsigned_abs d))
+    → IsGreatestCommonDivisorOf (map value numbers) (pos (unsigned_abs d))
+gcd_of_one value numbers i {d} one before =
+    let first = rw (← take-map value i numbers, one) at before in
+    rw one record {
+      from_zero = omega (arith, sizes);
+      divides_each = λ k e within. one_divides _;
+      greatest = λ e each. first.greatest e (All-take (λ x. Divides e x) i (map value numbers) each);
+    }
+
 -- ---- the lcm of one number more
 
 -- the least common multiple of no numbers is 1
@@ -150,6 +170,17 @@ zero_at value (x ∷ numbers) k within zero = λ d. get_or-map value (x ∷ numb
 
 pub lcm_of_result : (fits : ℤ → Type 0) {numbers : List ℤ} {l : ℤ} → fits l → IsLeastCommonMultipleOf numbers l → EachFits fits (IsLeastCommonMultipleOf numbers) × (fits l × IsLeastCommonMultipleOf numbers l)
 lcm_of_result fits {numbers} l_fits own = answer_only {P = IsLeastCommonMultipleOf numbers} own (λ y. only_lcm_of own) l_fits refl
+
+-- a multiple of the number is the lcm of both
+pub lcm_of_divisor : {l x : ℤ} → pos 0 ≤ℤ l → Divides x l → IsLeastCommonMultiple l x l
+lcm_of_divisor {l} up divides = record { from_zero = up; left_divides = Divides-refl l; right_divides = divides; least = λ m left _. left }
+
+pub lcm_of_divisor_fits : (fits : ℤ → Type 0) {l x : ℤ} → fits l → pos 0 ≤ℤ l → Divides x l → EachFits fits (IsLeastCommonMultiple l x) × (fits l × IsLeastCommonMultiple l x l)
+lcm_of_divisor_fits fits {l} {x} l_fits up divides =
+    let own = lcm_of_divisor up divides in
+    answer_only {P = IsLeastCommonMultiple l x} own
+    (λ y other. Divides-antisym own.from_zero other.from_zero (own.least _ other.left_divides other.right_divides) (other.least _ own.left_divides own.right_divides))
+    l_fits refl
 
 -- ---- the loop of `lcm_of`
 

@@ -1,6 +1,6 @@
 -- Meetings of schedules, from solutions of their congruences from a time on at which all have begun.
-use Rattle.std.specs.Prelude.{◌≡◌, ◌<◌, ◌+◌, ◌≤ℤ◌}
-use Rattle.applied.proofs.Common.{ℕ, ℤ, List, arith, cases_lt, get_or_read, inl, inr, length, slice_index_or, linear, SolvesBothCongruences, SolvesEach, IsLeastFrom, CommonSolution, At, Beyond, Never, HaveBegun, IsLeastTime, IsMeeting, IsMeetingOfEach}
+use Rattle.std.specs.Prelude.{◌≡◌, ◌<◌, ◌+◌, ◌≤ℤ◌, ◌+ℤ◌, ◌∷◌}
+use Rattle.applied.proofs.Common.{ℕ, ℤ, pos, List, [], Option, Some, None, MatchOption, Has, AreAllFrom, IsCongruentTo, IsCountOfCongruent, IsCountOfTimes, IsTimeTo, arith, cases_lt, get_or_read, inl, inr, length, slice_index_or, linear, SolvesBothCongruences, SolvesEach, IsLeastFrom, CommonSolution, At, Beyond, Never, HaveBegun, IsLeastTime, IsMeeting, IsMeetingOfEach}
 
 -- the next solution from the least time on at which all have begun is the next meeting
 module _ {now from : ℤ} {Begun Solves Meets : ℤ → Type 0} (begun : IsLeastFrom now Begun from) (meets : (t : ℤ) → from ≤ℤ t → Solves t → Meets t) (apart : (t : ℤ) → Meets t → Begun t × Solves t) where
@@ -42,3 +42,38 @@ begun_more value schedules k schedule within is later own begun i d upto = elim 
   | inl lower ↦ omega (arith, linear, begun i d lower)
   | inr same ↦ let at : i ≡ k = omega arith in rw (at, ← get_or_read schedules k schedule within is d) own
 ]
+
+-- ---- the times of one schedule
+
+-- from a time on at which the schedule has begun, its times are the congruent numbers
+times_since : (first period to start : ℤ) → first ≤ℤ start → (items : List ℤ) → AreAllFrom start (IsCongruentTo to first period) items → AreAllFrom start (IsTimeTo first period to) items
+times_since first period to start begun [] none = λ u above h. none u above record { to_there = h.to_there; congruent = h.time.congruent }
+times_since first period to start begun (t ∷ items) (next, rest) = (
+  record {
+    from_there = next.from_there;
+    holds = record { time = record { from_first = omega (arith, linear, next.from_there); congruent = next.holds.congruent }; to_there = next.holds.to_there };
+    least = λ u above h. next.least u above record { to_there = h.to_there; congruent = h.time.congruent };
+  },
+  times_since first period to (t +ℤ pos 1) (omega (arith, linear, next.from_there)) items rest,
+)
+
+-- no time is before that
+times_from : {from first start : ℤ} (period to : ℤ) → IsLeastFrom from (λ z. first ≤ℤ z) start → (items : List ℤ) → AreAllFrom start (IsTimeTo first period to) items → AreAllFrom from (IsTimeTo first period to) items
+times_from period to start [] none = λ u above h. none u (start.least u above h.time.from_first) h
+times_from period to start (t ∷ items) (next, rest) = (
+  record {
+    from_there = omega (arith, linear, start.from_there, next.from_there);
+    holds = next.holds;
+    least = λ u above h. next.least u (start.least u above h.time.from_first) h;
+  },
+  rest,
+)
+
+count_of_times : {from first period to start n : ℤ} → IsLeastFrom from (λ z. first ≤ℤ z) start → IsCountOfCongruent start to first period n → IsCountOfTimes from to first period n
+count_of_times {from} {first} {period} {to} start h = record { items = h.items; all = times_from period to start h.items (times_since first period to _ start.holds h.items h.all); counted = h.counted }
+
+pub times_by_congruent : {X : Type 0} (value : X → ℤ) (fits : ℤ → Type 0) {from start : ℤ} (to first period : ℤ) (r : Option X) → IsLeastFrom from (λ z. first ≤ℤ z) start
+    → MatchOption r ((n : ℤ) × IsCountOfCongruent start to first period n × ¬ (fits n)) (Has fits value (IsCountOfCongruent start to first period))
+    → MatchOption r ((n : ℤ) × IsCountOfTimes from to first period n × ¬ (fits n)) (Has fits value (IsCountOfTimes from to first period))
+times_by_congruent value fits to first period None start h = (h.0, count_of_times start h.1, h.2)
+times_by_congruent value fits to first period (Some n) start h = (h.0, count_of_times start h.1)

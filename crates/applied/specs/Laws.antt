@@ -15,7 +15,8 @@ use Rattle.applied.specs.ReducedPairs.{IsReducedPair}
 use Rattle.applied.specs.Counting.{falling}
 use Rattle.applied.specs.Powers.{IsLogarithm}
 use Rattle.applied.specs.Rounding.{IsNearest, IsNearestEven}
-use Rattle.applied.specs.Schedules.{IsLeastTime}
+use Rattle.applied.specs.Schedules.{IsCountOfTimes, IsLeastTime}
+use Rattle.applied.specs.Shares.{AreSharesByRemainder}
 
 -- ---- pages and parts
 
@@ -57,6 +58,16 @@ PaddingIsOnly = (offset alignment bytes other : ℤ) → pos 0 ≤ℤ bytes → 
 -- If different numbers have different values, at most one result says when a time with the property comes next.
 abbrev pub LeastTimeIsOnly : {X : Type 0} → (X → ℤ) → (ℤ → Type 0) → (ℤ → Type 0) → Type 0
 LeastTimeIsOnly {X} value fits P = ((x y : X) → value x ≡ value y → x ≡ y) → (now : ℤ) (answer : CommonSolution X) → IsLeastTime value fits now P answer → IsOnly (IsLeastTime value fits now P) answer
+
+-- The times of a schedule in a range have at most one count.
+abbrev pub CountOfTimesIsOnly : Type 0
+CountOfTimesIsOnly = (from to first period count : ℤ) → IsCountOfTimes from to first period count → IsOnly (IsCountOfTimes from to first period) count
+
+-- ---- shares
+
+-- An amount has at most one list of shares by largest remainders.
+abbrev pub SharesByRemainderAreOnly : Type 0
+SharesByRemainderAreOnly = (amount : ℕ) (weights shares : List ℕ) → AreSharesByRemainder amount weights shares → IsOnly (AreSharesByRemainder amount weights) shares
 
 -- ---- combinations
 

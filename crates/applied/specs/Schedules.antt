@@ -3,6 +3,7 @@ use Rattle.std.specs.Prelude.{◌≤ℤ◌, ℤ, List}
 use Rattle.std.specs.List.{All}
 use Rattle.modular.specs.CommonSolutions.{MatchCommonSolution}
 use Rattle.modular.specs.Congruences.{AreCongruent}
+use Rattle.modular.specs.Counts.{IsCountFrom}
 use Rattle.modular.specs.declared.common_solutions.CommonSolution.{CommonSolution}
 use Rattle.num_integer.specs.Least.{IsLeastFrom}
 
@@ -11,6 +12,17 @@ use Rattle.num_integer.specs.Least.{IsLeastFrom}
 pub record IsTime (first period t : ℤ) : Type 0 where
   pub from_first : first ≤ℤ t
   pub congruent : AreCongruent period t first
+
+-- The time t is in the schedule, and at most `to`.
+-- Examples: first 3, period 6, to 15: 3; 9; 15; not 21; not -3.
+pub record IsTimeTo (first period to t : ℤ) : Type 0 where
+  pub time : IsTime first period t
+  pub to_there : t ≤ℤ to
+
+-- count is how many times of the schedule are in from..=to.
+-- Examples: first 3, period 6: from 4, to 15: 2 (9 and 15); from -9, to 15: 3; from -9, to 2: 0.
+abbrev pub IsCountOfTimes : ℤ → ℤ → ℤ → ℤ → ℤ → Type 0
+IsCountOfTimes from to first period count = IsCountFrom from (IsTimeTo first period to) count
 
 -- The time t is in the schedule (a, p) and in the schedule (b, q).
 -- Examples: (1, 4) and (3, 6): 9; 21; 33; not 3.

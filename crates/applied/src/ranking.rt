@@ -9,7 +9,7 @@ ghost use Rattle.applied.specs.Ranking.{IsBefore, IsChoice, IsChoiceOfRank, IsFi
 
 use crate::guards::{check_choice, check_rank};
 use crate::halving::midpoint;
-use num_integer::guards::sum_or;
+use num_integer::guards::{some, sum_or};
 use num_integer::{Fits, binomial, checked};
 
 /// Returns `true` if the numbers increase and are below `n`, which [`rank`] and [`next_choice`] require.
@@ -73,7 +73,10 @@ pub fn rank(choice: &[u64], n: u64) -> u64
     );
     let mut rank = 0;
     for (i, number) in choice.iter().enumerate() {
-        let count = binomial(*number, i as u64 + 1);
+        let count = some(
+            checked::binomial(*number, i as u64 + 1),
+            "the rank does not fit",
+        );
         rank = sum_or(rank, count, "the rank does not fit");
     }
     rank

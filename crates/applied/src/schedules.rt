@@ -1,12 +1,13 @@
 //! Times that recur after a period.
 
-ghost use Rattle.std.specs.Prelude.{◌≤ℤ◌, ◌<ℤ◌, pos};
+ghost use Rattle.std.specs.Prelude.{◌≤ℤ◌, ◌<ℤ◌, ℤ, pos, IfSome, MatchOption};
 ghost use Rattle.std.specs.List.{All};
+ghost use Rattle.num_integer.specs.Checked.{Has};
 ghost use Rattle.num_integer.specs.Least.{IsLeastFrom};
-ghost use Rattle.applied.specs.Schedules.{HaveBegun, IsLeastTime, IsMeeting, IsMeetingOfEach};
+ghost use Rattle.applied.specs.Schedules.{HaveBegun, IsCountOfTimes, IsLeastTime, IsMeeting, IsMeetingOfEach};
 
 pub use modular::CommonSolution;
-use modular::{Modular, next_common_solution, next_common_solution_of};
+use modular::{Modular, count_congruent, next_common_solution, next_common_solution_of};
 use num_integer::guards::{check, check_second_positive};
 use num_integer::operators::{is_below, zero};
 use num_integer::{Fits, Integer};
@@ -52,6 +53,28 @@ pub fn next_meeting_of<T: Modular + Fits>(now: T, schedules: &[Schedule<T>]) -> 
 {
     check_second_positive(schedules, "a period is not positive");
     next_common_solution_of(latest(now, schedules), schedules)
+}
+
+/// Returns how many times of the schedule are in `from..=to`, or `None` if the type cannot hold that count. No time is
+/// before the first time of the schedule. `count(4, 15, (3, 6))` is `Some(2)`, `count(-9, 15, (3, 6))` is `Some(3)`,
+/// and `count(-128i8, 127, (-128, 1))` is `None`.
+///
+/// # Panics
+///
+/// In plain Rust, if the period is not positive.
+pub fn count<T: Fits>(from: T, to: T, schedule: Schedule<T>) -> Option<T>
+    requires in_range { T.fits (T.value from) × T.fits (T.value to) }
+    requires schedule_in_range { T.fits (T.value schedule.0) × T.fits (T.value schedule.1) }
+    requires positive { pos 0 <ℤ T.value schedule.1 }
+    ensures count { MatchOption result
+        ((n : ℤ) × IsCountOfTimes (T.value from) (T.value to) (T.value schedule.0)
+        (T.value schedule.1) n × ¬ (T.fits n))
+        (Has T.fits T.value (IsCountOfTimes (T.value from) (T.value to) (T.value schedule.0)
+        (T.value schedule.1))) }
+    ensures from_zero { IfSome result (λ n. pos 0 ≤ℤ T.value n) }
+{
+    check(is_below(zero(), schedule.1), "the period is not positive");
+    count_congruent(maximum(from, schedule.0), to, schedule.0, schedule.1)
 }
 
 /// Returns the later of `now` and the latest first time of the schedules.

@@ -2,69 +2,99 @@
 
 #![tactic(auto, using(crate::proofs::WeightedShares::nothing_written))]
 
-ghost use Rattle.std.specs.Prelude.{◌≡◌, ◌↔◌, ◌<◌, ◌≤◌, ◌+◌, ◌*◌, ◌≤ℤ◌, pos, EachIndex, IsFalse, IsTrue, length, slice_index, sum, unsigned_abs};
-ghost use Rattle.num_integer.specs.Checked.{AnswersWhere};
+ghost use Rattle.std.specs.Prelude.{◌≡◌, ◌≢◌, ◌↔◌, ◌<◌, ◌≤◌, ◌+◌, ◌*◌, ◌≤ℤ◌, pos, EachIndex, Err, IfOk, IsOk, OnErr, OnOk, length, slice_index, sum, unsigned_abs};
 ghost use Rattle.num_integer.specs.Only.{IsOnly};
 ghost use Rattle.applied.specs.Shares.{AreShares, AreSignedShares, CanBeShared, IsNearShare, signed_sum};
 
-/// Fills `shares` with the shares of the amount that are in proportion to the weights and returns `true`. Together
-/// they are the amount, and each differs by less than 1 from its exact share. The first shares together are
-/// their exact share rounded up, so the first of equal weights get the larger shares. Returns `false` and
-/// writes nothing if the weights are all 0, or if there is not one share for each weight.
-/// `{ let mut parts = [0; 3]; (shares(100, &[1, 1, 1], &mut parts), parts) }` is `(true, [34, 33, 33])`,
-/// and `shares(100, &[0, 0], &mut [7, 7])` is `false`.
-pub fn shares(amount: u64, weights: &[u64], shares: &mut [u64]) -> bool
-    ensures possible { IsTrue result ↔ CanBeShared weights.now shares.old }
-    ensures shares { IsTrue result → AreShares amount weights.now shares.new }
-    ensures only { IsTrue result → IsOnly (AreShares amount weights.now) shares.new }
-    ensures whole { IsTrue result → sum shares.new ≡ amount }
-    ensures near { IsTrue result → EachIndex weights.now (λ i. IsNearShare amount
-        (slice_index weights.now i) (sum weights.now) (slice_index shares.new i)) }
-    ensures unchanged { IsFalse result → shares.new ≡ shares.old }
+mod error;
+mod remainders;
+
+pub use error::SharesError;
+pub use remainders::shares_by_largest_remainder;
+
+/// Fills `shares` with the shares of the amount that are in proportion to the weights. Together they are the
+/// amount, and each differs by less than 1 from its exact share. The first shares together are their exact
+/// share rounded up, so the first of equal weights get the larger shares.
+/// `{ let mut parts = [0; 3]; (shares(100, &[1, 1, 1], &mut parts), parts) }` is `(Ok(()), [34, 33, 33])`.
+///
+/// # Errors
+///
+/// - [`SharesError::DifferentLengths`] if there is not one share for each weight;
+/// - [`SharesError::ZeroWeights`] if there is, and the weights are all 0.
+///
+/// If it returns an error, it writes nothing.
+pub fn shares(amount: u64, weights: &[u64], shares: &mut [u64]) -> Result<(), SharesError>
+    ensures possible { IsOk result ↔ CanBeShared weights.now shares.old }
+    ensures different_lengths { (result ≡ Err SharesError.DifferentLengths)
+        ↔ (length shares.old ≢ length weights.now) }
+    ensures zero_weights { (result ≡ Err SharesError.ZeroWeights)
+        ↔ ((length shares.old ≡ length weights.now) × (sum weights.now ≡ 0)) }
+    ensures shares { OnOk result (AreShares amount weights.now shares.new) }
+    ensures only { OnOk result (IsOnly (AreShares amount weights.now) shares.new) }
+    ensures whole { OnOk result (sum shares.new ≡ amount) }
+    ensures near { OnOk result (EachIndex weights.now (λ i. IsNearShare amount
+        (slice_index weights.now i) (sum weights.now) (slice_index shares.new i))) }
+    ensures unchanged { OnErr result (shares.new ≡ shares.old) }
 {
-    let Some(total) = total_to_share(weights, shares) else {
-        return false;
-    };
+    let total = total_to_share(weights, shares)?;
     let mut ahead = 0;
     for (i, weight) in weights.iter().enumerate() {
         let (share, next) = next_share(amount, *weight, total, ahead);
         shares[i] = share;
         ahead = next;
     }
-    true
+    Ok(())
 }
 
-/// Fills `shares` with the shares of a signed amount and returns `true`: those of its magnitude, as [`shares`]
-/// writes them, each with the sign of the amount. So a negative amount takes back what the positive one gave.
-/// Returns `false` and writes nothing if the weights are all 0, or if there is not one share for each weight.
+/// Fills `shares` with the shares of a signed amount: those of its magnitude, as [`shares`] writes them, each with
+/// the sign of the amount. So a negative amount takes back what the positive one gave.
 /// `{ let mut parts = [0; 3]; (signed_shares(-100, &[1, 1, 1], &mut parts), parts) }` is
-/// `(true, [-34, -33, -33])`.
-pub fn signed_shares(amount: i64, weights: &[u64], shares: &mut [i64]) -> bool
-    ensures possible { IsTrue result ↔ CanBeShared weights.now shares.old }
-    ensures shares { IsTrue result → AreSignedShares amount weights.now shares.new }
-    ensures only { IsTrue result → IsOnly (AreSignedShares amount weights.now) shares.new }
-    ensures whole { IsTrue result → signed_sum shares.new ≡ amount }
-    ensures unchanged { IsFalse result → shares.new ≡ shares.old }
+/// `(Ok(()), [-34, -33, -33])`.
+///
+/// # Errors
+///
+/// - [`SharesError::DifferentLengths`] if there is not one share for each weight;
+/// - [`SharesError::ZeroWeights`] if there is, and the weights are all 0.
+///
+/// If it returns an error, it writes nothing.
+pub fn signed_shares(amount: i64, weights: &[u64], shares: &mut [i64]) -> Result<(), SharesError>
+    ensures possible { IsOk result ↔ CanBeShared weights.now shares.old }
+    ensures different_lengths { (result ≡ Err SharesError.DifferentLengths)
+        ↔ (length shares.old ≢ length weights.now) }
+    ensures zero_weights { (result ≡ Err SharesError.ZeroWeights)
+        ↔ ((length shares.old ≡ length weights.now) × (sum weights.now ≡ 0)) }
+    ensures shares { OnOk result (AreSignedShares amount weights.now shares.new) }
+    ensures only { OnOk result (IsOnly (AreSignedShares amount weights.now) shares.new) }
+    ensures whole { OnOk result (signed_sum shares.new ≡ amount) }
+    ensures unchanged { OnErr result (shares.new ≡ shares.old) }
 {
-    let Some(total) = total_to_share(weights, shares) else {
-        return false;
-    };
+    let total = total_to_share(weights, shares)?;
     let mut ahead = 0;
     for (i, weight) in weights.iter().enumerate() {
         let (share, next) = next_share(amount.unsigned_abs(), *weight, total, ahead);
         shares[i] = with_sign_of(amount, share);
         ahead = next;
     }
-    true
+    Ok(())
 }
 
-/// Returns the sum of the weights, or `None` if they are all 0, or if there is not one share for each weight.
-fn total_to_share<S>(weights: &[u64], shares: &[S]) -> Option<u128>
-    ensures { AnswersWhere (CanBeShared weights.now shares.now) (λ total. total ≡ sum weights.now)
-        result }
+/// Returns the sum of the weights, or why there are no shares.
+pub(crate) fn total_to_share<S>(weights: &[u64], shares: &[S]) -> Result<u128, SharesError>
+    ensures possible { IsOk result ↔ CanBeShared weights.now shares.now }
+    ensures total { IfOk result (λ total. CanBeShared weights.now shares.now
+        × (total ≡ sum weights.now)) }
+    ensures different_lengths { (result ≡ Err SharesError.DifferentLengths)
+        ↔ (length shares.now ≢ length weights.now) }
+    ensures zero_weights { (result ≡ Err SharesError.ZeroWeights)
+        ↔ ((length shares.now ≡ length weights.now) × (sum weights.now ≡ 0)) }
 {
-    let total = total_of(weights);
-    (shares.len() == weights.len() && total != 0).then_some(total)
+    if shares.len() != weights.len() {
+        return Err(SharesError::DifferentLengths);
+    }
+    match total_of(weights) {
+        0 => Err(SharesError::ZeroWeights),
+        total => Ok(total),
+    }
 }
 
 /// Returns the sum of the weights.

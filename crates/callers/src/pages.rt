@@ -1,19 +1,19 @@
 //! Functions that call `applied` for pages and parts, shares, offsets and schedules.
 
-ghost use Rattle.std.specs.Prelude.{◌≡◌, ◌↔◌, ◌⊎◌, ◌<◌, ◌≤◌, ◌+◌, ◌*◌, ◌∷◌, [], ◌≤ℤ◌, ◌<ℤ◌, ◌+ℤ◌, ◌*ℤ◌, EachIndex, FitsSigned, IsFalse, IsTrue, MatchOption, length, min, pos, slice_index, sum, ℤ};
+ghost use Rattle.std.specs.Prelude.{◌≡◌, ◌≢◌, ◌↔◌, ◌⊎◌, ◌<◌, ◌≤◌, ◌+◌, ◌*◌, ◌∷◌, [], ◌≤ℤ◌, ◌<ℤ◌, ◌+ℤ◌, ◌*ℤ◌, EachIndex, Err, FitsSigned, IsFalse, IsOk, IsTrue, MatchOption, OnErr, OnOk, length, min, pos, slice_index, sum, ℤ};
 ghost use Rattle.std.specs.Int.{FitsUnsignedBits, w64};
 ghost use Rattle.num_integer.specs.Divisors.{Divides};
 ghost use Rattle.num_integer.specs.Least.{IsLeastFrom};
 ghost use Rattle.num_integer.specs.Range.{EachFits};
 ghost use Rattle.applied.specs.Layout.{IsAlignedUp};
 ghost use Rattle.applied.specs.Paging.{IsPlace, IsRangeOfPart};
-ghost use Rattle.applied.specs.Schedules.{IsMeeting};
-ghost use Rattle.applied.specs.Shares.{AreShares, AreSignedShares, IsNearShare, signed_sum};
+ghost use Rattle.applied.specs.Schedules.{IsCountOfTimes, IsMeeting};
+ghost use Rattle.applied.specs.Shares.{AreShares, AreSharesByRemainder, AreSignedShares, IsNearShare, signed_sum};
 
 use applied::layout::{align_up, padding};
 use applied::paging::{item_at, place_of, range_of_part};
-use applied::schedules::{Schedule, next_meeting};
-use applied::shares::{shares, signed_shares};
+use applied::schedules::{Schedule, count, next_meeting};
+use applied::shares::{SharesError, shares, shares_by_largest_remainder, signed_shares};
 use modular::CommonSolution;
 
 // ---- pages and parts
@@ -79,7 +79,7 @@ pub fn split_by_weights(cents: u64, weights: &[u64], parts: &mut [u64])
     ensures near { EachIndex weights.now (λ i. IsNearShare cents (slice_index weights.now i)
         (sum weights.now) (slice_index parts.new i)) }
 {
-    shares(cents, weights, parts);
+    shares(cents, weights, parts).unwrap();
 }
 
 /// Returns the budgets of three teams of five, three and two people. They add up to `cents`.
@@ -88,18 +88,28 @@ pub fn budgets(cents: u64) -> [u64; 3]
     ensures whole { sum result ≡ cents }
 {
     let mut budgets = [0; 3];
-    shares(cents, &[5, 3, 2], &mut budgets);
+    shares(cents, &[5, 3, 2], &mut budgets).unwrap();
     budgets
 }
 
-/// Splits a bill by weights that may all be 0. Returns `false` and writes nothing if they are.
-pub fn split_by_any_weights(cents: u64, weights: &[u64], parts: &mut [u64]) -> bool
-    requires { length parts.old ≡ length weights.now }
-    ensures somebody { IsTrue result ↔ (0 < sum weights.now) }
-    ensures shares { IsTrue result → AreShares cents weights.now parts.new }
-    ensures unchanged { IsFalse result → parts.new ≡ parts.old }
+/// Splits a bill by weights that may all be 0, and a tip by the same weights.
+pub fn split_with_tip(
+    cents: u64,
+    tip: u64,
+    weights: &[u64],
+    parts: &mut [u64],
+    tips: &mut [u64],
+) -> Result<(), SharesError>
+    requires parts { length parts.old ≡ length weights.now }
+    requires tips { length tips.old ≡ length weights.now }
+    ensures somebody { IsOk result ↔ (0 < sum weights.now) }
+    ensures error { result ≢ Err SharesError.DifferentLengths }
+    ensures parts { OnOk result (AreShares cents weights.now parts.new) }
+    ensures tips { OnOk result (sum tips.new ≡ tip) }
+    ensures unchanged { OnErr result ((parts.new ≡ parts.old) × (tips.new ≡ tips.old)) }
 {
-    shares(cents, weights, parts)
+    shares(cents, weights, parts)?;
+    shares(tip, weights, tips)
 }
 
 /// Splits a refund by weights that may all be 0. Returns `false` and writes nothing if they are.
@@ -110,7 +120,23 @@ pub fn refund_by_weights(cents: i64, weights: &[u64], parts: &mut [i64]) -> bool
     ensures whole { IsTrue result → signed_sum parts.new ≡ cents }
     ensures unchanged { IsFalse result → parts.new ≡ parts.old }
 {
-    signed_shares(cents, weights, parts)
+    match signed_shares(cents, weights, parts) {
+        Ok(()) => true,
+        Err(SharesError::ZeroWeights) => false,
+        Err(SharesError::DifferentLengths) => unreachable!("there is one part for each weight"),
+    }
+}
+
+/// Distributes seats by votes. Returns an error, and changes nothing, if there are no votes.
+pub fn seats_by_votes(seats: u64, votes: &[u64], parts: &mut [u64]) -> Result<(), SharesError>
+    requires { length parts.old ≡ length votes.now }
+    ensures votes { (result ≡ Err SharesError.ZeroWeights) ↔ (sum votes.now ≡ 0) }
+    ensures whole { OnOk result (sum parts.new ≡ seats) }
+    ensures shares { OnOk result (AreSharesByRemainder seats votes.now parts.new) }
+    ensures unchanged { OnErr result (parts.new ≡ parts.old) }
+{
+    shares_by_largest_remainder(seats, votes, parts)?;
+    Ok(())
 }
 
 // ---- offsets and schedules
@@ -160,4 +186,16 @@ pub fn next_meeting_and_wait(
         CommonSolution::At(time) => Some((time, time - now)),
         CommonSolution::Never | CommonSolution::Beyond => None,
     }
+}
+
+/// Returns how many buses of the timetable leave in `from..=to`, or `None` if the number does not fit.
+pub fn buses(from: u32, to: u32, timetable: Schedule<u32>) -> Option<u32>
+    requires { 0 < timetable.1 }
+    ensures { MatchOption result
+        ((n : ℤ) × IsCountOfTimes (pos from) (pos to) (pos timetable.0) (pos timetable.1) n
+        × ¬ (FitsUnsignedBits 32 n))
+        (λ n. IsCountOfTimes (pos from) (pos to) (pos timetable.0) (pos timetable.1) (pos n)) }
+{
+    let buses = count(from, to, timetable)?;
+    Some(buses)
 }

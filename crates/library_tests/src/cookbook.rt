@@ -3,6 +3,7 @@
 ghost use Rattle.std.specs.Prelude.{◌<◌, ◌≤◌};
 
 use applied::schedules::next_meeting;
+use applied::shares::SharesError;
 use applied::{layout, paging, ranking, shares};
 use calendar::{
     Date, IsoWeek, Weekday, easter, last_weekday_of_month, months_between, next_last_weekday,
@@ -30,11 +31,11 @@ fn shares(cents: u64, people: u64) -> (u64, u64)
     cents.div_mod_floor(&people)
 }
 
-/// The budgets of three teams of five, three and two people.
-fn budgets(cents: u64) -> [u64; 3] {
+/// The budgets of three teams, by the numbers of their people.
+fn budgets(cents: u64, people: [u64; 3]) -> Result<[u64; 3], SharesError> {
     let mut budgets = [0; 3];
-    shares::shares(cents, &[5, 3, 2], &mut budgets);
-    budgets
+    shares::shares(cents, &people, &mut budgets)?;
+    Ok(budgets)
 }
 
 /// The next place of a record of eight bytes.
@@ -136,7 +137,8 @@ fn tasks_on_numbers(rt: HostRuntime) {
     let items = [0; 41];
     assert!(rt; pages(41) == 3 && items_of(2, &items).len() == 1 && items_of(3, &items).is_empty());
     assert!(rt; shares(1000, 3) == (333, 1));
-    assert!(rt; budgets(1001) == [501, 300, 200]);
+    assert!(rt; budgets(1001, [5, 3, 2]) == Ok([501, 300, 200]));
+    assert!(rt; budgets(1001, [0, 0, 0]) == Err(SharesError::ZeroWeights));
     assert!(rt; aligned(13) == Some(16) && aligned(u64::MAX).is_none());
 }
 

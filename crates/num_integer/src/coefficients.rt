@@ -62,8 +62,8 @@ pub(crate) fn next_factors<T: Integer>(c: T, n: T, k: T) -> (T, T)
 }
 
 /// Returns the coefficient of `n` and `k + 1`. `c` is that of `n` and `k`. No intermediate value
-/// exceeds the result.
-pub(crate) fn next_coefficient<T: Integer>(c: T, n: T, k: T) -> T
+/// exceeds the result. `reason` is that of a result which does not fit.
+pub(crate) fn next_coefficient<T: Integer>(c: T, n: T, k: T, reason: &'static str) -> T
     requires in_range { T.fits (T.value c) × T.fits (T.value n) × T.fits (T.value k) }
     requires k_from_zero { pos 0 ≤ℤ T.value k }
     requires k_below { T.value k <ℤ T.value n }
@@ -73,7 +73,7 @@ pub(crate) fn next_coefficient<T: Integer>(c: T, n: T, k: T) -> T
     ensures next { T.value result ≡ coefficient_of (T.value n) (T.value k +ℤ pos 1) }
 {
     let (x, y) = next_factors(c, n, k);
-    product_or(x, y, "the binomial coefficient does not fit")
+    product_or(x, y, reason)
 }
 
 /// Returns the smaller of `k` and `n - k`.
@@ -87,6 +87,36 @@ pub(crate) fn nearer_end<T: Integer>(n: T, k: T) -> T
 {
     let rest = difference(n, k);
     if is_below(rest, k) { rest } else { k }
+}
+
+/// Returns [`binomial_counted`] of numbers that are not negative. `reason` is that of a coefficient
+/// which does not fit.
+fn coefficient_counted<T: Integer>(n: T, k: T, reason: &'static str) -> (T, u32)
+    requires n_in_range { T.fits (T.value n) }
+    requires k_in_range { T.fits (T.value k) }
+    requires n_from_zero { pos 0 ≤ℤ T.value n }
+    requires k_from_zero { pos 0 ≤ℤ T.value k }
+    requires coefficient_fits { T.fits (coefficient_of (T.value n) (T.value k)) }
+    ensures in_range { T.fits (T.value result.0) }
+    ensures coefficient { T.value result.0 ≡ coefficient_of (T.value n) (T.value k) }
+    ensures turns { result.1
+        ≡ min (unsigned_abs (T.value k)) (unsigned_abs (T.value n) - unsigned_abs (T.value k)) }
+    ensures bound { T.value k ≤ℤ T.value n
+        → 2 ^ result.1 ≤ coefficient (unsigned_abs (T.value n)) (unsigned_abs (T.value k)) }
+{
+    if is_below(n, k) {
+        return (zero(), 0);
+    }
+    let last = nearer_end(n, k);
+    let mut coefficient = one();
+    let mut place = zero();
+    let mut turns = 0;
+    while is_below(place, last) {
+        coefficient = next_coefficient(coefficient, n, place, reason);
+        place = successor(place);
+        turns += 1;
+    }
+    (coefficient, turns)
 }
 
 /// Returns [`binomial`] and the number of turns of its loop. `binomial_counted(9, 4)` is `(126, 4)`,
@@ -110,19 +140,7 @@ pub fn binomial_counted<T: Integer>(n: T, k: T) -> (T, u32)
 {
     check(!is_negative(n), "`n` is negative");
     check(!is_negative(k), "`k` is negative");
-    if is_below(n, k) {
-        return (zero(), 0);
-    }
-    let last = nearer_end(n, k);
-    let mut coefficient = one();
-    let mut place = zero();
-    let mut turns = 0;
-    while is_below(place, last) {
-        coefficient = next_coefficient(coefficient, n, place);
-        place = successor(place);
-        turns += 1;
-    }
-    (coefficient, turns)
+    coefficient_counted(n, k, "the binomial coefficient does not fit")
 }
 
 /// Returns the binomial coefficient of `n` and `k`, the number of ways to choose `k` of `n` things.
@@ -171,15 +189,13 @@ pub fn multinomial<T: Integer>(k: &[T]) -> T
     ensures multinomial { IsMultinomial (map T.value k.now) (T.value result) }
 {
     check_none_negative(k, "a count is negative");
+    let reason = "the multinomial coefficient does not fit";
     let mut multinomial = one();
     let mut total = zero();
     for count in k {
-        total = sum_or(total, *count, "the multinomial coefficient does not fit");
-        multinomial = product_or(
-            multinomial,
-            binomial(total, *count),
-            "the multinomial coefficient does not fit",
-        );
+        total = sum_or(total, *count, reason);
+        let ways = coefficient_counted(total, *count, reason).0;
+        multinomial = product_or(multinomial, ways, reason);
     }
     multinomial
 }

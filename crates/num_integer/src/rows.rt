@@ -70,7 +70,12 @@ fn item_at<T: Integer>(n: T, k: T, previous: T) -> T
     if is_zero(k) {
         one()
     } else {
-        next_coefficient(previous, n, predecessor(k))
+        next_coefficient(
+            previous,
+            n,
+            predecessor(k),
+            "the binomial coefficient does not fit",
+        )
     }
 }
 

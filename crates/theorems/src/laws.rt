@@ -137,7 +137,7 @@ pub fn laws_of_dates()
     ensures lunar_correction_of_twenty_five_centuries { dates.LunarCorrectionOfTwentyFiveCenturies }
 {}
 
-/// States the laws of pages, parts, offsets, schedules, combinations, halves, nearest quotients, logarithms and
+/// States the laws of pages, parts, offsets, schedules, shares, combinations, halves, nearest quotients, logarithms and
 /// factorials.
 pub fn laws_of_models<P: Property, T: Integer>()
     ensures pages_are_only { models.PagesAreOnly }
@@ -148,6 +148,8 @@ pub fn laws_of_models<P: Property, T: Integer>()
     ensures aligned_up_is_only { models.AlignedUpIsOnly }
     ensures padding_is_only { models.PaddingIsOnly }
     ensures least_time_is_only { models.LeastTimeIsOnly T.value T.fits P.holds }
+    ensures count_of_times_is_only { models.CountOfTimesIsOnly }
+    ensures shares_by_remainder_are_only { models.SharesByRemainderAreOnly }
     ensures choice_of_rank_is_only { models.ChoiceOfRankIsOnly }
     ensures rank_is_below { models.RankIsBelow }
     ensures midpoint_is_only { models.MidpointIsOnly }

@@ -1,16 +1,16 @@
 //! Pages, schedules and shares.
 
-ghost use Rattle.std.specs.Prelude.{◌≡◌, ◌↔◌, ◌<◌, ◌≤◌, ◌<ℤ◌, All, FitsSigned, IsFalse, IsTrue, MatchOption, pos, ℕ, ℤ};
+ghost use Rattle.std.specs.Prelude.{◌≡◌, ◌↔◌, ◌<◌, ◌≤◌, ◌<ℤ◌, All, FitsSigned, IsOk, MatchOption, OnErr, OnOk, pos, ℕ, ℤ};
 ghost use Rattle.std.specs.Int.{w64};
 ghost use Rattle.num_integer.specs.Least.{IsLeastFrom};
 ghost use Rattle.num_integer.specs.Only.{IsOnly};
 ghost use Rattle.applied.specs.Paging.{IsPlace, IsRangeOfPage};
 ghost use Rattle.applied.specs.Schedules.{IsLeastTime, IsMeeting, IsMeetingOfEach};
-ghost use Rattle.applied.specs.Shares.{AreShares, AreSignedShares, CanBeShared};
+ghost use Rattle.applied.specs.Shares.{AreShares, AreSharesByRemainder, AreSignedShares, CanBeShared};
 
 use applied::paging::range_of_page;
 use applied::schedules::{Schedule, next_meeting, next_meeting_of};
-use applied::shares::{shares, signed_shares};
+use applied::shares::{SharesError, shares, shares_by_largest_remainder, signed_shares};
 use modular::CommonSolution;
 
 // ---- pages and parts
@@ -58,23 +58,41 @@ pub fn next_common_day(now: i64, a: Schedule<i64>, b: Schedule<i64>) -> CommonSo
 
 // ---- shares
 
-/// Fills `parts` with the shares of the amount and returns `true`. Returns `false` and writes nothing if the weights are
-/// all 0, or if there is not one part for each weight.
-pub fn shares_by_weights(amount: u64, weights: &[u64], parts: &mut [u64]) -> bool
-    ensures possible { IsTrue result ↔ CanBeShared weights.now parts.old }
-    ensures shares { IsTrue result → AreShares amount weights.now parts.new }
-    ensures only { IsTrue result → IsOnly (AreShares amount weights.now) parts.new }
-    ensures unchanged { IsFalse result → parts.new ≡ parts.old }
+/// Fills `parts` with the shares of the amount. Returns an error and writes nothing if the weights are all 0, or if there
+/// is not one part for each weight.
+pub fn shares_by_weights(amount: u64, weights: &[u64], parts: &mut [u64]) -> Result<(), SharesError>
+    ensures possible { IsOk result ↔ CanBeShared weights.now parts.old }
+    ensures shares { OnOk result (AreShares amount weights.now parts.new) }
+    ensures only { OnOk result (IsOnly (AreShares amount weights.now) parts.new) }
+    ensures unchanged { OnErr result (parts.new ≡ parts.old) }
 {
     shares(amount, weights, parts)
 }
 
 /// Does the same for a signed amount. Each share has the sign of the amount.
-pub fn signed_shares_by_weights(amount: i64, weights: &[u64], parts: &mut [i64]) -> bool
-    ensures possible { IsTrue result ↔ CanBeShared weights.now parts.old }
-    ensures shares { IsTrue result → AreSignedShares amount weights.now parts.new }
-    ensures only { IsTrue result → IsOnly (AreSignedShares amount weights.now) parts.new }
-    ensures unchanged { IsFalse result → parts.new ≡ parts.old }
+pub fn signed_shares_by_weights(
+    amount: i64,
+    weights: &[u64],
+    parts: &mut [i64],
+) -> Result<(), SharesError>
+    ensures possible { IsOk result ↔ CanBeShared weights.now parts.old }
+    ensures shares { OnOk result (AreSignedShares amount weights.now parts.new) }
+    ensures only { OnOk result (IsOnly (AreSignedShares amount weights.now) parts.new) }
+    ensures unchanged { OnErr result (parts.new ≡ parts.old) }
 {
     signed_shares(amount, weights, parts)
+}
+
+/// Does the same by largest remainders.
+pub fn shares_by_remainders(
+    amount: u64,
+    weights: &[u64],
+    parts: &mut [u64],
+) -> Result<(), SharesError>
+    ensures possible { IsOk result ↔ CanBeShared weights.now parts.old }
+    ensures shares { OnOk result (AreSharesByRemainder amount weights.now parts.new) }
+    ensures only { OnOk result (IsOnly (AreSharesByRemainder amount weights.now) parts.new) }
+    ensures unchanged { OnErr result (parts.new ≡ parts.old) }
+{
+    shares_by_largest_remainder(amount, weights, parts)
 }

@@ -30,6 +30,39 @@ fn time<R>(pairs: &[(i64, i64)], call: impl Fn(i64, i64) -> R) -> f64 {
     (0..9).map(|_| pass()).fold(f64::INFINITY, f64::min)
 }
 
+/// The least nanoseconds of a call for each number of a list, of nine passes.
+fn time_of_list<R>(numbers: &[i64], call: impl Fn(&[i64]) -> R) -> f64 {
+    let pass = || {
+        let start = Instant::now();
+        black_box(call(black_box(numbers)));
+        start.elapsed().as_nanos() as f64 / numbers.len() as f64
+    };
+    (0..9).map(|_| pass()).fold(f64::INFINITY, f64::min)
+}
+
+/// The gcd and the lcm of lists, beside those of `num-integer` one number after the other.
+fn lists() {
+    use cellarcove::lists::{gcd_of, lcm_of};
+    let any: Vec<i64> = pairs(62).into_iter().map(|(a, _)| a).collect();
+    let multiples: Vec<i64> = any.iter().map(|number| (number >> 4) * 12).collect();
+    let few: Vec<i64> = any.iter().map(|number| 1 + number % 40).collect();
+    let gcd = |numbers: &[i64]| numbers.iter().fold(0, |g, n| num_integer::gcd(g, *n));
+    let lcm = |numbers: &[i64]| numbers.iter().fold(1, |l, n| num_integer::lcm(l, *n));
+    for (name, numbers) in [("any numbers", &any), ("multiples of 12", &multiples)] {
+        let name = format!("gcd_of {name}");
+        print(
+            &name,
+            time_of_list(numbers, gcd_of),
+            time_of_list(numbers, gcd),
+        );
+    }
+    print(
+        "lcm_of up to 40",
+        time_of_list(&few, lcm_of),
+        time_of_list(&few, lcm),
+    );
+}
+
 fn print(name: &str, ours: f64, theirs: f64) {
     println!(
         "{name:<28} {ours:>8.2} {theirs:>8.2} {:>6.2}",
@@ -73,4 +106,5 @@ fn main() {
         "binomial of at most 64" 6 |it, a, b| it::binomial(a.max(b), a.min(b));
         "multinomial of three" 3 |it, a, b| it::multinomial(&[a, b, 2]);
     }
+    lists();
 }

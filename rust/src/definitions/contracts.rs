@@ -1330,23 +1330,55 @@
 //! - `ensures { IsLeastTime T.value T.fits (T.value now) (IsMeetingOfEach T.value schedules.now)
 //!   result }`
 //! - Words: [`IsLeastTime`](applied#isleasttime), [`IsMeetingOfEach`](applied#ismeetingofeach)
+//! ## `schedules::count`
+//! - `requires positive { pos 0 <ℤ T.value schedule.1 }`
+//! - `ensures count { MatchOption result ((n : ℤ) × IsCountOfTimes (T.value from) (T.value to)
+//!   (T.value schedule.0) (T.value schedule.1) n × ¬ (T.fits n)) (Has T.fits T.value
+//!   (IsCountOfTimes (T.value from) (T.value to) (T.value schedule.0) (T.value schedule.1))) }`
+//! - `ensures from_zero { IfSome result (λ n. pos 0 ≤ℤ T.value n) }`
+//! - Words: [`IsCountOfTimes`](applied#iscountoftimes), [`Has`](integer_core#has)
 //! ## `shares::shares`
-//! - `ensures possible { IsTrue result ↔ CanBeShared weights.now shares.old }`
-//! - `ensures shares { IsTrue result → AreShares amount weights.now shares.new }`
-//! - `ensures only { IsTrue result → IsOnly (AreShares amount weights.now) shares.new }`
-//! - `ensures whole { IsTrue result → sum shares.new ≡ amount }`
-//! - `ensures near { IsTrue result → EachIndex weights.now (λ i. IsNearShare amount (slice_index
-//!   weights.now i) (sum weights.now) (slice_index shares.new i)) }`
-//! - `ensures unchanged { IsFalse result → shares.new ≡ shares.old }`
+//! - `ensures possible { IsOk result ↔ CanBeShared weights.now shares.old }`
+//! - `ensures different_lengths { (result ≡ Err SharesError.DifferentLengths) ↔ (length shares.old
+//!   ≢ length weights.now) }`
+//! - `ensures zero_weights { (result ≡ Err SharesError.ZeroWeights) ↔ ((length shares.old ≡ length
+//!   weights.now) × (sum weights.now ≡ 0)) }`
+//! - `ensures shares { OnOk result (AreShares amount weights.now shares.new) }`
+//! - `ensures only { OnOk result (IsOnly (AreShares amount weights.now) shares.new) }`
+//! - `ensures whole { OnOk result (sum shares.new ≡ amount) }`
+//! - `ensures near { OnOk result (EachIndex weights.now (λ i. IsNearShare amount (slice_index
+//!   weights.now i) (sum weights.now) (slice_index shares.new i))) }`
+//! - `ensures unchanged { OnErr result (shares.new ≡ shares.old) }`
 //! - Words: [`CanBeShared`](applied#canbeshared), [`AreShares`](applied#areshares),
 //!   [`IsOnly`](integer_core#isonly), [`IsNearShare`](applied#isnearshare)
 //! ## `shares::signed_shares`
-//! - `ensures possible { IsTrue result ↔ CanBeShared weights.now shares.old }`
-//! - `ensures shares { IsTrue result → AreSignedShares amount weights.now shares.new }`
-//! - `ensures only { IsTrue result → IsOnly (AreSignedShares amount weights.now) shares.new }`
-//! - `ensures whole { IsTrue result → signed_sum shares.new ≡ amount }`
-//! - `ensures unchanged { IsFalse result → shares.new ≡ shares.old }`
+//! - `ensures possible { IsOk result ↔ CanBeShared weights.now shares.old }`
+//! - `ensures different_lengths { (result ≡ Err SharesError.DifferentLengths) ↔ (length shares.old
+//!   ≢ length weights.now) }`
+//! - `ensures zero_weights { (result ≡ Err SharesError.ZeroWeights) ↔ ((length shares.old ≡ length
+//!   weights.now) × (sum weights.now ≡ 0)) }`
+//! - `ensures shares { OnOk result (AreSignedShares amount weights.now shares.new) }`
+//! - `ensures only { OnOk result (IsOnly (AreSignedShares amount weights.now) shares.new) }`
+//! - `ensures whole { OnOk result (signed_sum shares.new ≡ amount) }`
+//! - `ensures unchanged { OnErr result (shares.new ≡ shares.old) }`
 //! - Words: [`CanBeShared`](applied#canbeshared), [`AreSignedShares`](applied#aresignedshares),
 //!   [`IsOnly`](integer_core#isonly), [`signed_sum`](applied#signed_sum)
+//! ## `Display` for `shares::SharesError`
+//! - `ghost output = { λ e. Some (error_text e) }`
+//! - Words: [`error_text`](applied#error_text)
+//! ## `shares::shares_by_largest_remainder`
+//! - `ensures possible { IsOk result ↔ CanBeShared weights.now shares.old }`
+//! - `ensures different_lengths { (result ≡ Err SharesError.DifferentLengths) ↔ (length shares.old
+//!   ≢ length weights.now) }`
+//! - `ensures zero_weights { (result ≡ Err SharesError.ZeroWeights) ↔ ((length shares.old ≡ length
+//!   weights.now) × (sum weights.now ≡ 0)) }`
+//! - `ensures shares { OnOk result (AreSharesByRemainder amount weights.now shares.new) }`
+//! - `ensures only { OnOk result (IsOnly (AreSharesByRemainder amount weights.now) shares.new) }`
+//! - `ensures near { OnOk result (EachIndex weights.now (λ i. IsNearShare amount (slice_index
+//!   weights.now i) (sum weights.now) (slice_index shares.new i))) }`
+//! - `ensures unchanged { OnErr result (shares.new ≡ shares.old) }`
+//! - Words: [`CanBeShared`](applied#canbeshared),
+//!   [`AreSharesByRemainder`](applied#aresharesbyremainder), [`IsOnly`](integer_core#isonly),
+//!   [`IsNearShare`](applied#isnearshare)
 
 use super::{applied, calendar, integer_core, integer_roots, modular, num_integer, ratio64};

@@ -3,7 +3,7 @@
 //! fit.
 
 use crate::coprime::signed_gcd;
-use crate::operators::{is_negative, is_zero, one, zero};
+use crate::operators::{is_negative, is_one, is_zero, one, zero};
 use crate::{checked, Fits};
 
 /// Returns [`gcd_of`](crate::lists::gcd_of), the greatest common divisor of the numbers, or `None`
@@ -31,13 +31,27 @@ pub fn gcd_of<T: Fits>(numbers: &[T]) -> Option<T> {
 }
 
 /// Returns a number whose magnitude is the greatest common divisor. That of the first numbers may
-/// not fit, even if that of all of them does, so the loop keeps it up to its sign.
+/// not fit, even if that of all of them does, so the loop keeps it up to its sign. It ends if the
+/// divisor is 1.
 fn signed_gcd_of<T: Fits>(numbers: &[T]) -> T {
     let mut divisor = zero();
     for number in numbers {
-        divisor = signed_gcd(divisor, *number);
+        divisor = divisor_of_both(divisor, *number);
+        if is_one(divisor) {
+            return divisor;
+        }
     }
     divisor
+}
+
+/// Returns a number whose magnitude is the greatest common divisor of the divisor so far and of a
+/// number. Most numbers of a list are multiples of the divisor so far, which one division shows.
+fn divisor_of_both<T: Fits>(divisor: T, number: T) -> T {
+    if number.is_multiple_of(&divisor) {
+        divisor
+    } else {
+        signed_gcd(divisor, number)
+    }
 }
 
 /// Returns [`lcm_of`](crate::lists::lcm_of), the least common multiple of the numbers, or `None` if
@@ -63,9 +77,19 @@ pub fn lcm_of<T: Fits>(numbers: &[T]) -> Option<T> {
     // does.
     let mut multiple = one();
     for number in numbers {
-        multiple = checked::lcm(multiple, *number)?;
+        multiple = multiple_of_both(multiple, *number)?;
     }
     Some(multiple)
+}
+
+/// Returns the least common multiple of the multiple so far and of a number. Many numbers of a list
+/// divide the multiple so far, which one division shows.
+fn multiple_of_both<T: Fits>(multiple: T, number: T) -> Option<T> {
+    if multiple.is_multiple_of(&number) {
+        Some(multiple)
+    } else {
+        checked::lcm(multiple, number)
+    }
 }
 
 /// Returns `true` if one of the numbers is 0.

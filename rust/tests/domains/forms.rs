@@ -6,11 +6,11 @@ use cellarcove::calendar::days_in_month;
 use cellarcove::counted::{binomial_counted, extended_gcd_counted, GcdCounted, SqrtCounted};
 use cellarcove::modular::{self, Modular};
 use cellarcove::ratio64::Ratio;
-use cellarcove::{
-    counting, halving, layout, lists, paging, powers, ranking, rolling_hash::RollingHash,
-    rounding, schedules,
-};
 use cellarcove::{binomial, multinomial, operators, Integer, IterBinomial, Roots};
+use cellarcove::{
+    counting, halving, layout, lists, paging, powers, ranking, rolling_hash::RollingHash, rounding,
+    schedules,
+};
 use std::time::{Duration, Instant};
 
 const GCD: &str = "the greatest common divisor does not fit";
@@ -221,12 +221,13 @@ fn coefficients() {
             binomial(u64::MAX, u64::MAX / 2);
             binomial(u128::MAX, 1 << 100);
             binomial(i64::MAX, 3);
-            multinomial(&[1u64 << 62, 1 << 62]);
             for item in IterBinomial::new(11u8) { assert!(item > 0) };
         }
         MULTINOMIAL {
             multinomial(&[255u8, 1]);
             multinomial(&[8u8, 2, 2]);
+            multinomial(&[210u8, 5, 82]);
+            multinomial(&[1u64 << 62, 1 << 62]);
             multinomial(&[u64::MAX, 1 << 62]);
         }
     }
@@ -324,6 +325,8 @@ fn models() {
         PERIOD {
             schedules::next_meeting(0, (1, -2), (1, 3));
             schedules::next_meeting(0, (1, 2), (1, 0));
+            schedules::count(0, 9, (1, -2));
+            schedules::count(9u8, 0, (1, 0));
         }
         one_period { schedules::next_meeting_of(0, &[(1, 2), (1, -3)]); }
         PAGE_SIZE {
@@ -353,7 +356,10 @@ fn models() {
             ranking::next_choice(&mut [3, 1], 5);
             ranking::next_choice(&mut [3, 5], 5);
         }
-        great_rank { ranking::rank(&[2746052116, 6074001000], 6074001001); }
+        great_rank {
+            ranking::rank(&[2746052116, 6074001000], 6074001001);
+            ranking::rank(&[0, u64::MAX - 1], u64::MAX);
+        }
         rank {
             ranking::choice_of_rank(13983816, 49, &mut [0; 6]);
             ranking::choice_of_rank(0, 2, &mut [0; 3]);

@@ -1,13 +1,14 @@
 //! The greatest common divisor and the least common multiple of a list, or `None` if it does not fit.
 
-ghost use Rattle.std.specs.Prelude.{◌≡◌, ◌≢◌, ◌<◌, ℕ, pos, unsigned_abs, length, map, IsFalse, IsTrue};
+ghost use Rattle.std.specs.Prelude.{◌≡◌, ◌≢◌, ◌<◌, ◌≤ℤ◌, ℕ, pos, unsigned_abs, length, map, IsFalse, IsTrue};
 ghost use Rattle.std.specs.List.{All, HoldsAt};
 ghost use Rattle.num_integer.specs.Checked.{AnswersWhere};
+ghost use Rattle.num_integer.specs.Divisors.{IsGreatestCommonDivisor, IsLeastCommonMultiple};
 ghost use Rattle.num_integer.specs.Range.{EachFits};
 ghost use Rattle.applied.specs.Lists.{GcdOfFits, IsGreatestCommonDivisorOf, IsLeastCommonMultipleOf};
 
 use crate::coprime::signed_gcd;
-use num_integer::operators::{is_negative, is_zero, one, zero};
+use num_integer::operators::{is_negative, is_one, is_zero, one, zero};
 use num_integer::{Fits, checked};
 
 /// Returns [`gcd_of`](crate::lists::gcd_of), the greatest common divisor of the numbers, or `None` if it does
@@ -29,7 +30,7 @@ pub fn gcd_of<T: Fits>(numbers: &[T]) -> Option<T>
 }
 
 /// Returns a number whose magnitude is the greatest common divisor. That of the first numbers may not fit, even
-/// if that of all of them does, so the loop keeps it up to its sign.
+/// if that of all of them does, so the loop keeps it up to its sign. It ends if the divisor is 1.
 #[tactic(auto, using(crate::proofs::ListDivisors::gcd_of_none))]
 fn signed_gcd_of<T: Fits>(numbers: &[T]) -> T
     requires { All (λ x. T.fits (T.value x)) numbers.now }
@@ -39,9 +40,27 @@ fn signed_gcd_of<T: Fits>(numbers: &[T]) -> T
 {
     let mut divisor = zero();
     for number in numbers {
-        divisor = signed_gcd(divisor, *number);
+        divisor = divisor_of_both(divisor, *number);
+        if is_one(divisor) {
+            return divisor;
+        }
     }
     divisor
+}
+
+/// Returns a number whose magnitude is the greatest common divisor of the divisor so far and of a number. Most numbers of
+/// a list are multiples of the divisor so far, which one division shows.
+fn divisor_of_both<T: Fits>(divisor: T, number: T) -> T
+    requires in_range { T.fits (T.value divisor) × T.fits (T.value number) }
+    ensures in_range { T.fits (T.value result) }
+    ensures magnitude { IsGreatestCommonDivisor (T.value divisor) (T.value number)
+        (pos (unsigned_abs (T.value result))) }
+{
+    if number.is_multiple_of(&divisor) {
+        divisor
+    } else {
+        signed_gcd(divisor, number)
+    }
 }
 
 /// Returns [`lcm_of`](crate::lists::lcm_of), the least common multiple of the numbers, or `None` if it does not
@@ -61,9 +80,27 @@ pub fn lcm_of<T: Fits>(numbers: &[T]) -> Option<T>
     // Each multiple on the way divides the last one, which is not 0. So it fits if the last one does.
     let mut multiple = one();
     for number in numbers {
-        multiple = checked::lcm(multiple, *number)?;
+        multiple = multiple_of_both(multiple, *number)?;
     }
     Some(multiple)
+}
+
+/// Returns the least common multiple of the multiple so far and of a number. Many numbers of a list divide the
+/// multiple so far, which one division shows.
+fn multiple_of_both<T: Fits>(multiple: T, number: T) -> Option<T>
+    requires in_range { T.fits (T.value multiple) × T.fits (T.value number) }
+    requires from_zero { pos 0 ≤ℤ T.value multiple }
+    ensures { AnswersWhere
+        (EachFits T.fits (IsLeastCommonMultiple (T.value multiple) (T.value number)))
+        (λ l. T.fits (T.value l)
+        × IsLeastCommonMultiple (T.value multiple) (T.value number) (T.value l))
+        result }
+{
+    if multiple.is_multiple_of(&number) {
+        Some(multiple)
+    } else {
+        checked::lcm(multiple, number)
+    }
 }
 
 /// Returns `true` if one of the numbers is 0.

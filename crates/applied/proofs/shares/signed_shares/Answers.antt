@@ -3,7 +3,7 @@ use Rattle.applied.proofs.WeightedShares.{all_signed, one_more_signed, signed_sh
 use Rattle.applied.proofs.shares.signed_shares.Goals as goal
 
 pub next_share-share-requires-clause-within : goal.next_share-share-requires-clause-within
-next_share-share-requires-clause-within c = rw c.in-Some.ensures.1 (get_or-le-sum_by (λ (x : ℕ). x) c.args.weights.now c.loop-i.i 0 c.loop-i-test.true)
+next_share-share-requires-clause-within c = rw c.in_ok-total.ensures.total.1 (get_or-le-sum_by (λ (x : ℕ). x) c.args.weights.now c.loop-i.i 0 c.loop-i-test.true)
 
 pub loop-i-preserved : goal.loop-i-preserved
 loop-i-preserved c =
@@ -21,10 +21,10 @@ pub returns-clause-shares : goal.returns-clause-shares
 returns-clause-shares c =
     let amount = c.ranges.amount in
     let shared = simp to_z-of_z at c.loop-i.invariant in
-    λ _. all_signed c.in-Some.ensures.1 (omega arith) shared
+    all_signed c.in_ok-total.ensures.total.1 (omega arith) shared
 
 pub returns-clause-only : goal.returns-clause-only
-returns-clause-only c = λ ok. signed_shares_are_only (returns-clause-shares c ok)
+returns-clause-only c = signed_shares_are_only (returns-clause-shares c)
 
 pub returns-clause-whole : goal.returns-clause-whole
-returns-clause-whole c = λ ok. signed_shares_are_whole (omega arith) (returns-clause-shares c ok)
+returns-clause-whole c = signed_shares_are_whole c.in_ok-total.ensures.total.0.1 (returns-clause-shares c)

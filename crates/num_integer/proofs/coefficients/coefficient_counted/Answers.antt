@@ -1,7 +1,7 @@
 use Rattle.num_integer.proofs.Common.{◌+◌, pos, unsigned_abs, arith, ap, ◌∙◌, sym, ints, few_bits, from_test}
 use Rattle.num_integer.proofs.Pascal.{coefficient-zero, none_above, power_below_answer}
 use Rattle.num_integer.proofs.RowSteps.{last_coefficient, next_coefficient_fits, next_place_fits}
-use Rattle.num_integer.proofs.coefficients.binomial_counted.Goals as goal
+use Rattle.num_integer.proofs.coefficients.coefficient_counted.Goals as goal
 
 pub returns-then-is_below-clause-coefficient : goal.returns-then-is_below-clause-coefficient
 returns-then-is_below-clause-coefficient g c =

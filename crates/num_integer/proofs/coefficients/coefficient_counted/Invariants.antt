@@ -1,5 +1,5 @@
 use Rattle.num_integer.proofs.Common.{◌≡◌, ◌-◌, ◌≤ℤ◌, pos, unsigned_abs, coefficient_of}
-use Rattle.num_integer.proofs.coefficients.binomial_counted.Given as goal
+use Rattle.num_integer.proofs.coefficients.coefficient_counted.Given as goal
 
 abbrev pub invariant-loop-n : goal.invariant-loop-n
 invariant-loop-n g l = record {

@@ -1,0 +1,266 @@
+-- An amount divided in proportion to weights by largest remainders.
+use Rattle.std.specs.Prelude.{◌≡◌, ◌⊎◌, ◌+◌, ◌*◌, ◌-◌, ◌<◌, ◌≤◌, ◌∷◌}
+use Rattle.applied.proofs.Common.{ℕ, List, [], EachIndex, length, slice_index, slice_set, sum, sum_by, take, suc, inl, inr, refl, ◌∙◌, ap, arith, sym, mul-le-mul_left, le_of_mul-le-mul_right, cond, leb, count_by, cases_lt, le-leb, lt-leb, get_or-set_other, get_or-set_same, length-set, take_all, take_more_set, count_by_more_no, count_by_more_yes, sum_by-cons, sum_by_more, sum_by_push, IsOnly, AreSharesByRemainder, IsNearShare, RoundsShare, count_from, remainder_of, rounded_down}
+
+-- ---- exact shares
+
+-- an exact share is its number rounded down and its remainder
+pub exact_parts : (amount total weight : ℕ) → 0 < total → (rounded_down amount total weight * total + remainder_of amount total weight ≡ amount * weight) × (remainder_of amount total weight < total)
+exact_parts amount total weight up = (omega arith, omega arith)
+
+-- the exact shares together are the amount
+pub exact_sum : (amount total : ℕ) (weights : List ℕ) → 0 < total → sum_by (rounded_down amount total) weights * total + sum_by (remainder_of amount total) weights ≡ amount * sum weights
+exact_sum amount total [] up = omega arith
+exact_sum amount total (w ∷ ws) up =
+    let rest = exact_sum amount total ws up in
+    let parts = exact_parts amount total w up in
+    let all_down = sum_by-cons (rounded_down amount total) w ws in
+    let all_over = sum_by-cons (remainder_of amount total) w ws in
+    let all = sum_by-cons (λ (x : ℕ). x) w ws in
+    rw (all_down, all_over, all) (omega (arith, rest, parts.0))
+
+-- the first exact shares, rounded down, are at most the amount
+pub down_within : (amount total i : ℕ) (weights : List ℕ) → 0 < total → sum (take i weights) ≤ total → sum_by (rounded_down amount total) (take i weights) ≤ amount
+down_within amount total i weights up within =
+    le_of_mul-le-mul_right {m = sum_by (rounded_down amount total) (take i weights)} {n = amount} {k = total}
+    (omega (arith, exact_sum amount total (take i weights) up, mul-le-mul_left amount within)) up
+
+-- ---- how many remainders reach a bar
+
+-- how many weights have a remainder R of at least `bar`
+abbrev pub reached : (ℕ → ℕ) → ℕ → List ℕ → ℕ
+reached R bar weights = count_by (λ weight. leb bar (R weight)) weights
+
+-- one weight more
+pub reached_more : (R : ℕ → ℕ) (bar : ℕ) (weights : List ℕ) (i : ℕ) → i < length weights
+    → (bar ≤ R (slice_index weights i) → reached R bar (take (i + 1) weights) ≡ reached R bar (take i weights) + 1)
+    × (R (slice_index weights i) < bar → reached R bar (take (i + 1) weights) ≡ reached R bar (take i weights))
+reached_more R bar weights i within = (
+  λ reaches. count_by_more_yes (λ weight. leb bar (R weight)) weights i 0 within (le-leb bar (R (slice_index weights i)) reaches),
+  λ below. count_by_more_no (λ weight. leb bar (R weight)) weights i 0 within (lt-leb bar (R (slice_index weights i)) below),
+)
+
+-- one weight before
+reached-cons : (R : ℕ → ℕ) (bar w : ℕ) (ws : List ℕ) → (bar ≤ R w → reached R bar (w ∷ ws) ≡ suc (reached R bar ws)) × (R w < bar → reached R bar (w ∷ ws) ≡ reached R bar ws)
+reached-cons R bar w ws =
+    let one = sum_by-cons (λ (x : ℕ). cond (leb bar (R x)) 1 0) w ws in (
+      λ reaches. one ∙ ap (λ b. cond b 1 0 + reached R bar ws) (le-leb bar (R w) reaches) ∙ omega arith,
+      λ below. one ∙ ap (λ b. cond b 1 0 + reached R bar ws) (lt-leb bar (R w) below) ∙ omega arith,
+    )
+
+-- no remainder reaches the total
+pub none_reached : (amount total : ℕ) (weights : List ℕ) → 0 < total → count_from amount total total weights ≡ 0
+none_reached amount total [] up = refl
+none_reached amount total (w ∷ ws) up = (reached-cons (remainder_of amount total) total w ws).1 (exact_parts amount total w up).1 ∙ none_reached amount total ws up
+
+-- the remainders together are at most the total for each that is not 0
+remainders_within : (amount total : ℕ) (weights : List ℕ) → 0 < total → sum_by (remainder_of amount total) weights ≤ count_from amount total 1 weights * total
+remainders_within amount total [] up = omega arith
+remainders_within amount total (w ∷ ws) up =
+    let rest = remainders_within amount total ws up in
+    let below = (exact_parts amount total w up).1 in
+    let all = sum_by-cons (remainder_of amount total) w ws in
+    let count = reached-cons (remainder_of amount total) 1 w ws in
+    elim (cases_lt (remainder_of amount total w) 1) [
+      | inl none ↦ rw (all, count.1 none) (omega (arith, rest))
+      | inr some ↦ rw (all, count.0 some) (omega (arith, rest, below))
+    ]
+
+-- the units that are over are at most one for each remainder that is not 0
+pub units_within : {amount total units : ℕ} (weights : List ℕ) → 0 < total → total ≡ sum weights → units + sum_by (rounded_down amount total) weights ≡ amount → units ≤ count_from amount total 1 weights
+units_within {amount} {total} {units} weights up is over =
+    let each : amount * sum weights ≡ amount * total = rw (sym is) refl in
+    let whole : (units + sum_by (rounded_down amount total) weights) * total ≡ amount * total = rw over refl in
+    le_of_mul-le-mul_right {m = units} {n = count_from amount total 1 weights} {k = total}
+    (omega (arith, exact_sum amount total weights up, remainders_within amount total weights up, each, whole)) up
+
+-- ---- the shares so far
+
+-- The first i shares are F, and 1 more for the remainders R that reach the bar and for some that are 1 below it. `left` of the extra units are left.
+pub record AreRaisedTo (F R : ℕ → ℕ) (bar extra : ℕ) (weights : List ℕ) (i left : ℕ) (shares : List ℕ) : Type 0 where
+  pub one_each : length shares ≡ length weights
+  pub fewer : left ≤ extra
+  pub whole : sum (take i shares) + left ≡ sum_by F (take i weights) + reached R bar (take i weights) + extra
+  pub enough : 0 < left → left + reached R (bar - 1) (take i weights) ≡ extra + reached R bar (take i weights)
+  pub rounded : (k : ℕ) → k < i → (slice_index shares k ≡ F (slice_index weights k)) ⊎ (slice_index shares k ≡ F (slice_index weights k) + 1)
+  pub raised : (k : ℕ) → k < i → slice_index shares k ≡ F (slice_index weights k) + 1 → (bar ≤ R (slice_index weights k) + 1) × (0 < R (slice_index weights k))
+  pub kept : (k : ℕ) → k < i → slice_index shares k ≡ F (slice_index weights k) → (R (slice_index weights k) < bar) × (0 < left → R (slice_index weights k) + 1 < bar)
+  pub order : (j k : ℕ) → j < i → k < i → slice_index shares j ≡ F (slice_index weights j) + 1 → slice_index shares k ≡ F (slice_index weights k)
+      → (R (slice_index weights k) < R (slice_index weights j)) ⊎ ((R (slice_index weights k) ≡ R (slice_index weights j)) × (j < k))
+
+pub none_raised : {F R : ℕ → ℕ} {bar extra : ℕ} {weights shares : List ℕ} → length shares ≡ length weights → AreRaisedTo F R bar extra weights 0 extra shares
+none_raised {F} {R} {bar} {extra} {weights} {shares} size = record {
+  one_each = size;
+  fewer = omega arith;
+  whole = omega arith;
+  enough = λ some. omega arith;
+  rounded = λ k none. absurd (omega arith);
+  raised = λ k none. absurd (omega arith);
+  kept = λ k none. absurd (omega arith);
+  order = λ j k none. absurd (omega arith);
+}
+
+-- the share at i, with what it is of the two
+module _ {F R : ℕ → ℕ} {bar extra i left : ℕ} {weights shares : List ℕ} (share next : ℕ) (within : i < length weights) (h : AreRaisedTo F R bar extra weights i left shares) where
+  abbrev weight : ℕ
+  weight = slice_index weights i
+
+  room : i < length shares
+  room = omega (arith, h.one_each)
+
+  here : slice_index (slice_set shares i share) i ≡ share
+  here = get_or-set_same shares i share 0 room
+
+  before : (k : ℕ) → k < i → slice_index (slice_set shares i share) k ≡ slice_index shares k
+  before k less = get_or-set_other shares i k share 0 (λ e. omega arith)
+
+  -- of each place up to i: it is before i, or i
+  each : (P : ℕ → ℕ → Type 0) → ((k : ℕ) → k < i → P k (slice_index shares k)) → P i share → (k : ℕ) → k < i + 1 → P k (slice_index (slice_set shares i share) k)
+  each P old own k upto = elim (cases_lt k i) [
+    | inl less ↦ rw (before k less) (old k less)
+    | inr same ↦ let at : k ≡ i = omega arith in rw (at, here) own
+  ]
+
+  with_share : next ≤ left
+      → share + next + reached R bar (take i weights) ≡ F weight + left + reached R bar (take (i + 1) weights)
+      → (0 < next → next + reached R (bar - 1) (take (i + 1) weights) ≡ extra + reached R bar (take (i + 1) weights))
+      → (share ≡ F weight) ⊎ (share ≡ F weight + 1)
+      → (share ≡ F weight + 1 → (bar ≤ R weight + 1) × (0 < R weight) × ((bar ≤ R weight) ⊎ (0 < left)))
+      → (share ≡ F weight → (R weight < bar) × (0 < next → R weight + 1 < bar))
+      → AreRaisedTo F R bar extra weights (i + 1) next (slice_set shares i share)
+  with_share less sums enough one raised kept = record {
+    one_each = length-set shares i share ∙ h.one_each;
+    fewer = omega (arith, h.fewer);
+    whole =
+        let written : sum (take (i + 1) (slice_set shares i share)) ≡ sum (take i shares) + share =
+        ap sum (take_more_set shares i share room) ∙ sum_by_push (λ (x : ℕ). x) (take i shares) share in
+        rw (written, sum_by_more F weights i 0 within) (omega (arith, h.whole, sums));
+    enough = enough;
+    rounded = each (λ k s. (s ≡ F (slice_index weights k)) ⊎ (s ≡ F (slice_index weights k) + 1)) h.rounded one;
+    raised = each (λ k s. s ≡ F (slice_index weights k) + 1 → (bar ≤ R (slice_index weights k) + 1) × (0 < R (slice_index weights k))) h.raised
+        (λ e. let own = raised e in (own.0, own.1));
+    kept = each (λ k s. s ≡ F (slice_index weights k) → (R (slice_index weights k) < bar) × (0 < next → R (slice_index weights k) + 1 < bar))
+        (λ k upto e. let own = h.kept k upto e in (own.0, λ some. own.1 (omega arith)))
+        kept;
+    order = λ j k j_upto k_upto. each (λ j s. s ≡ F (slice_index weights j) + 1 → slice_index (slice_set shares i share) k ≡ F (slice_index weights k)
+        → (R (slice_index weights k) < R (slice_index weights j)) ⊎ ((R (slice_index weights k) ≡ R (slice_index weights j)) × (j < k)))
+        (λ j upto up. each (λ k s. s ≡ F (slice_index weights k)
+        → (R (slice_index weights k) < R (slice_index weights j)) ⊎ ((R (slice_index weights k) ≡ R (slice_index weights j)) × (j < k)))
+        (λ k less down. h.order j k upto less up down)
+        (λ down. let high = h.raised j upto up in let low = kept down in grind arith)
+        k k_upto)
+        (λ up. each (λ k s. s ≡ F (slice_index weights k)
+        → (R (slice_index weights k) < R weight) ⊎ ((R (slice_index weights k) ≡ R weight) × (i < k)))
+        (λ k less down. let high = raised up in let low = h.kept k less down in grind arith)
+        (λ down. absurd (omega arith))
+        k k_upto)
+        j j_upto;
+  }
+
+-- what becomes of the share at i: 1 more, with or without a unit of those that are left, or not
+step : {F r bar left share next : ℕ} → RoundsShare F r bar left share next
+    → ((bar ≤ r) × (share ≡ F + 1) × (next ≡ left)) ⊎ ((r + 1 ≡ bar) × (0 < left) × (share ≡ F + 1) × (next + 1 ≡ left)) ⊎ ((r < bar) × (0 < next → r + 1 < bar) × (share ≡ F) × (next ≡ left))
+step {F} {r} {bar} {left} {share} {next} h = elim (cases_lt r bar) [
+  | inr reaches ↦ let is = h.above reaches in inl (reaches, is.0, is.1)
+  | inl below ↦ elim (cases_lt (r + 1) bar) [
+    | inl lower ↦ let is = h.below lower in inr (inr (below, λ _. lower, is.0, is.1))
+    | inr not_lower ↦
+        let at : r + 1 ≡ bar = omega arith in
+        elim (cases_lt 0 left) [
+          | inl some ↦ let is = h.at at some in inr (inl (at, some, is.0, is.1))
+          | inr none ↦ let is = h.none_left at (omega arith) in inr (inr (below, λ more. absurd (omega (arith, is.1)), is.0, is.1))
+        ]
+  ]
+]
+
+pub one_more_raised : {F R : ℕ → ℕ} {bar extra i left next : ℕ} {weights shares : List ℕ} (share : ℕ) → i < length weights → 0 < bar → (0 < extra → 1 < bar)
+    → RoundsShare (F (slice_index weights i)) (R (slice_index weights i)) bar left share next → AreRaisedTo F R bar extra weights i left shares
+    → AreRaisedTo F R bar extra weights (i + 1) next (slice_set shares i share)
+one_more_raised {F} {R} {bar} {extra} {i} {left} {next} {weights} {shares} share within up one rounds h =
+    let at = reached_more R bar weights i within in
+    let under = reached_more R (bar - 1) weights i within in
+    elim (step rounds) [
+      | inl (reaches, is, same) ↦
+          let more = at.0 reaches in let more_under = under.0 (omega arith) in
+          with_share share next within h (omega arith) (omega (arith, more)) (λ some. let before = h.enough (omega arith) in omega (arith, more, more_under, before)) (inr is)
+          (λ _. (omega arith, omega arith, inl reaches))
+          (λ e. absurd (omega arith))
+      | inr (inl (below, some, is, fewer)) ↦
+          let same = at.1 (omega arith) in let more_under = under.0 (omega arith) in
+          let high = one (omega (arith, h.fewer)) in
+          with_share share next within h (omega arith) (omega (arith, same)) (λ more. let before = h.enough some in omega (arith, same, more_under, before)) (inr is)
+          (λ _. (omega arith, omega arith, inr some))
+          (λ e. absurd (omega arith))
+      | inr (inr (below, lower, is, same)) ↦
+          let none = at.1 below in
+          with_share share next within h (omega arith) (omega (arith, none)) (λ some. let before = h.enough (omega arith) in let none_under = under.1 (omega (arith, lower some)) in omega (arith, none, none_under, before)) (inl is)
+          (λ e. absurd (omega arith))
+          (λ _. (below, lower))
+    ]
+
+-- ---- all shares
+
+pub all_raised : {amount total bar extra i left : ℕ} {weights shares : List ℕ} → total ≡ sum weights → length weights ≤ i
+    → count_from amount total bar weights + extra + sum_by (rounded_down amount total) weights ≡ amount
+    → (0 < extra → count_from amount total bar weights + extra < count_from amount total (bar - 1) weights)
+    → AreRaisedTo (rounded_down amount total) (remainder_of amount total) bar extra weights i left shares → AreSharesByRemainder amount weights shares
+all_raised {amount} {total} {bar} {extra} {i} {left} {weights} {shares} is end units enough h =
+    let all : take i weights ≡ weights = take_all i weights end in
+    let all_shares : take i shares ≡ shares = take_all i shares (omega (arith, h.one_each)) in
+    let whole = rw (all, all_shares) at h.whole in
+    let none_left : left ≡ 0 = elim (cases_lt 0 left) [
+      | inl some ↦ absurd (omega (arith, rw all at (h.enough some), enough (omega (arith, h.fewer))))
+      | inr none ↦ omega arith
+    ] in
+    record {
+      one_each = h.one_each;
+      whole = omega (arith, whole, units);
+      rounded = λ k within. rw (sym is) (h.rounded k (omega arith));
+      largest = λ j k j_within k_within. rw (sym is) (h.order j k (omega arith) (omega arith));
+    }
+
+-- Each is near its exact share.
+pub raised_are_near : {amount total bar extra i left : ℕ} {weights shares : List ℕ} → total ≡ sum weights → 0 < total → length weights ≤ i
+    → AreRaisedTo (rounded_down amount total) (remainder_of amount total) bar extra weights i left shares
+    → EachIndex weights (λ k. IsNearShare amount (slice_index weights k) (sum weights) (slice_index shares k))
+raised_are_near {amount} {total} {weights = weights} {shares = shares} is up end h = λ k within. rw (sym is)
+    (let parts = exact_parts amount total (slice_index weights k) up in
+    elim (h.rounded k (omega arith)) [
+      | inl down ↦ rw down record { not_above = omega (arith, parts.0, parts.1); not_below = omega (arith, parts.0, parts.1) }
+      | inr more ↦ let high = (h.raised k (omega arith) more).1 in rw more record { not_above = omega (arith, parts.0, parts.1, high); not_below = omega (arith, parts.0, parts.1, high) }
+    ])
+
+-- ---- an amount has one list of shares
+
+-- if other numbers are no more together, they are the same or one of them is less
+less_somewhere : (xs ys : List ℕ) → length xs ≡ length ys → sum ys ≤ sum xs → (ys ≡ xs) ⊎ ((i : ℕ) × (i < length ys) × (slice_index ys i < slice_index xs i))
+less_somewhere [] [] size within = inl refl
+less_somewhere [] (y ∷ ys) size within = absurd (omega arith)
+less_somewhere (x ∷ xs) [] size within = absurd (omega arith)
+less_somewhere (x ∷ xs) (y ∷ ys) size within =
+    let all_xs = sum_by-cons (λ (n : ℕ). n) x xs in
+    let all_ys = sum_by-cons (λ (n : ℕ). n) y ys in
+    elim (cases_lt y x) [
+      | inl less ↦ inr (0, omega arith, less)
+      | inr not_less ↦ elim (less_somewhere xs ys (omega arith) (omega (arith, all_xs, all_ys))) [
+        | inl same ↦ let own : y ≡ x = omega (arith, all_xs, all_ys, ap sum same) in inl (rw (own, same) refl)
+        | inr (i, upto, less) ↦ inr (suc i, omega arith, less)
+      ]
+    ]
+
+pub remainder_shares_only : {amount : ℕ} {weights shares : List ℕ} → AreSharesByRemainder amount weights shares → IsOnly (AreSharesByRemainder amount weights) shares
+remainder_shares_only {amount} {weights} {shares} h = λ other k.
+    elim (less_somewhere shares other (h.one_each ∙ sym k.one_each) (omega (arith, h.whole, k.whole))) [
+      | inl same ↦ same
+      | inr (i, i_upto, i_less) ↦ elim (less_somewhere other shares (k.one_each ∙ sym h.one_each) (omega (arith, h.whole, k.whole))) [
+        | inl same ↦ sym same
+        | inr (j, j_upto, j_less) ↦
+            let i_within : i < length weights = omega (arith, k.one_each) in
+            let j_within : j < length weights = omega (arith, h.one_each) in
+            let i_own = h.rounded i i_within in let i_other = k.rounded i i_within in
+            let j_own = h.rounded j j_within in let j_other = k.rounded j j_within in
+            let up = λ (a : slice_index shares i ≡ rounded_down amount (sum weights) (slice_index weights i) + 1) (b : slice_index shares j ≡ rounded_down amount (sum weights) (slice_index weights j)). h.largest i j i_within j_within a b in
+            let down = λ (a : slice_index other j ≡ rounded_down amount (sum weights) (slice_index weights j) + 1) (b : slice_index other i ≡ rounded_down amount (sum weights) (slice_index weights i)). k.largest j i j_within i_within a b in
+            absurd (grind arith)
+      ]
+    ]
