@@ -13,8 +13,8 @@ VERSION = re.findall(r'^version = "(.*)"$', (ROOT / 'rust/Cargo.toml').read_text
 NUMBERS = {f'{sign}{bits}': f'{"u" if sign == "u" else ""}int{bits}_t' for sign in 'iu' for bits in (8, 16, 32, 64)}
 NUMBERS |= {'usize': 'size_t', 'bool': 'bool'}
 # The order of the modules in the header. One that is not here comes last.
-ORDER = ('operators', 'division', 'divisors', 'lists', 'roots', 'powers', 'coefficients', 'ranking', 'modulo', 'congruences',
-         'several_congruences', 'fractions', 'rounding', 'dates', 'weekdays', 'years')
+ORDER = ('operators', 'division', 'divisors', 'coprime', 'lists', 'roots', 'powers', 'coefficients', 'counting', 'ranking', 'shares', 'paging',
+         'layout', 'modulo', 'congruences', 'several_congruences', 'schedules', 'fractions', 'rounding', 'dates', 'weekdays', 'years', 'texts')
 
 
 class Field(NamedTuple):

@@ -31,9 +31,9 @@ from tools.bindings.python import LETTERS, cells, public_calls, results
 COUNT = 200                                     # elements of an array
 ONE_BY_ONE = 8                                  # of them, which are called alone too
 SMALL = {1: 600, 2: 144, 3: 20, 4: 14, 5: 7, 6: 5}  # numbers of each cell in the calls of all small ones, by the number of cells
-RANGES = {'i64': I64, 'u64': U64, 'u32': (0, 2**32 - 1), 'u8': (0, 255)}
+RANGES = {'i64': I64, 'u64': U64, 'u32': (0, 2**32 - 1), 'i32': (-2**31, 2**31 - 1), 'u16': (0, 2**16 - 1), 'u8': (0, 255)}
 MOST_SHOWN = 20
-C_TYPES = {'i64': ctypes.c_int64, 'u64': ctypes.c_uint64, 'u32': ctypes.c_uint32, 'i32': ctypes.c_int32, 'u8': ctypes.c_uint8,
+C_TYPES = {'i64': ctypes.c_int64, 'u64': ctypes.c_uint64, 'u32': ctypes.c_uint32, 'i32': ctypes.c_int32, 'u16': ctypes.c_uint16, 'u8': ctypes.c_uint8,
            'bool': ctypes.c_bool}
 
 
@@ -47,8 +47,8 @@ def number(kind: str, width: int) -> int:
     """A number of a type: most have as many bits as the width, and some are small, or beside an end of the type."""
     low, high = RANGES[kind]
     choice = random.random()
-    if choice < 0.25 or kind in ('u8', 'u32'):
-        found = random.randrange(-3 if low else 0, 70) if choice < 0.9 else random.randint(low, high)
+    if choice < 0.25 or kind not in ('i64', 'u64'):
+        found = random.randrange(-3 if low else 0, 370 if kind == 'u16' else 70) if choice < 0.9 else random.randint(low, high)
     elif choice < 0.4:
         found = random.choice((low, high, 0, 2**31, 2**32, 2**63)) + random.randint(-2, 2)
     else:

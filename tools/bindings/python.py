@@ -26,9 +26,9 @@ DOCS = {
 EXAMPLE = re.compile(r'(?:That of|Those of|Those for|For|From|The date for|February|-?\d).*\d.*')
 ROWS = (ROOT / 'bindings/python/tests/rows.txt').read_text().rpartition('\n\n')[2]
 
-LETTERS = {'i64': 'q', 'u64': 'Q', 'u32': 'I', 'u8': 'B', 'i32': 'i', 'bool': '?'}
-TYPES = {'q': 'int64_t', 'Q': 'uint64_t', 'I': 'uint32_t', 'B': 'uint8_t', 'i': 'int32_t', '?': 'uint8_t'}
-OBJECTS = {'i64': 'PyLong_FromLongLong', 'u64': 'PyLong_FromUnsignedLongLong', 'u8': 'PyLong_FromLong', 'i32': 'PyLong_FromLong',
+LETTERS = {'i64': 'q', 'u64': 'Q', 'u32': 'I', 'u16': 'H', 'u8': 'B', 'i32': 'i', 'bool': '?'}
+TYPES = {'q': 'int64_t', 'Q': 'uint64_t', 'I': 'uint32_t', 'H': 'uint16_t', 'B': 'uint8_t', 'i': 'int32_t', '?': 'uint8_t'}
+OBJECTS = {'i64': 'PyLong_FromLongLong', 'u64': 'PyLong_FromUnsignedLongLong', 'u8': 'PyLong_FromLong', 'u16': 'PyLong_FromLong', 'i32': 'PyLong_FromLong',
            'bool': 'PyBool_FromLong'}
 # The class of a result, and the scalar result of the stubs.
 CLASSES = {'Bezout': ('class_gcd', 'ExtendedGcd'), 'Solutions': ('class_solutions', 'Solutions'), 'IsoWeek': ('class_week', 'IsoWeek')}

@@ -69,7 +69,7 @@ static newfunc new_tuple;
 static PyObject *name_numerator, *name_denominator, *name_year, *name_month, *name_day, *name_value, *name_out;
 
 static Py_ssize_t size_of(char kind) {
-    return kind == 'q' || kind == 'Q' ? 8 : kind == 'i' || kind == 'I' ? 4 : 1;
+    return kind == 'q' || kind == 'Q' ? 8 : kind == 'i' || kind == 'I' ? 4 : kind == 'H' ? 2 : 1;
 }
 
 /* ---- results ---- */
@@ -158,6 +158,8 @@ static bool fits(const cell *number, int said, char kind) {
     case 'q': return said == 0;
     case 'Q': return said == 1 || (said == 0 && number->i >= 0);
     case 'I': return said == 0 && 0 <= number->i && number->i <= UINT32_MAX;
+    case 'H': return said == 0 && 0 <= number->i && number->i <= UINT16_MAX;
+    case 'i': return said == 0 && INT32_MIN <= number->i && number->i <= INT32_MAX;
     default: return said == 0 && 0 <= number->i && number->i <= UINT8_MAX;
     }
 }
@@ -338,6 +340,7 @@ static const char *words_of(char kind) {
     case 'Q': return "the items of the array are not uint64";
     case 'I': return "the items of the array are not uint32";
     case 'i': return "the items of the array are not int32";
+    case 'H': return "the items of the array are not uint16";
     case '?': return "the items of the array are not bool or uint8";
     default: return "the items of the array are not uint8";
     }
@@ -345,7 +348,7 @@ static const char *words_of(char kind) {
 
 /* Whether the items of an array lie where C may read them, as they do not in a part of a packed record. */
 static bool is_aligned(const Py_buffer *view) {
-    size_t step = view->itemsize == 8 ? _Alignof(int64_t) : view->itemsize == 4 ? _Alignof(int32_t) : 1;
+    size_t step = view->itemsize == 8 ? _Alignof(int64_t) : view->itemsize == 4 ? _Alignof(int32_t) : view->itemsize == 2 ? _Alignof(int16_t) : 1;
     return view->len == 0 || (uintptr_t)view->buf % step == 0;
 }
 
@@ -423,9 +426,12 @@ static const form *read_columns(const call *c, PyObject **objects, Py_ssize_t co
 /* A number of a cell in memory, as the items of an array are. */
 static void store(cell *number, char kind) {
     uint32_t narrow = (uint32_t)number->u;
+    uint16_t half = (uint16_t)number->u;
     uint8_t byte = (uint8_t)number->u;
-    if (kind == 'I') {
+    if (kind == 'I' || kind == 'i') {
         memcpy(number, &narrow, sizeof narrow);
+    } else if (kind == 'H') {
+        memcpy(number, &half, sizeof half);
     } else if (kind == 'B') {
         memcpy(number, &byte, sizeof byte);
     }
@@ -439,7 +445,7 @@ static bool overlap(const Py_buffer *a, const Py_buffer *b) {
 
 /* A new array of zeros: that of one zero, repeated. */
 static PyObject *new_zeros(char kind, Py_ssize_t length) {
-    static const char kinds[] = "qQIiB";
+    static const char kinds[] = "qQIiHB";
     static PyObject *single[sizeof kinds];
     PyObject **one = &single[strchr(kinds, kind) - kinds];
     if (*one == NULL) {

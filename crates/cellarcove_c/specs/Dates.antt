@@ -1,7 +1,7 @@
 -- Dates by their year, month and day of the month.
 use Rattle.std.specs.Int.{w64}
 use Rattle.std.specs.Prelude.{◌≡◌, ◌+ℤ◌, ℕ, ℤ, pos, min, FitsSigned, MatchOption, Option}
-use Rattle.calendar.specs.Dates.{HasParts, IsLastWeekdayOfMonth, IsMonthsBetween, IsNthWeekday}
+use Rattle.calendar.specs.Dates.{HasParts, IsLastWeekdayOfMonth, IsMonthsBetween, IsNthWeekday, IsYearsBetween}
 use Rattle.calendar.specs.IsoWeeks.{IsDayOfIsoWeek}
 use Rattle.calendar.specs.Months.{IsDate, days_in_month, month_number}
 use Rattle.calendar.specs.Weekday.{iso_number}
@@ -39,6 +39,13 @@ MatchMonthsBetween year month day to_year to_month to_day answer = (from to : Da
     × HasParts to to_year to_month to_day × MatchOption answer
     ((months : ℤ) × IsMonthsBetween from to months × ¬ (FitsSigned w64 months)) (IsMonthsBetween from to)
 
+-- A result is the number of whole years from one date to another, or `None` if it does not fit.
+-- Examples: from 2000-02-29 to 2001-02-28: `Some(1)`.
+abbrev pub MatchYearsBetween : ℤ → ℕ → ℕ → ℤ → ℕ → ℕ → Option ℤ → Type 0
+MatchYearsBetween year month day to_year to_month to_day answer = (from to : Date) × HasParts from year month day
+    × HasParts to to_year to_month to_day × MatchOption answer
+    ((years : ℤ) × IsYearsBetween from to years × ¬ (FitsSigned w64 years)) (IsYearsBetween from to)
+
 -- The week has a day of the week of this ISO number, and no year of an `i64` has that day.
 -- Examples: 9223372036854775807, 53 and 7; not 9223372036854775807, 53 and 4, which is the last day of that year.
 pub record IsDayBeyond (year : ℤ) (week weekday : ℕ) : Type 0 where
@@ -66,3 +73,10 @@ IsNthOfIsoNumber year month weekday n y m d = IsOfIsoNumber weekday (λ w date. 
 -- Examples: 2026, 10 and 5: 2026-10-30; not 2026-10-23.
 abbrev pub IsLastOfIsoNumber : ℤ → ℕ → ℕ → ℤ → ℕ → ℕ → Type 0
 IsLastOfIsoNumber year month weekday y m d = IsOfIsoNumber weekday (λ w date. IsLastWeekdayOfMonth year month w date) y m d
+
+-- ---- days near another
+
+-- A day has a property of the day of the week of this ISO number.
+-- Examples: 3 and 7, with 'is the first Sunday from 0 on'; not 3 and 6.
+abbrev pub IsDayOfIsoNumber : ℕ → (Weekday → ℤ → Type 0) → ℤ → Type 0
+IsDayOfIsoNumber weekday Is day = (w : Weekday) × (iso_number w ≡ weekday) × Is w day

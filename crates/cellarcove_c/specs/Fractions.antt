@@ -1,9 +1,12 @@
 -- Results that are fractions, with a status.
-use Rattle.std.specs.Prelude.{◌≡◌, ◌+ℤ◌, ◌-ℤ◌, ◌*ℤ◌, ℤ, ℕ, pos, negsuc, Result, Err, MatchResult}
+use Rattle.std.specs.Prelude.{◌≡◌, ◌<ℤ◌, ◌≤ℤ◌, ◌+ℤ◌, ◌-ℤ◌, ◌*ℤ◌, ℤ, ℕ, pos, neg_ℤ, negsuc, unsigned_abs, Result, Err, MatchResult}
+use Rattle.std.specs.Int.{int_pow}
 use Rattle.std.specs.declared.cmp.Ordering.{Ordering}
 use Rattle.std.specs.declared.cmp.Ordering.TheVariants.{Equal, Greater, Less}
+use Rattle.num_integer.specs.Division.{IsRemainder, IsTruncated}
 use Rattle.ratio64.specs.Ratio.{AnswersFraction, num_of, den_of}
 use Rattle.ratio64.specs.RatioError.{number_of}
+use Rattle.ratio64.specs.Rounding.{AnswersInParts}
 use Rattle.ratio64.specs.declared.fraction.Ratio.{Ratio}
 use Rattle.ratio64.specs.declared.error.RatioError.{RatioError}
 use Rattle.cellarcove_c.specs.Answers.{I64Fitting}
@@ -62,6 +65,50 @@ abbrev pub AnswersOfTwo : (Result Ratio RatioError → Result Ratio RatioError �
 AnswersOfTwo Is a b answer = (p q r : Result Ratio RatioError) × AnswersFraction a.num a.den p × AnswersFraction b.num b.den q
     × Is p q r × StandsFor r answer.status answer.value.num answer.value.den
 
+-- ---- of one fraction
+
+-- The result of a call of a fraction, or the error of the fraction.
+-- Examples: of 'is the reciprocal': of 2/3: 3/2; of `ZeroDenominator`: `ZeroDenominator`.
+abbrev pub OnOne : (Ratio → Result Ratio RatioError → Type 0) → Result Ratio RatioError → Result Ratio RatioError → Type 0
+OnOne Is a r = MatchResult a (λ x. Is x r) (λ e. r ≡ Err e)
+
+-- The reciprocal of a fraction.
+-- Examples: of -2/3: -3/2; of 0/1: `ZeroDenominator`.
+abbrev pub IsReciprocal : Ratio → Result Ratio RatioError → Type 0
+IsReciprocal x r = AnswersFraction (den_of x) (num_of x) r
+
+-- The negation of a fraction.
+-- Examples: of -3/2: 3/2; of -2^63/1: `NotFitting`.
+abbrev pub IsNegation : Ratio → Result Ratio RatioError → Type 0
+IsNegation x r = AnswersFraction (neg_ℤ (num_of x)) (den_of x) r
+
+-- The magnitude of a fraction.
+-- Examples: of -3/2: 3/2; of -2^63/1: `NotFitting`.
+abbrev pub IsMagnitude : Ratio → Result Ratio RatioError → Type 0
+IsMagnitude x r = AnswersFraction (pos (unsigned_abs (num_of x))) (den_of x) r
+
+-- The power of a fraction, which for a negative exponent is that of the reciprocal.
+-- Examples: of 2/3 and 2: 4/9; of 2/3 and -1: 3/2; of 0/1 and -1: `ZeroDenominator`.
+pub record IsPower (exponent : ℤ) (x : Ratio) (r : Result Ratio RatioError) : Type 0 where
+  pub from_zero : pos 0 ≤ℤ exponent → AnswersFraction (int_pow (num_of x) (unsigned_abs exponent)) (int_pow (den_of x) (unsigned_abs exponent)) r
+  pub below_zero : exponent <ℤ pos 0 → AnswersFraction (int_pow (den_of x) (unsigned_abs exponent)) (int_pow (num_of x) (unsigned_abs exponent)) r
+
+-- A fraction times n/d.
+-- Examples: 2/3 times 9/4: 3/2; 2/3 times 1/0: `ZeroDenominator`.
+abbrev pub IsTimes : ℤ → ℤ → Ratio → Result Ratio RatioError → Type 0
+IsTimes n d x r = AnswersFraction (num_of x *ℤ n) (d *ℤ den_of x) r
+
+-- A fraction rounded in one way to a multiple of 1/parts.
+-- Examples: of rounding down, in quarters: of 5/3: 3/2.
+abbrev pub IsInParts : (ℤ → ℤ → ℤ → Type 0) → ℤ → Ratio → Result Ratio RatioError → Type 0
+IsInParts IsRounded parts x r = AnswersInParts (IsRounded (num_of x *ℤ parts) (den_of x)) parts r
+
+-- The result is that of a fraction, which is reduced first.
+-- Examples: of negations: 2/4: 0, -1 and 2; 1/0: 1, 0 and 0.
+abbrev pub AnswersOfOne : (Ratio → Result Ratio RatioError → Type 0) → Fraction → FractionAnswer → Type 0
+AnswersOfOne Is a answer = (p r : Result Ratio RatioError) × AnswersFraction a.num a.den p
+    × OnOne Is p r × StandsFor r answer.status answer.value.num answer.value.den
+
 -- ---- rounded
 
 -- The result is a fraction, which is reduced first, rounded in one way.
@@ -76,3 +123,10 @@ abbrev pub AnswersRoundedTimes : (ℤ → ℤ → ℤ → Type 0) → Fraction �
 AnswersRoundedTimes IsRounded a n answer = (p : Result Ratio RatioError) × AnswersFraction a.num a.den p
     × MatchResult p (λ x. I64Fitting (IsRounded (num_of x *ℤ n) (den_of x)) answer)
     (λ e. answer ≡ record { status = number_of e; value = pos 0 })
+
+-- The result is a fraction, which is reduced first, minus itself rounded toward 0.
+-- Examples: -6/4: 0, -1 and 2; 1/0: 1, 0 and 0.
+abbrev pub AnswersFract : Fraction → FractionAnswer → Type 0
+AnswersFract a answer = (p : Result Ratio RatioError) × AnswersFraction a.num a.den p
+    × MatchResult p (λ x. (answer.status ≡ 0) × IsRemainder IsTruncated (num_of x) (den_of x) answer.value.num × (answer.value.den ≡ den_of x))
+    (λ e. answer ≡ record { status = number_of e; value = record { num = pos 0; den = pos 0 } })

@@ -1,6 +1,8 @@
 pub mod Statuses
 pub mod Answers
 pub mod Quotients
+pub mod Roots
+pub mod Paging
 pub mod Congruences
 pub mod Fractions
 pub mod Dates

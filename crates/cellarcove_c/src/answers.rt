@@ -89,6 +89,16 @@ impl I64Answer {
         I64Answer { status, value }
     }
 
+    /// Returns a result.
+    pub(crate) fn some(value: i64) -> I64Answer
+        ensures { result ≡ record { status = 0; value = value } }
+    {
+        I64Answer {
+            status: ANSWER,
+            value,
+        }
+    }
+
     /// Returns a rejection.
     pub(crate) fn none(status: u32) -> I64Answer
         ensures { result ≡ record { status = status; value = pos 0 } }

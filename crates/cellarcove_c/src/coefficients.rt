@@ -48,8 +48,8 @@ pub extern "C" fn cellarcove_multinomial_u64(counts: &[u64]) -> U64Answer
     U64Answer::of(checked::multinomial(counts), NOT_FITTING)
 }
 
-/// Returns why there is no coefficient of two counts.
-fn reason_for_counts(n: i64, k: i64) -> u32
+/// Returns why there is no result of two counts.
+pub(crate) fn reason_for_counts(n: i64, k: i64) -> u32
     ensures reason { IsReason ((n <ℤ pos 0) ⊎ (k <ℤ pos 0)) result }
     ensures refused { result ≢ 0 }
 {

@@ -1,21 +1,21 @@
 //! Dates of the proleptic Gregorian calendar, and days counted from 1970-01-01, which is day 0.
 
-ghost use Rattle.std.specs.Prelude.{◌≡◌, ◌⊎◌, ◌↔◌, ◌≤◌, ◌+ℤ◌, ◌-ℤ◌, ℕ, ℤ, pos, FitsSigned, MatchOption};
+ghost use Rattle.std.specs.Prelude.{◌≡◌, ◌⊎◌, ◌↔◌, ◌+◌, ◌≤◌, ◌+ℤ◌, ◌-ℤ◌, ℕ, ℤ, pos, FitsSigned, MatchOption};
 ghost use Rattle.std.specs.Int.{w64};
 ghost use Rattle.calendar.specs.Dates.{HasParts, number_of};
 ghost use Rattle.calendar.specs.Easter.{IsEaster};
 ghost use Rattle.calendar.specs.IsoWeeks.{HasIsoWeek, IsDayOfIsoWeek, IsInIsoWeek};
-ghost use Rattle.calendar.specs.Months.{IsDate};
+ghost use Rattle.calendar.specs.Months.{IsDate, days_before_month};
 ghost use Rattle.calendar.specs.Weekday.{iso_number};
-ghost use Rattle.calendar.specs.Years.{day_number};
+ghost use Rattle.calendar.specs.Years.{day_number, days_in_year};
 ghost use Rattle.calendar.specs.declared.weekday.Weekday.{Weekday};
 ghost use Rattle.num_integer.specs.Checked.{AnswersWhere};
-ghost use Rattle.cellarcove_c.specs.Answers.{Refuses};
-ghost use Rattle.cellarcove_c.specs.Dates.{Exists, IsDayBeyond, IsMonthsLater, MatchMonthsBetween, day_of, zero_date};
-ghost use Rattle.cellarcove_c.specs.Statuses.{Either, answer_of, no_date, not_fitting, outside};
+ghost use Rattle.cellarcove_c.specs.Answers.{Answers, Refuses};
+ghost use Rattle.cellarcove_c.specs.Dates.{Exists, IsDayBeyond, IsMonthsLater, MatchMonthsBetween, MatchYearsBetween, day_of, zero_date};
+ghost use Rattle.cellarcove_c.specs.Statuses.{Either, Only, answer_of, no_date, not_fitting, outside};
 
 use crate::answers::{ANSWER, I64Answer, NO_DATE, NOT_FITTING, OUTSIDE};
-use calendar::{Weekday, days_between, easter, months_between, weeks_in_year};
+use calendar::{Weekday, days_between, easter, months_between, weeks_in_year, years_between};
 
 /// A year, a month and a day of the month. The year before year 1 is year 0. January is month 1.
 #[repr(C)]
@@ -155,6 +155,43 @@ pub extern "C" fn cellarcove_months_between(from: Date, to: Date) -> I64Answer
             None => I64Answer::none(NO_DATE),
         },
         None => I64Answer::none(NO_DATE),
+    }
+}
+
+/// Returns the largest number of years that leads from one date to a date not after another, negative if
+/// the other is earlier. From 2000-02-29 to 2025-02-28 it is 25.
+///
+/// `NO_DATE` if a date does not exist. `NOT_FITTING` if the number does not fit.
+#[unsafe(no_mangle)]
+pub extern "C" fn cellarcove_years_between(from: Date, to: Date) -> I64Answer
+    ensures answer { Exists from → Exists to
+        → MatchYearsBetween from.year from.month from.day_of_month to.year to.month to.day_of_month
+        (answer_of result.status result.value) }
+    ensures no_date { (result.status ≡ no_date) ↔ ((¬ (Exists from)) ⊎ (¬ (Exists to))) }
+    ensures refusal { Refuses (Either no_date not_fitting) (pos 0) result.status result.value }
+{
+    match from.found() {
+        Some(first) => match to.found() {
+            Some(last) => I64Answer::of(years_between(&first, &last), NOT_FITTING),
+            None => I64Answer::none(NO_DATE),
+        },
+        None => I64Answer::none(NO_DATE),
+    }
+}
+
+/// Returns the date of a day of a year; 1 January is day 1. That of 2000 and 60 is 2000-02-29.
+///
+/// `NO_DATE` if the year has no such day.
+#[unsafe(no_mangle)]
+pub extern "C" fn cellarcove_date_from_year_day(year: i64, day: u16) -> DateAnswer
+    ensures { Answers ((1 ≤ day) × (day ≤ days_in_year year))
+        (λ date. Exists date × (date.year ≡ year)
+        × (days_before_month date.year date.month + date.day_of_month ≡ day))
+        (Only no_date) zero_date result.status result.date }
+{
+    match calendar::Date::from_year_day(year, day) {
+        Some(found) => DateAnswer::some(&found),
+        None => DateAnswer::none(NO_DATE),
     }
 }
 

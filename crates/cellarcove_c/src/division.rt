@@ -1,13 +1,15 @@
-//! Division, rounded toward 0, down or up.
+//! Division, rounded toward 0, down, up or to the nearest integer.
 
 ghost use Rattle.std.specs.Prelude.{◌≡◌, ◌≢◌, ◌↔◌, ◌*ℤ◌, ℕ, ℤ, pos, IsTrue};
 ghost use Rattle.num_integer.specs.Division.{IsCeiled, IsFloored, IsMultiple, IsQuotient, IsRemainder, IsTruncated};
 ghost use Rattle.num_integer.specs.Divisors.{Divides};
+ghost use Rattle.applied.specs.Rounding.{IsNearest, IsNearestEven};
 ghost use Rattle.cellarcove_c.specs.Answers.{I64Answers, Refuses, U64Answers};
 ghost use Rattle.cellarcove_c.specs.Quotients.{I64Quotient, I64Quotients, U64Quotient, U64Quotients};
 ghost use Rattle.cellarcove_c.specs.Statuses.{IsReason, Only, answer_of, outside};
 
 use crate::answers::{I64Answer, NOT_FITTING, OUTSIDE, U64Answer, with_status};
+use applied::rounding::checked as rounding;
 use num_integer::{Integer, checked};
 
 /// A status, and a quotient with its remainder.
@@ -87,6 +89,47 @@ pub extern "C" fn cellarcove_div_ceil_u64(x: u64, y: u64) -> U64Answer
     ensures { U64Quotient (pos y) (IsQuotient IsCeiled (pos x) (pos y)) (Only outside) result }
 {
     U64Answer::of(checked::div_ceil(x, y), OUTSIDE)
+}
+
+/// Returns the quotient rounded to the nearest integer, and a half away from 0. That of -5 by 2 is -3.
+///
+/// `OUTSIDE` if `y` is 0. `NOT_FITTING` if the quotient does not fit.
+#[unsafe(no_mangle)]
+pub extern "C" fn cellarcove_div_round_i64(x: i64, y: i64) -> I64Answer
+    ensures { I64Quotient y (IsQuotient IsNearest x y) result }
+{
+    I64Answer::of(rounding::div_round(x, y), reason_for_divisor(y))
+}
+
+/// Returns the quotient rounded to the nearest integer, and a half up. That of 5 by 2 is 3.
+///
+/// `OUTSIDE` if `y` is 0.
+#[unsafe(no_mangle)]
+pub extern "C" fn cellarcove_div_round_u64(x: u64, y: u64) -> U64Answer
+    ensures { U64Quotient (pos y) (IsQuotient IsNearest (pos x) (pos y)) (Only outside) result }
+{
+    U64Answer::of(rounding::div_round(x, y), OUTSIDE)
+}
+
+/// Returns the quotient rounded to the nearest integer, and a half to the even one. That of -5 by 2 is
+/// -2.
+///
+/// `OUTSIDE` if `y` is 0. `NOT_FITTING` if the quotient does not fit.
+#[unsafe(no_mangle)]
+pub extern "C" fn cellarcove_div_round_even_i64(x: i64, y: i64) -> I64Answer
+    ensures { I64Quotient y (IsQuotient IsNearestEven x y) result }
+{
+    I64Answer::of(rounding::div_round_even(x, y), reason_for_divisor(y))
+}
+
+/// Returns the quotient rounded to the nearest integer, and a half to the even one. That of 5 by 2 is 2.
+///
+/// `OUTSIDE` if `y` is 0.
+#[unsafe(no_mangle)]
+pub extern "C" fn cellarcove_div_round_even_u64(x: u64, y: u64) -> U64Answer
+    ensures { U64Quotient (pos y) (IsQuotient IsNearestEven (pos x) (pos y)) (Only outside) result }
+{
+    U64Answer::of(rounding::div_round_even(x, y), OUTSIDE)
 }
 
 /// Returns the remainder of the quotient rounded down, which is 0 or has the sign of `y`. That of -8 by

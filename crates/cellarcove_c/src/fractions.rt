@@ -8,7 +8,7 @@ ghost use Rattle.ratio64.specs.Ratio.{AnswersFraction, den_of, num_of};
 ghost use Rattle.ratio64.specs.RatioError.{number_of};
 ghost use Rattle.ratio64.specs.declared.error.RatioError.{RatioError};
 ghost use Rattle.ratio64.specs.declared.fraction.Ratio.{Ratio};
-ghost use Rattle.cellarcove_c.specs.Fractions.{AnswersOfTwo, IsDifferenceOf, IsProductOf, IsQuotientOf, IsSumOf, OnBoth, StandsFor, order_number};
+ghost use Rattle.cellarcove_c.specs.Fractions.{AnswersOfOne, AnswersOfTwo, IsDifferenceOf, IsMagnitude, IsNegation, IsPower, IsProductOf, IsQuotientOf, IsReciprocal, IsSumOf, IsTimes, OnBoth, OnOne, StandsFor, order_number};
 ghost use Rattle.cellarcove_c.specs.Statuses.{outside};
 
 use crate::answers::{ANSWER, OUTSIDE};
@@ -95,6 +95,61 @@ pub extern "C" fn cellarcove_fraction_div(a: Fraction, b: Fraction) -> FractionA
     FractionAnswer::of(quotient(a.reduced(), b.reduced()))
 }
 
+/// Returns the reciprocal. That of -2/3 is -3/2.
+///
+/// `ZERO_DENOMINATOR` if the denominator is 0, and if `a` is 0. `NOT_FITTING` if a part of the argument,
+/// reduced, does not fit, or a part of the result.
+#[unsafe(no_mangle)]
+pub extern "C" fn cellarcove_fraction_recip(a: Fraction) -> FractionAnswer
+    ensures { AnswersOfOne IsReciprocal a result }
+{
+    FractionAnswer::of(reciprocal(a.reduced()))
+}
+
+/// Returns the negation. That of -3/2 is 3/2.
+///
+/// `ZERO_DENOMINATOR` if the denominator is 0. `NOT_FITTING` if a part of the argument, reduced, does not
+/// fit, or a part of the result.
+#[unsafe(no_mangle)]
+pub extern "C" fn cellarcove_fraction_neg(a: Fraction) -> FractionAnswer
+    ensures { AnswersOfOne IsNegation a result }
+{
+    FractionAnswer::of(negation(a.reduced()))
+}
+
+/// Returns the magnitude. That of -3/2 is 3/2.
+///
+/// `ZERO_DENOMINATOR` if the denominator is 0. `NOT_FITTING` if a part of the argument, reduced, does not
+/// fit, or a part of the result.
+#[unsafe(no_mangle)]
+pub extern "C" fn cellarcove_fraction_abs(a: Fraction) -> FractionAnswer
+    ensures { AnswersOfOne IsMagnitude a result }
+{
+    FractionAnswer::of(magnitude(a.reduced()))
+}
+
+/// Returns the power, which for a negative exponent is that of the reciprocal. That of 2/3 and -2 is 9/4.
+///
+/// `ZERO_DENOMINATOR` if the denominator is 0, and if `a` is 0 and the exponent is negative.
+/// `NOT_FITTING` if a part of the argument, reduced, does not fit, or a part of the result.
+#[unsafe(no_mangle)]
+pub extern "C" fn cellarcove_fraction_pow(a: Fraction, exponent: i32) -> FractionAnswer
+    ensures { AnswersOfOne (IsPower exponent) a result }
+{
+    FractionAnswer::of(power(a.reduced(), exponent))
+}
+
+/// Returns the fraction times `n / d`. That of 2/3, 9 and 4 is 3/2.
+///
+/// `ZERO_DENOMINATOR` if the denominator is 0, and if `d` is 0. `NOT_FITTING` if a part of the argument,
+/// reduced, does not fit, or a part of the result.
+#[unsafe(no_mangle)]
+pub extern "C" fn cellarcove_fraction_times(a: Fraction, n: i64, d: i64) -> FractionAnswer
+    ensures { AnswersOfOne (IsTimes n d) a result }
+{
+    FractionAnswer::of(times(a.reduced(), n, d))
+}
+
 /// Returns -1, 0 or 1 if `a` is less than, equal to or greater than `b`. For 1/2 and 1/3 it is 1.
 ///
 /// `ZERO_DENOMINATOR` if a denominator is 0. `NOT_FITTING` if a part of an argument, reduced, does not
@@ -145,7 +200,7 @@ impl Fraction {
 
 impl FractionAnswer {
     /// Returns a result of `ratio64`.
-    fn of(answered: Result<Ratio, RatioError>) -> FractionAnswer
+    pub(crate) fn of(answered: Result<Ratio, RatioError>) -> FractionAnswer
         ensures { StandsFor answered result.status result.value.num result.value.den }
     {
         match answered {
@@ -155,7 +210,7 @@ impl FractionAnswer {
     }
 
     /// Returns a result.
-    fn some(ratio: &Ratio) -> FractionAnswer
+    pub(crate) fn some(ratio: &Ratio) -> FractionAnswer
         ensures { result ≡ record {
           status = 0;
           value = record { num = num_of ratio.now; den = den_of ratio.now };
@@ -171,7 +226,7 @@ impl FractionAnswer {
     }
 
     /// Returns a rejection.
-    fn none(status: u32) -> FractionAnswer
+    pub(crate) fn none(status: u32) -> FractionAnswer
         ensures { result ≡ record { status = status; value = record { num = pos 0; den = pos 0 } } }
     {
         FractionAnswer {
@@ -222,6 +277,41 @@ fn quotient(a: Result<Ratio, RatioError>, b: Result<Ratio, RatioError>) -> Resul
     ensures { IsQuotientOf a b result }
 {
     a?.checked_div(&b?)
+}
+
+/// Returns the reciprocal of a fraction, or its error.
+fn reciprocal(a: Result<Ratio, RatioError>) -> Result<Ratio, RatioError>
+    ensures { OnOne IsReciprocal a result }
+{
+    a?.checked_recip()
+}
+
+/// Returns the negation of a fraction, or its error.
+fn negation(a: Result<Ratio, RatioError>) -> Result<Ratio, RatioError>
+    ensures { OnOne IsNegation a result }
+{
+    a?.checked_neg()
+}
+
+/// Returns the magnitude of a fraction, or its error.
+fn magnitude(a: Result<Ratio, RatioError>) -> Result<Ratio, RatioError>
+    ensures { OnOne IsMagnitude a result }
+{
+    a?.checked_abs()
+}
+
+/// Returns the power of a fraction, or its error.
+fn power(a: Result<Ratio, RatioError>, exponent: i32) -> Result<Ratio, RatioError>
+    ensures { OnOne (IsPower exponent) a result }
+{
+    a?.checked_pow(exponent)
+}
+
+/// Returns a fraction times `n / d`, or its error.
+fn times(a: Result<Ratio, RatioError>, n: i64, d: i64) -> Result<Ratio, RatioError>
+    ensures { OnOne (IsTimes n d) a result }
+{
+    a?.checked_times(n, d)
 }
 
 /// Returns the order of two fractions, or the status of the first error.

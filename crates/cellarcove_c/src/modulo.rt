@@ -1,6 +1,6 @@
 //! Arithmetic modulo a number.
 
-ghost use Rattle.std.specs.Prelude.{◌≡◌, ◌≢◌, ◌<ℤ◌, ◌+ℤ◌, ◌-ℤ◌, ◌*ℤ◌, pos, MatchBool};
+ghost use Rattle.std.specs.Prelude.{◌≡◌, ◌≢◌, ◌<ℤ◌, ◌+ℤ◌, ◌-ℤ◌, ◌*ℤ◌, neg_ℤ, pos, MatchBool};
 ghost use Rattle.std.specs.Int.{int_pow};
 ghost use Rattle.modular.specs.Congruences.{IsInverse, IsQuotientModulo, IsResidue};
 ghost use Rattle.cellarcove_c.specs.Answers.{I64Answers, U64Answers};
@@ -9,6 +9,47 @@ ghost use Rattle.cellarcove_c.specs.Statuses.{Only, bad_modulus};
 
 use crate::answers::{BAD_MODULUS, I64Answer, NO_SOLUTION, U64Answer};
 use modular::checked;
+
+/// Returns the residue of `a` modulo `m`, from 0 to `m` - 1. For -3 and 7 it is 4.
+///
+/// `BAD_MODULUS` if `m` is not positive.
+#[unsafe(no_mangle)]
+pub extern "C" fn cellarcove_residue_i64(a: i64, m: i64) -> I64Answer
+    ensures { I64Answers (pos 0 <ℤ m) (IsResidue m a) (Only bad_modulus) result }
+{
+    I64Answer::of(checked::residue(a, m), BAD_MODULUS)
+}
+
+/// Returns the residue of `a` modulo `m`, from 0 to `m` - 1. For 10 and 7 it is 3.
+///
+/// `BAD_MODULUS` if `m` is 0.
+#[unsafe(no_mangle)]
+pub extern "C" fn cellarcove_residue_u64(a: u64, m: u64) -> U64Answer
+    ensures { U64Answers (pos 0 <ℤ pos m) (IsResidue (pos m) (pos a)) (Only bad_modulus) result }
+{
+    U64Answer::of(checked::residue(a, m), BAD_MODULUS)
+}
+
+/// Returns `-a` modulo `m`, from 0 to `m` - 1. For 3 and 7 it is 4.
+///
+/// `BAD_MODULUS` if `m` is not positive.
+#[unsafe(no_mangle)]
+pub extern "C" fn cellarcove_negation_modulo_i64(a: i64, m: i64) -> I64Answer
+    ensures { I64Answers (pos 0 <ℤ m) (IsResidue m (neg_ℤ a)) (Only bad_modulus) result }
+{
+    I64Answer::of(checked::negation_modulo(a, m), BAD_MODULUS)
+}
+
+/// Returns `-a` modulo `m`, from 0 to `m` - 1. For 3 and 7 it is 4.
+///
+/// `BAD_MODULUS` if `m` is 0.
+#[unsafe(no_mangle)]
+pub extern "C" fn cellarcove_negation_modulo_u64(a: u64, m: u64) -> U64Answer
+    ensures { U64Answers (pos 0 <ℤ pos m) (IsResidue (pos m) (neg_ℤ (pos a))) (Only bad_modulus)
+        result }
+{
+    U64Answer::of(checked::negation_modulo(a, m), BAD_MODULUS)
+}
 
 /// Returns `a + b` modulo `m`, from 0 to `m` - 1. For 5, 4 and 7 it is 2.
 ///

@@ -1,9 +1,32 @@
-//! Tests of squares and of other powers of integers.
+//! Tests of squares and of other powers of integers, square roots with what is left, and logarithms.
 
-ghost use Rattle.std.specs.Prelude.{◌≡◌, ◌↔◌, ◌≤◌, ◌*ℤ◌, ℕ, ℤ, pos, IsTrue};
+ghost use Rattle.std.specs.Prelude.{◌≡◌, ◌≢◌, ◌↔◌, ◌≤◌, ◌<ℤ◌, ◌≤ℤ◌, ◌*ℤ◌, ℕ, ℤ, pos, IsTrue};
 ghost use Rattle.std.specs.Int.{int_pow};
+ghost use Rattle.applied.specs.Powers.{IsLogarithm};
+ghost use Rattle.cellarcove_c.specs.Answers.{Answers, Refuses};
+ghost use Rattle.cellarcove_c.specs.Roots.{IsRootWithRest};
+ghost use Rattle.cellarcove_c.specs.Statuses.{Only, answer_of, outside};
 
-use applied::powers::{is_perfect_power, is_power, is_square};
+use crate::answers::{OUTSIDE, U64Answer, with_status};
+use applied::powers::{checked, is_perfect_power, is_power, is_square};
+
+/// A status, and a square root with what is left.
+#[repr(C)]
+#[derive(Clone, Copy)]
+pub struct I64Root {
+    pub status: u32,
+    pub root: i64,
+    pub rest: i64,
+}
+
+/// A status, and a square root with what is left.
+#[repr(C)]
+#[derive(Clone, Copy)]
+pub struct U64Root {
+    pub status: u32,
+    pub root: u64,
+    pub rest: u64,
+}
 
 /// Returns `true` if `x` is the square of an integer. 144 is one, and -144 is not.
 #[unsafe(no_mangle)]
@@ -54,4 +77,86 @@ pub extern "C" fn cellarcove_is_perfect_power_u64(x: u64) -> bool
         ↔ ((k : ℤ) × ((degree : ℕ) × (2 ≤ degree) × (int_pow k degree ≡ pos x))) }
 {
     is_perfect_power(x)
+}
+
+/// Returns the square root rounded down, and what is left: `x` minus the square of the root. Those of 99
+/// are 9 and 18.
+///
+/// `OUTSIDE` if `x` is negative.
+#[unsafe(no_mangle)]
+pub extern "C" fn cellarcove_sqrt_rem_i64(x: i64) -> I64Root
+    ensures { Answers {A = ℤ × ℤ} (pos 0 ≤ℤ x) (λ (root, rest). IsRootWithRest x root rest)
+        (Only outside) (pos 0, pos 0) result.status (result.root, result.rest) }
+{
+    I64Root::of(checked::sqrt_rem(x))
+}
+
+/// Returns the square root rounded down, and what is left: `x` minus the square of the root. Both always
+/// fit. Those of 99 are 9 and 18.
+#[unsafe(no_mangle)]
+pub extern "C" fn cellarcove_sqrt_rem_u64(x: u64) -> U64Root
+    ensures answer { Answers {A = ℕ × ℕ} (pos 0 ≤ℤ pos x)
+        (λ (root, rest). IsRootWithRest (pos x) (pos root) (pos rest))
+        (Only outside) (0, 0) result.status (result.root, result.rest) }
+    ensures always { result.status ≡ 0 }
+{
+    U64Root::of(checked::sqrt_rem(x))
+}
+
+/// Returns the logarithm rounded down: the largest degree of a power of `base` that is at most `x`. For
+/// 1000 and 10 it is 3.
+///
+/// `OUTSIDE` if `x` is not positive or `base` is below 2.
+#[unsafe(no_mangle)]
+pub extern "C" fn cellarcove_ilog_i64(x: i64, base: i64) -> U64Answer
+    ensures { Answers ((pos 0 <ℤ x) × (pos 1 <ℤ base)) (IsLogarithm base x)
+        (Only outside) 0 result.status result.value }
+{
+    logarithm(checked::ilog(x, base))
+}
+
+/// Returns the logarithm rounded down: the largest degree of a power of `base` that is at most `x`. For
+/// 1000 and 10 it is 3.
+///
+/// `OUTSIDE` if `x` is 0 or `base` is below 2.
+#[unsafe(no_mangle)]
+pub extern "C" fn cellarcove_ilog_u64(x: u64, base: u64) -> U64Answer
+    ensures { Answers ((pos 0 <ℤ pos x) × (pos 1 <ℤ pos base)) (IsLogarithm (pos base) (pos x))
+        (Only outside) 0 result.status result.value }
+{
+    logarithm(checked::ilog(x, base))
+}
+
+impl I64Root {
+    /// Returns the result of a call of `applied::powers::checked`.
+    fn of(option: Option<(i64, i64)>) -> I64Root
+        ensures answer { answer_of result.status (result.root, result.rest) ≡ option }
+        ensures refusal { Refuses {A = ℤ × ℤ} (Only outside) (pos 0, pos 0)
+            result.status (result.root, result.rest) }
+    {
+        let (status, (root, rest)) = with_status(option, (0, 0), OUTSIDE);
+        I64Root { status, root, rest }
+    }
+}
+
+impl U64Root {
+    /// Returns the result of a call of `applied::powers::checked`.
+    fn of(option: Option<(u64, u64)>) -> U64Root
+        ensures answer { answer_of result.status (result.root, result.rest) ≡ option }
+        ensures refusal { Refuses {A = ℕ × ℕ} (Only outside) (0, 0) result.status (result.root, result.rest) }
+    {
+        let (status, (root, rest)) = with_status(option, (0, 0), OUTSIDE);
+        U64Root { status, root, rest }
+    }
+}
+
+/// Returns the result of a logarithm.
+fn logarithm(option: Option<u32>) -> U64Answer
+    ensures answer { answer_of result.status result.value ≡ option }
+    ensures refusal { Refuses (Only outside) 0 result.status result.value }
+{
+    match option {
+        Some(degree) => U64Answer::some(u64::from(degree)),
+        None => U64Answer::none(OUTSIDE),
+    }
 }

@@ -1,12 +1,14 @@
-//! Fractions rounded to integers. A fraction that is passed is reduced first.
+//! Fractions rounded to integers and to parts. A fraction that is passed is reduced first.
 
-ghost use Rattle.std.specs.Prelude.{◌≡◌};
-ghost use Rattle.num_integer.specs.Division.{IsCeiled, IsFloored, IsQuotient};
+ghost use Rattle.std.specs.Prelude.{◌≡◌, ◌<ℤ◌, ◌≤ℤ◌, pos};
+ghost use Rattle.num_integer.specs.Division.{IsCeiled, IsFloored, IsQuotient, IsTruncated};
 ghost use Rattle.ratio64.specs.Rounding.{IsRounded};
-ghost use Rattle.cellarcove_c.specs.Fractions.{AnswersRounded, AnswersRoundedTimes};
+ghost use Rattle.cellarcove_c.specs.Fractions.{AnswersFract, AnswersOfOne, AnswersRounded, AnswersRoundedTimes, IsInParts, OnOne};
+ghost use Rattle.cellarcove_c.specs.Statuses.{outside};
 
-use crate::answers::{ANSWER, I64Answer, NOT_FITTING};
-use crate::fractions::Fraction;
+use crate::answers::{I64Answer, NOT_FITTING, OUTSIDE};
+use crate::fractions::{Fraction, FractionAnswer};
+use ratio64::{Ratio, RatioError};
 
 /// Returns the fraction rounded down. That of -3/2 is -2.
 ///
@@ -17,7 +19,7 @@ pub extern "C" fn cellarcove_fraction_floor(a: Fraction) -> I64Answer
     ensures { AnswersRounded (IsQuotient IsFloored) a result }
 {
     match a.reduced() {
-        Ok(x) => rounded(x.floor()),
+        Ok(x) => I64Answer::some(x.floor()),
         Err(error) => I64Answer::none(error.number()),
     }
 }
@@ -31,8 +33,36 @@ pub extern "C" fn cellarcove_fraction_ceil(a: Fraction) -> I64Answer
     ensures { AnswersRounded (IsQuotient IsCeiled) a result }
 {
     match a.reduced() {
-        Ok(x) => rounded(x.ceil()),
+        Ok(x) => I64Answer::some(x.ceil()),
         Err(error) => I64Answer::none(error.number()),
+    }
+}
+
+/// Returns the fraction rounded toward 0. That of -3/2 is -1.
+///
+/// `ZERO_DENOMINATOR` if the denominator is 0. `NOT_FITTING` if a part of the reduced fraction does not
+/// fit.
+#[unsafe(no_mangle)]
+pub extern "C" fn cellarcove_fraction_trunc(a: Fraction) -> I64Answer
+    ensures { AnswersRounded (IsQuotient IsTruncated) a result }
+{
+    match a.reduced() {
+        Ok(x) => I64Answer::some(x.trunc()),
+        Err(error) => I64Answer::none(error.number()),
+    }
+}
+
+/// Returns the fraction minus itself rounded toward 0. That of -3/2 is -1/2.
+///
+/// `ZERO_DENOMINATOR` if the denominator is 0. `NOT_FITTING` if a part of the reduced fraction does not
+/// fit.
+#[unsafe(no_mangle)]
+pub extern "C" fn cellarcove_fraction_fract(a: Fraction) -> FractionAnswer
+    ensures { AnswersFract a result }
+{
+    match a.reduced() {
+        Ok(x) => FractionAnswer::some(&x.fract()),
+        Err(error) => FractionAnswer::none(error.number()),
     }
 }
 
@@ -46,7 +76,7 @@ pub extern "C" fn cellarcove_fraction_round(a: Fraction) -> I64Answer
     ensures { AnswersRounded IsRounded a result }
 {
     match a.reduced() {
-        Ok(x) => rounded(x.round()),
+        Ok(x) => I64Answer::some(x.round()),
         Err(error) => I64Answer::none(error.number()),
     }
 }
@@ -94,12 +124,75 @@ pub extern "C" fn cellarcove_fraction_round_times(a: Fraction, n: i64) -> I64Ans
     }
 }
 
-/// Returns the result of a fraction that was rounded to this integer.
-fn rounded(value: i64) -> I64Answer
-    ensures { result ≡ record { status = 0; value = value } }
+/// Returns the largest multiple of `1 / parts` that is at most the fraction. That of 5/3 and 4 is 3/2.
+///
+/// `OUTSIDE` if `parts` is not positive, whatever `a` is. `ZERO_DENOMINATOR` if the denominator is 0.
+/// `NOT_FITTING` if a part of the reduced fraction does not fit, or a part of the result.
+#[unsafe(no_mangle)]
+pub extern "C" fn cellarcove_fraction_floor_to(a: Fraction, parts: i64) -> FractionAnswer
+    ensures outside { parts ≤ℤ pos 0
+        → result ≡ record { status = outside; value = record { num = pos 0; den = pos 0 } } }
+    ensures in_parts { (pos 0 <ℤ parts) → AnswersOfOne (IsInParts (IsQuotient IsFloored) parts) a result }
 {
-    I64Answer {
-        status: ANSWER,
-        value,
+    if parts <= 0 {
+        return FractionAnswer::none(OUTSIDE);
     }
+    FractionAnswer::of(floor_to(a.reduced(), parts))
+}
+
+/// Returns the smallest multiple of `1 / parts` that is at least the fraction. That of 5/3 and 4 is 7/4.
+///
+/// `OUTSIDE` if `parts` is not positive, whatever `a` is. `ZERO_DENOMINATOR` if the denominator is 0.
+/// `NOT_FITTING` if a part of the reduced fraction does not fit, or a part of the result.
+#[unsafe(no_mangle)]
+pub extern "C" fn cellarcove_fraction_ceil_to(a: Fraction, parts: i64) -> FractionAnswer
+    ensures outside { parts ≤ℤ pos 0
+        → result ≡ record { status = outside; value = record { num = pos 0; den = pos 0 } } }
+    ensures in_parts { (pos 0 <ℤ parts) → AnswersOfOne (IsInParts (IsQuotient IsCeiled) parts) a result }
+{
+    if parts <= 0 {
+        return FractionAnswer::none(OUTSIDE);
+    }
+    FractionAnswer::of(ceil_to(a.reduced(), parts))
+}
+
+/// Returns the nearest multiple of `1 / parts`, and of two that are equally near the one farther from 0.
+/// That of 5/3 and 100 is 167/100.
+///
+/// `OUTSIDE` if `parts` is not positive, whatever `a` is. `ZERO_DENOMINATOR` if the denominator is 0.
+/// `NOT_FITTING` if a part of the reduced fraction does not fit, or a part of the result.
+#[unsafe(no_mangle)]
+pub extern "C" fn cellarcove_fraction_round_to(a: Fraction, parts: i64) -> FractionAnswer
+    ensures outside { parts ≤ℤ pos 0
+        → result ≡ record { status = outside; value = record { num = pos 0; den = pos 0 } } }
+    ensures in_parts { (pos 0 <ℤ parts) → AnswersOfOne (IsInParts IsRounded parts) a result }
+{
+    if parts <= 0 {
+        return FractionAnswer::none(OUTSIDE);
+    }
+    FractionAnswer::of(round_to(a.reduced(), parts))
+}
+
+/// Returns a fraction rounded down to a multiple of `1 / parts`, or its error.
+fn floor_to(a: Result<Ratio, RatioError>, parts: i64) -> Result<Ratio, RatioError>
+    requires { pos 0 <ℤ parts }
+    ensures { OnOne (IsInParts (IsQuotient IsFloored) parts) a result }
+{
+    a?.floor_to(parts)
+}
+
+/// Returns a fraction rounded up to a multiple of `1 / parts`, or its error.
+fn ceil_to(a: Result<Ratio, RatioError>, parts: i64) -> Result<Ratio, RatioError>
+    requires { pos 0 <ℤ parts }
+    ensures { OnOne (IsInParts (IsQuotient IsCeiled) parts) a result }
+{
+    a?.ceil_to(parts)
+}
+
+/// Returns a fraction rounded to the nearest multiple of `1 / parts`, or its error.
+fn round_to(a: Result<Ratio, RatioError>, parts: i64) -> Result<Ratio, RatioError>
+    requires { pos 0 <ℤ parts }
+    ensures { OnOne (IsInParts IsRounded parts) a result }
+{
+    a?.round_to(parts)
 }

@@ -1,16 +1,20 @@
 //! Days of the week, which have the numbers of ISO 8601, from 1 for Monday to 7 for Sunday.
 
-ghost use Rattle.std.specs.Prelude.{◌≡◌, ◌↔◌, ◌≤◌, ℕ, ℤ};
+ghost use Rattle.std.specs.Prelude.{◌≡◌, ◌↔◌, ◌≤◌, ℕ, ℤ, pos, FitsSigned};
+ghost use Rattle.std.specs.Int.{w64};
 ghost use Rattle.calendar.specs.Weekday.{iso_number};
-ghost use Rattle.calendar.specs.Weeks.{HasWeekday};
+ghost use Rattle.calendar.specs.Weeks.{HasWeekday, IsFirstWeekday, IsLastWeekday};
 ghost use Rattle.calendar.specs.declared.weekday.Weekday.{Weekday};
-ghost use Rattle.cellarcove_c.specs.Answers.{Refuses};
-ghost use Rattle.cellarcove_c.specs.Dates.{IsLastOfIsoNumber, IsNthOfIsoNumber, zero_date};
-ghost use Rattle.cellarcove_c.specs.Statuses.{Either, no_date, outside};
+ghost use Rattle.cellarcove_c.specs.Answers.{Answers, Refuses};
+ghost use Rattle.cellarcove_c.specs.Dates.{Exists, IsDayOfIsoNumber, IsLastOfIsoNumber, IsNthOfIsoNumber, day_of, zero_date};
+ghost use Rattle.cellarcove_c.specs.Statuses.{Either, Only, no_date, not_fitting, outside};
 
-use crate::answers::{NO_DATE, OUTSIDE};
-use crate::dates::DateAnswer;
-use calendar::{Weekday, last_weekday_of_month, nth_weekday_of_month, weekday_of};
+use crate::answers::{I64Answer, NO_DATE, NOT_FITTING, OUTSIDE, U64Answer};
+use crate::dates::{Date, DateAnswer};
+use calendar::{
+    Weekday, first_weekday_on_or_after, last_weekday_of_month, last_weekday_on_or_before,
+    nth_weekday_of_month, weekday_of,
+};
 
 /// Returns the day of the week of a day, from 1 for Monday to 7 for Sunday. That of 0 is 4.
 #[unsafe(no_mangle)]
@@ -20,6 +24,61 @@ pub extern "C" fn cellarcove_weekday(day: i64) -> u8
     ensures to_seven { result ≤ 7 }
 {
     weekday_of(day).iso_number()
+}
+
+/// Returns the day of the week of a date, from 1 for Monday to 7 for Sunday. That of 2000-02-29 is 2.
+///
+/// `NO_DATE` if there is no such date.
+#[unsafe(no_mangle)]
+pub extern "C" fn cellarcove_weekday_of_date(date: Date) -> U64Answer
+    ensures { Answers (Exists date)
+        (λ number. IsDayOfIsoNumber number (λ w day. HasWeekday day w) (day_of date))
+        (Only no_date) 0 result.status result.value }
+{
+    match date.found() {
+        Some(found) => U64Answer::some(u64::from(found.weekday().iso_number())),
+        None => U64Answer::none(NO_DATE),
+    }
+}
+
+/// Returns the first day that is this day of the week, from 1 for Monday to 7 for Sunday, and is not
+/// before `day`. For 0 and 7 it is 3.
+///
+/// `OUTSIDE` if `weekday` is not from 1 to 7. `NOT_FITTING` if the day does not fit.
+#[unsafe(no_mangle)]
+pub extern "C" fn cellarcove_first_weekday_on_or_after(day: i64, weekday: u8) -> I64Answer
+    ensures answer { result.status ≡ 0
+        → IsDayOfIsoNumber weekday (λ w first. IsFirstWeekday day w first) result.value }
+    ensures outside { (result.status ≡ outside) ↔ (¬ ((1 ≤ weekday) × (weekday ≤ 7))) }
+    ensures not_fitting { result.status ≡ not_fitting → (first : ℤ)
+        → IsDayOfIsoNumber weekday (λ w first. IsFirstWeekday day w first) first
+        → ¬ (FitsSigned w64 first) }
+    ensures refusal { Refuses (Either outside not_fitting) (pos 0) result.status result.value }
+{
+    match Weekday::from_iso_number(weekday) {
+        Some(weekday) => I64Answer::of(first_weekday_on_or_after(day, weekday), NOT_FITTING),
+        None => I64Answer::none(OUTSIDE),
+    }
+}
+
+/// Returns the last day that is this day of the week, from 1 for Monday to 7 for Sunday, and is not after
+/// `day`. For 4 and 7 it is 3.
+///
+/// `OUTSIDE` if `weekday` is not from 1 to 7. `NOT_FITTING` if the day does not fit.
+#[unsafe(no_mangle)]
+pub extern "C" fn cellarcove_last_weekday_on_or_before(day: i64, weekday: u8) -> I64Answer
+    ensures answer { result.status ≡ 0
+        → IsDayOfIsoNumber weekday (λ w last. IsLastWeekday day w last) result.value }
+    ensures outside { (result.status ≡ outside) ↔ (¬ ((1 ≤ weekday) × (weekday ≤ 7))) }
+    ensures not_fitting { result.status ≡ not_fitting → (last : ℤ)
+        → IsDayOfIsoNumber weekday (λ w last. IsLastWeekday day w last) last
+        → ¬ (FitsSigned w64 last) }
+    ensures refusal { Refuses (Either outside not_fitting) (pos 0) result.status result.value }
+{
+    match Weekday::from_iso_number(weekday) {
+        Some(weekday) => I64Answer::of(last_weekday_on_or_before(day, weekday), NOT_FITTING),
+        None => I64Answer::none(OUTSIDE),
+    }
 }
 
 /// Returns the date of the `n`-th day of a month that is this day of the week, from 1 for Monday to 7

@@ -4,13 +4,14 @@ ghost use Rattle.std.specs.Prelude.{◌≡◌, ◌+◌, ◌≤◌};
 ghost use Rattle.calendar.specs.IsoWeeks.{HasIsoWeeks};
 ghost use Rattle.calendar.specs.LeapYears.{is_leap_year};
 ghost use Rattle.calendar.specs.Months.{days_before_month, days_in_month};
+ghost use Rattle.calendar.specs.Years.{days_in_year};
 ghost use Rattle.cellarcove_c.specs.Answers.{Answers};
 ghost use Rattle.cellarcove_c.specs.Dates.{Exists};
 ghost use Rattle.cellarcove_c.specs.Statuses.{Only, no_date};
 
 use crate::answers::{NO_DATE, U64Answer};
 use crate::dates::Date;
-use calendar::{days_in_month, is_leap_year, weeks_in_year};
+use calendar::{days_in_month, days_in_year, is_leap_year, weeks_in_year};
 
 /// Returns `true` if the year has a 29 February. 2000 and 0 have one, and 1900 and -1 do not.
 #[unsafe(no_mangle)]
@@ -18,6 +19,14 @@ pub extern "C" fn cellarcove_is_leap_year(year: i64) -> bool
     ensures { result ≡ is_leap_year year }
 {
     is_leap_year(year)
+}
+
+/// Returns how many days the year has: 365 or 366. 1900 has 365.
+#[unsafe(no_mangle)]
+pub extern "C" fn cellarcove_days_in_year(year: i64) -> u16
+    ensures { result ≡ days_in_year year }
+{
+    days_in_year(year)
 }
 
 /// Returns how many weeks of ISO 8601 the year has: 52 or 53. 2020 has 53.

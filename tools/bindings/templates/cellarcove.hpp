@@ -36,11 +36,12 @@ enum class status : std::uint32_t {
 
 /// The words for a status.
 [[nodiscard]] inline const char *text(status reason) { return cellarcove_status_text(static_cast<std::uint32_t>(reason)); }
+inline std::ostream &operator<<(std::ostream &out, status reason) { return out << text(reason); }
 
 /// A value, or the status that says why there is none. It has the names of `std::expected`.
 template <class T> class [[nodiscard]] result {
   public:
-    constexpr result(T value) : value_(std::move(value)) {}
+    constexpr explicit result(T value) : value_(std::move(value)) {}
     constexpr explicit result(status error) : error_(error) {}
 
     [[nodiscard]] constexpr bool has_value() const { return value_.has_value(); }
@@ -84,6 +85,24 @@ template <class T> struct division {
     friend constexpr bool operator==(const division &a, const division &b) { return a.quotient == b.quotient && a.remainder == b.remainder; }
 };
 
+/// A square root, and what is left.
+template <class T> struct root_and_rest {
+    T root, rest;
+    friend constexpr bool operator==(const root_and_rest &a, const root_and_rest &b) { return a.root == b.root && a.rest == b.rest; }
+};
+
+/// A page, and a place on it.
+template <class T> struct place_on_page {
+    T page, place;
+    friend constexpr bool operator==(const place_on_page &a, const place_on_page &b) { return a.page == b.page && a.place == b.place; }
+};
+
+/// The first item of a range, and its end, which is one past the last item.
+template <class T> struct range {
+    T first, end;
+    friend constexpr bool operator==(const range &a, const range &b) { return a.first == b.first && a.end == b.end; }
+};
+
 /// A greatest common divisor and a least common multiple.
 template <class T> struct gcd_and_lcm {
     T gcd, lcm;
@@ -104,7 +123,7 @@ template <class T> struct solution_class {
 
 /// A week of ISO 8601, and its year.
 struct week_of_year {
-    std::uint8_t week;
+    int week;
     std::int64_t year;
     friend constexpr bool operator==(const week_of_year &a, const week_of_year &b) { return a.week == b.week && a.year == b.year; }
 };
@@ -245,8 +264,8 @@ class date {
     [[nodiscard]] static constexpr date from_c(cellarcove_date parts) { return date(parts.year, parts.month, parts.day_of_month); }
     [[nodiscard]] constexpr cellarcove_date to_c() const { return {year_, month_, day_of_month_}; }
     [[nodiscard]] constexpr std::int64_t year() const { return year_; }
-    [[nodiscard]] constexpr std::uint8_t month() const { return month_; }
-    [[nodiscard]] constexpr std::uint8_t day_of_month() const { return day_of_month_; }
+    [[nodiscard]] constexpr int month() const { return month_; }
+    [[nodiscard]] constexpr int day_of_month() const { return day_of_month_; }
 
   private:
     constexpr date(std::int64_t year, std::uint8_t month, std::uint8_t day_of_month) : year_(year), month_(month), day_of_month_(day_of_month) {}
@@ -302,9 +321,9 @@ inline std::ostream &operator<<(std::ostream &out, const fraction &a) {
 inline std::ostream &operator<<(std::ostream &out, const date &a) {
     detail::line line;
     line.add_year(a.year());
-    for (std::uint8_t part : {a.month(), a.day_of_month()}) {
+    for (int part : {a.month(), a.day_of_month()}) {
         line.add('-');
-        line.add(part, 2);
+        line.add(static_cast<std::uint64_t>(part), 2);
     }
     return out << line;
 }
@@ -313,7 +332,7 @@ inline std::ostream &operator<<(std::ostream &out, const week_of_year &a) {
     line.add_year(a.year);
     line.add('-');
     line.add('W');
-    line.add(a.week, 2);
+    line.add(static_cast<std::uint64_t>(a.week), 2);
     return out << line;
 }
 
