@@ -5,7 +5,7 @@
     tools/cellarcove check guards --list      prints the guards, with their numbers
 
 A guard is a call of `check`, of `some`, or of another function that tools/checks/taken_out.rs has. In the copy each calls the function of
-that file, with a number, which the variable GUARD takes out: then `check` tests nothing, `some` has a value of zeros, and a sum or a
+that file, with a number, which the variable GUARD takes out: then `check` tests nothing, `some` has a value of zeros, and a sum, a number or a
 product wraps. So the copy is built once, in release, where Rust finds no overflow. The tests are those of rust/tests/domains that name
 a call, and those of one's own types. A test that does not end is one that fails."""
 from __future__ import annotations
