@@ -187,6 +187,9 @@ fn no_parts() {
         assert!(catch_unwind(|| half.floor_to(parts)).is_err(), "{parts}");
         assert!(catch_unwind(|| half.ceil_to(parts)).is_err(), "{parts}");
         assert!(catch_unwind(|| half.round_to(parts)).is_err(), "{parts}");
-        assert!(catch_unwind(|| half.round_even_to(parts)).is_err(), "{parts}");
+        assert!(
+            catch_unwind(|| half.round_even_to(parts)).is_err(),
+            "{parts}"
+        );
     }
 }

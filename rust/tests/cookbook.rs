@@ -129,7 +129,8 @@ fn tasks_on_numbers() {
 #[test]
 fn tasks_on_fractions() {
     let pi = Ratio::new(314159, 100000).unwrap();
-    let each = |total: i64, pieces| price_of_each(Ratio::from(total), pieces).map(|d| d.to_string());
+    let each =
+        |total: i64, pieces| price_of_each(Ratio::from(total), pieces).map(|d| d.to_string());
     assert_eq!(each(1234, 5).as_deref(), Some("246.80"));
     assert_eq!(each(1, -20).as_deref(), Some("-0.05"));
     assert_eq!(each(1, 8).as_deref(), Some("0.12"));
