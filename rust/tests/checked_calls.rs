@@ -172,6 +172,12 @@ fn roundings_at_the_ends() {
     let below_one = Ratio::new(i64::MAX - 1, i64::MAX).unwrap();
     assert_eq!(below_one.floor_to(i64::MAX), Ok(below_one));
     assert_eq!(below_one.round_to(1), Ok(Ratio::from(1)));
+    assert_eq!(below_one.round_even_to(1), Ok(Ratio::from(1)));
+    assert_eq!(least.round_even_to(i64::MAX), Ok(least));
+    let tiny = Ratio::new(1, i64::MAX).unwrap();
+    assert_eq!((tiny.round_even(), below_one.round_even()), (0, 1));
+    assert_eq!(least.round_even_times(-1), None);
+    assert_eq!(tiny.round_even_times(i64::MIN), Some(-1));
 }
 
 #[test]
@@ -181,5 +187,9 @@ fn no_parts() {
         assert!(catch_unwind(|| half.floor_to(parts)).is_err(), "{parts}");
         assert!(catch_unwind(|| half.ceil_to(parts)).is_err(), "{parts}");
         assert!(catch_unwind(|| half.round_to(parts)).is_err(), "{parts}");
+        assert!(
+            catch_unwind(|| half.round_even_to(parts)).is_err(),
+            "{parts}"
+        );
     }
 }

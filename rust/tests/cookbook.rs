@@ -2,7 +2,7 @@
 
 use cellarcove::calendar::{easter, last_weekday_of_month, months_between, Date, IsoWeek, Weekday};
 use cellarcove::modular::{inverse_modulo, residue, CommonSolution};
-use cellarcove::ratio64::{ParseRatioError, Ratio};
+use cellarcove::ratio64::{Decimal, ParseRatioError, Ratio};
 use cellarcove::schedules::next_meeting;
 use cellarcove::shares::SharesError;
 use cellarcove::{checked, layout, paging, ranking, shares, Integer};
@@ -58,6 +58,14 @@ fn week_of(date: &Date) -> Option<IsoWeek> {
 fn tax(cents: i64) -> Option<i64> {
     let (tax, _) = checked::product_div_mod_floor(cents, 19, 100)?;
     Some(tax)
+}
+
+fn price_of_each(total: Ratio, pieces: i64) -> Option<Decimal> {
+    total.checked_div(&Ratio::from(pieces)).ok()?.to_decimal(2)
+}
+
+fn even_cents(price: &Ratio) -> Option<i64> {
+    price.round_even_times(100)
 }
 
 fn simple(x: &Ratio) -> Ratio {
@@ -131,6 +139,13 @@ fn tasks_on_numbers() {
 #[test]
 fn tasks_on_fractions() {
     let pi = Ratio::new(314159, 100000).unwrap();
+    let each =
+        |total: i64, pieces| price_of_each(Ratio::from(total), pieces).map(|d| d.to_string());
+    assert_eq!(each(1234, 5).as_deref(), Some("246.80"));
+    assert_eq!(each(1, -20).as_deref(), Some("-0.05"));
+    assert_eq!(each(1, 8).as_deref(), Some("0.12"));
+    assert_eq!(each(1, 0), None);
+    assert_eq!(even_cents(&Ratio::new(1, 8).unwrap()), Some(12));
     assert_eq!(simple(&pi), Ratio::new(22, 7).unwrap());
     assert_eq!(resolution(1920, 1080).to_string(), "16/9");
     assert_eq!(read("6/-4"), Ok(Ratio::new(-3, 2).unwrap()));

@@ -277,7 +277,11 @@ fn rounded_fractions_are_read_back() {
                 let (p, q) = (i128::from(rounded.num()), i128::from(rounded.den()));
                 // both sides may be long: units / 10^places is p / q, and q divides 10^places
                 let times = i128::from(parts) / q;
-                assert_eq!((i128::from(parts) % q, p * times), (0, units), "{x} {places}");
+                assert_eq!(
+                    (i128::from(parts) % q, p * times),
+                    (0, units),
+                    "{x} {places}"
+                );
                 assert_eq!(format!("{rounded:.*}", places as usize), text);
             }
             Err(error) => {

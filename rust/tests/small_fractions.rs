@@ -76,7 +76,11 @@ fn rounded() {
         }
         for parts in 1..=24 {
             let even = nearest_even(num * parts, den);
-            assert_eq!(x.round_even_to(parts), Ratio::new(even, parts), "{x} {parts}");
+            assert_eq!(
+                x.round_even_to(parts),
+                Ratio::new(even, parts),
+                "{x} {parts}"
+            );
         }
     }
 }

@@ -84,7 +84,10 @@ fn each_operator_takes_an_integer() {
     }
     assert_eq!(ratio(19, 100) * 250, ratio(95, 2));
     let most = Ratio::from(i64::MAX);
-    assert_eq!(reason(|| most * 2), "the product of the fractions does not fit");
+    assert_eq!(
+        reason(|| most * 2),
+        "the product of the fractions does not fit"
+    );
     assert_eq!(reason(|| most / 0), "attempt to divide a fraction by zero");
 }
 
@@ -168,7 +171,10 @@ fn conversions() {
     );
     assert_eq!(Ratio::try_from(i64::MAX as u64), Ok(ratio(i64::MAX, 1)));
     assert_eq!(Ratio::try_from(1u64 << 63), Err(RatioError::NotFitting));
-    assert_eq!(Ratio::try_from(i128::from(i64::MIN)), Ok(ratio(i64::MIN, 1)));
+    assert_eq!(
+        Ratio::try_from(i128::from(i64::MIN)),
+        Ok(ratio(i64::MIN, 1))
+    );
     assert_eq!(
         Ratio::try_from(i128::from(i64::MIN) - 1),
         Err(RatioError::NotFitting)
@@ -197,8 +203,10 @@ fn errors_have_hashes() {
     assert_eq!(errors.iter().collect::<HashSet<_>>().len(), 2);
     let read: HashSet<ParseRatioError> = errors.into_iter().map(Into::into).collect();
     assert_eq!(read.len(), 2);
-    let none: HashSet<TryFromRatioError> =
-        [u8::try_from(ratio(1, 2)), u8::try_from(ratio(-1, 1))].into_iter().filter_map(Result::err).collect();
+    let none: HashSet<TryFromRatioError> = [u8::try_from(ratio(1, 2)), u8::try_from(ratio(-1, 1))]
+        .into_iter()
+        .filter_map(Result::err)
+        .collect();
     assert_eq!(none.len(), 1);
 }
 
@@ -210,7 +218,10 @@ fn fractions_are_formatted_as_integers_are() {
         format!("{fraction}|{fraction:8}|{fraction:>8}|{fraction:<8}|{fraction:*^8}|"),
         "-3/2|    -3/2|    -3/2|-3/2    |**-3/2**|"
     );
-    assert_eq!(format!("{whole}|{whole:3}|{whole:<3}|{whole:0>3}"), "5|  5|5  |005");
+    assert_eq!(
+        format!("{whole}|{whole:3}|{whole:<3}|{whole:0>3}"),
+        "5|  5|5  |005"
+    );
     let amount = ratio(1234, 5);
     assert_eq!(
         format!("{amount:+}|{amount:010}|{amount:+010}|{amount:+}|{fraction:+}|{fraction:08}"),
@@ -230,7 +241,10 @@ fn fractions_are_formatted_as_integers_are() {
 #[test]
 fn a_precision_gives_decimals() {
     let (amount, tiny) = (ratio(1234, 5), ratio(-1, 20));
-    assert_eq!(format!("{amount:.2} {:.1} {tiny:.2}", Ratio::from(1234)), "246.80 1234.0 -0.05");
+    assert_eq!(
+        format!("{amount:.2} {:.1} {tiny:.2}", Ratio::from(1234)),
+        "246.80 1234.0 -0.05"
+    );
     assert_eq!(
         format!("{amount:.0}|{amount:9.2}|{amount:<9.2}|{amount:*^+9.1}|{amount:09.2}|{tiny:08.3}|{tiny:.1}"),
         "247|   246.80|246.80   |*+246.8**|000246.80|-000.050|0.0"
@@ -261,7 +275,10 @@ fn decimals() {
     );
     // equal decimals have the same digits
     let fewer = ratio(-1234, 5).to_decimal(1).unwrap();
-    assert_eq!((decimal == fewer, fewer.to_string()), (false, "-246.8".to_string()));
+    assert_eq!(
+        (decimal == fewer, fewer.to_string()),
+        (false, "-246.8".to_string())
+    );
     let both: HashSet<Decimal> = [decimal, fewer, decimal].into_iter().collect();
     assert_eq!(both.len(), 2);
     assert_eq!(ratio(1, 3).to_decimal(19), None);

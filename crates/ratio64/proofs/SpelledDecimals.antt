@@ -1,8 +1,8 @@
 -- The strings of decimal numbers: what they spell.
-use Rattle.std.specs.Prelude.{⊤, ◌≡◌, ◌≢◌, ◌+◌, ◌*◌, ◌/◌, ◌%◌, ◌^◌, ◌<◌, ◌++◌, ◌==◌, ℕ, zero, suc, ℤ, pos, negsuc, List, [], ◌∷◌, false, true, length, unsigned_abs, FitsSigned}
+use Rattle.std.specs.Prelude.{⊤, ◌≡◌, ◌≢◌, ◌+◌, ◌*◌, ◌/◌, ◌%◌, ◌^◌, ◌<◌, ◌++◌, ◌==◌, ℕ, zero, suc, ℤ, pos, negsuc, List, [], ◌∷◌, false, true, length, unsigned_abs}
 use Rattle.std.specs.Char.{digit_value}
 use Rattle.std.specs.Fmt.{decimal, sign_text}
-use Rattle.std.specs.Int.{is_negative, w128}
+use Rattle.std.specs.Int.{is_negative}
 use Rattle.std.specs.Str.Parse.{AllDigits, IsNumeral, digits_value}
 use Rattle.std.proofs.Common.{append_assoc, arith, ap, inl, inr, refl, subst, sym, ◌∙◌}
 use Rattle.std.proofs.lemmas.Bool.{cases_Bool}
@@ -15,7 +15,7 @@ use Rattle.std.proofs.lemmas.Str.{digit_value_digit}
 use Rattle.std.proofs.lemmas.Str.Parse.{digit_from_value}
 use Rattle.std.proofs.Math.Nat.{div-div-eq-div-mul, div-le_self, pow-succ'}
 use Rattle.ratio64.proofs.ReadTexts.{numeral_without_minus}
-use Rattle.ratio64.specs.Decimal.{SpellsDecimal, last_digits}
+use Rattle.ratio64.specs.Decimal.{SpellsDecimal, last_digits, places_of, units_of}
 use Rattle.ratio64.specs.Laws.{DecimalIsSpelled, SpelledDecimalIsOnly}
 use Rattle.ratio64.specs.RatioText.{SpellsWhole, unsigned_part, whole_of}
 
@@ -49,10 +49,6 @@ in_pieces (suc k) n small =
 
 -- ---- a decimal number is spelled by its string
 
-below_tens : (units : ℤ) → FitsSigned w128 units → unsigned_abs units < 10 ^ 64
-below_tens (pos n) fits = let low = fits.sfits in omega arith
-below_tens (negsuc n) fits = let low = fits.sfits in omega arith
-
 plain_sign : (n : ℕ) → is_negative (pos n) ≡ false
 plain_sign n = grind (arith, ints)
 
@@ -72,15 +68,17 @@ pieces_spelled (negsuc n) k small =
     record { digits = h.0; value = rw h.1 refl }
 
 pub decimal_spelled : DecimalIsSpelled
-decimal_spelled units places fits =
-    let small = below_tens units fits in
+decimal_spelled x =
+    let units = units_of x in
+    let size = unsigned_abs units in
+    let below = x.below in
     record {
-      whole = sign_text (is_negative units) ++ decimal (unsigned_abs units / 10 ^ places);
-      part = last_digits places (unsigned_abs units);
+      whole = sign_text (is_negative units) ++ decimal (size / 10 ^ places_of x);
+      part = last_digits (places_of x) size;
       parts = refl;
-      part_places = length_last places (unsigned_abs units);
-      whole_digits = whole_numeral units (unsigned_abs units / 10 ^ places) (omega (arith, div-le_self (unsigned_abs units) (10 ^ places)));
-      spelled = pieces_spelled units places small;
+      part_places = length_last (places_of x) size;
+      whole_digits = whole_numeral units (size / 10 ^ places_of x) (omega (arith, div-le_self size (10 ^ places_of x)));
+      spelled = pieces_spelled units (places_of x) (omega arith);
     }
 
 -- ---- a string is cut at its only point

@@ -1,15 +1,16 @@
 -- The laws of fractions. Each is proved in proofs/Laws.antt, by a lemma of its name in small letters.
 use Rattle.std.specs.Prelude.{◌≡◌, ◌↔◌, ◌<ℤ◌, ◌+ℤ◌, ◌*ℤ◌, ℕ, ℤ, List, pos, FitsSigned, Ok, Result}
 use Rattle.std.specs.Cmp.{IsTotalOrder}
-use Rattle.std.specs.Int.{w64, w128}
+use Rattle.std.specs.Int.{w64}
 use Rattle.std.specs.declared.cmp.Ordering.TheVariants.{Equal, Less}
 use Rattle.num_integer.specs.Only.{IsOnly}
-use Rattle.ratio64.specs.Decimal.{SpellsDecimal, decimal_text}
+use Rattle.ratio64.specs.Decimal.{SpellsDecimal, decimal_text, places_of, units_of}
 use Rattle.ratio64.specs.Fraction.{AreEqual, IsExact, IsFraction, IsReduced, fraction_cmp}
 use Rattle.ratio64.specs.Limiting.{IsNearestWithin}
 use Rattle.ratio64.specs.Ratio.{AnswersFraction, num_of, den_of, text_of}
 use Rattle.ratio64.specs.RatioText.{ReadsFraction}
 use Rattle.ratio64.specs.Rounding.{IsRounded, IsRoundedEven}
+use Rattle.ratio64.specs.declared.decimal.Decimal.{Decimal}
 use Rattle.ratio64.specs.declared.error.RatioError.{RatioError}
 use Rattle.ratio64.specs.declared.fraction.Ratio.{Ratio}
 use Rattle.ratio64.specs.declared.parse.ParseRatioError.{ParseRatioError}
@@ -86,7 +87,7 @@ ProductsOfEqualFractions = (a b c d e f g h : ℤ) → AreEqual a b e f → AreE
 
 -- The string of a decimal number spells it.
 abbrev pub DecimalIsSpelled : Type 0
-DecimalIsSpelled = (units : ℤ) (places : ℕ) → FitsSigned w128 units → SpellsDecimal (decimal_text units places) units places
+DecimalIsSpelled = (x : Decimal) → SpellsDecimal (decimal_text (units_of x) (places_of x)) (units_of x) (places_of x)
 
 -- Each string spells at most one decimal number.
 abbrev pub SpelledDecimalIsOnly : Type 0

@@ -1,6 +1,6 @@
 //! Decimal numbers of so many places: fractions rounded, and their strings.
 
-ghost use Rattle.std.specs.Prelude.{◌≡◌, ◌≤◌, Some};
+ghost use Rattle.std.specs.Prelude.{◌≡◌, ◌<◌, ◌≤◌, ◌^◌, Some, unsigned_abs};
 ghost use Rattle.num_integer.specs.Checked.{AnswersWhere};
 
 use crate::Ratio;
@@ -14,6 +14,7 @@ pub struct Decimal {
     units: i128,
     places: u32,
     pub ghost few: { places ≤ 18 },
+    pub ghost below: { unsigned_abs units < 2 ^ 127 },
 }
 
 impl Decimal {

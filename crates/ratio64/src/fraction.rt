@@ -225,7 +225,7 @@ impl Default for Ratio {
 /// Prints `num/den`, and only `num` if the denominator is 1.
 /// `Ratio::new(6, -4).unwrap().to_string()` is `"-3/2"`.
 ///
-/// In plain Rust a precision prints the decimals that [`Ratio::to_decimal`] returns, `+` and `0` do what
+/// In plain Rust, a precision prints the decimals that [`Ratio::to_decimal`] returns, `+` and `0` do what
 /// they do for integers, and a width puts the number on the right:
 /// `format!("{:.2}", Ratio::new(1234, 5).unwrap())` is `"246.80"`. A precision above 18 is a
 /// `fmt::Error`, with which `format!` panics.

@@ -1117,6 +1117,7 @@
 //!   [`rank_of`](applied#rank_of), [`coefficient`](num_integer#coefficient)
 //! ## `ratio64::Decimal`
 //! - `pub ghost few: { places ≤ 18 }`
+//! - `pub ghost below: { unsigned_abs units < 2 ^ 127 }`
 //! ## `ratio64::Decimal::units`
 //! - `ensures { result ≡ units_of self.now }`
 //! - Words: [`units_of`](ratio64#units_of)

@@ -379,6 +379,7 @@ fn models() {
             Ratio::from(5).floor_to(0);
             Ratio::from(5).ceil_to(-1);
             Ratio::from(5).round_to(i64::MIN);
+            Ratio::from(5).round_even_to(0);
         }
     }
     // The one call that is not tested: the place of a number in a slice that does not increase is some place.
