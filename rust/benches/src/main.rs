@@ -1,5 +1,7 @@
-//! Prints the nanoseconds of a call of the crate, of the same call of `num-integer`, and the ratio of the two. Run it by
-//! hand, on a quiet machine: `cargo run --release`.
+//! Prints the nanoseconds of a call of the crate, of the same call of `num-integer` or `chrono`, and the ratio of the two. Run
+//! it by hand, on a quiet machine: `cargo run --release`.
+
+mod dates;
 
 use std::hint::black_box;
 use std::time::Instant;
@@ -73,4 +75,5 @@ fn main() {
         "binomial of at most 64" 6 |it, a, b| it::binomial(a.max(b), a.min(b));
         "multinomial of three" 3 |it, a, b| it::multinomial(&[a, b, 2]);
     }
+    dates::print_all();
 }
