@@ -1,7 +1,7 @@
 //! The iterator over dates against a list of dates, from both ends and at the ends of `i64`, and the operators of dates.
 
 use cellarcove::calendar::{
-    days_between, months_between, next_last_weekday, years_between, Date, Days, Weekday,
+    days_between, months_between, next_last_weekday, years_between, Date, Days, IsoWeek, Weekday,
 };
 use std::collections::HashSet;
 
@@ -239,4 +239,22 @@ fn methods_are_the_functions() {
     }
     assert_eq!(known[0].months_between(&known[1]), Some(1));
     assert_eq!(known[1].years_between(&known[2]), Some(25));
+}
+
+/// Dates and weeks that a constant has.
+#[test]
+fn constants() {
+    const EPOCH: Date = Date::from_day_number(0);
+    const LEAP_DAY: Option<Date> = Date::new(2024, 2, 29);
+    const LAST: Option<Date> = Date::from_year_day(2023, 365);
+    const WEEK: Option<IsoWeek> = IsoWeek::new(2020, 53);
+    static NONE: [Option<Date>; 3] = [
+        Date::new(2023, 2, 29),
+        Date::new(2024, 13, 1),
+        Date::from_year_day(2023, 366),
+    ];
+    assert_eq!((EPOCH, LAST), (date(1970, 1, 1), Date::new(2023, 12, 31)));
+    assert_eq!(LEAP_DAY.map(|date| date.to_string()), Some("2024-02-29".into()));
+    assert_eq!(WEEK.map(|week| week.to_string()), Some("2020-W53".into()));
+    assert_eq!(NONE, [None; 3]);
 }

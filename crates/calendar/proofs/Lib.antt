@@ -1,5 +1,6 @@
 pub mod Common
 pub mod FoundOrBeyond
+pub mod Remainders
 pub mod YearLengths
 pub mod MonthLengths
 pub mod MarchYears

@@ -1,5 +1,5 @@
 -- The months, and years that begin on 1 March.
-use Rattle.calendar.proofs.Common.{◌≡◌, ◌+◌, ◌-◌, ◌*◌, ◌/◌, ◌%◌, ◌<◌, ◌≤◌, ◌+ℤ◌, ◌-ℤ◌, ◌*ℤ◌, ℕ, ℤ, pos, ◌⊎◌, Bool, true, false, sum, take, ap, arith, inl, inr, rules, ints, to_z-of_z}
+use Rattle.calendar.proofs.Common.{◌≡◌, ◌+◌, ◌-◌, ◌*◌, ◌/◌, ◌%◌, ◌<◌, ◌≤◌, ◌+ℤ◌, ◌-ℤ◌, ◌*ℤ◌, ℕ, ℤ, pos, ◌⊎◌, Bool, true, false, sum, take, ap, arith, inl, inr, refl, rules, cases_lt, ints, to_z-of_z}
 use Rattle.std.specs.List.{All, range_with_len}
 use Rattle.std.proofs.lemmas.List.Elements.{All-get_or}
 use Rattle.std.proofs.lemmas.List.FromFn.{get_or-range_with_len}
@@ -27,6 +27,12 @@ from_third_month year month from to =
     let month_is : 3 + (month - 3) ≡ month = omega arith in
     let own = All-get_or (FollowsMarch (is_leap_year year)) (range_with_len 3 10) (month - 3) 0 (omega arith) (before_month (is_leap_year year)) in
     rw (get_or-range_with_len 3 10 (month - 3) 0 (omega arith), month_is) at own
+
+-- January has 31 days
+two_months : (year : ℤ) (month : ℕ) → 1 ≤ month → month ≤ 2 → days_before_month year month ≡ 31 * (month - 1)
+two_months year month from to =
+    let months : (month ≡ 1) ⊎ (month ≡ 2) = grind arith in
+    elim months [ inl january ↦ rw january refl | inr february ↦ rw february refl ]
 
 -- 306 days are left from 1 March on
 pub third_month : (year : ℤ) → days_before_month year 3 + 306 ≡ days_in_year year
@@ -60,6 +66,46 @@ after_march year next month same from to =
       | inl january ↦ rw january (omega (arith, ints, third_month year, next_first_day year))
       | inr february ↦ rw february (omega (arith, ints, third_month year, next_first_day year))
     ]
+
+-- the first of a month, by the days from 1 March of the year that has the month as one of its months 3 to 14
+pub month_of_march : (era : ℤ) (year month back years months : ℕ) → 1 ≤ month → month ≤ 12 → (month ≤ 2 → back ≡ 1) → (2 < month → back ≡ 0)
+    → ((e : ℤ) → day_number (pos 400 *ℤ e +ℤ pos (year + 400 - back)) 3 1 ≡ pos 146097 *ℤ e +ℤ pos years -ℤ pos 719468)
+    → (month + 12 * back ≤ 12 → (y : ℤ) → days_before_month y (month + 12 * back) ≡ days_before_month y 3 + months) → (12 < month + 12 * back → months + 97 ≡ 31 * (month + 12 * back))
+    → day_number (pos 400 *ℤ era +ℤ pos year) month 1 ≡ pos 146097 *ℤ era +ℤ pos (years + months) -ℤ pos 865565
+month_of_march era year month back years months from to before same first within late = elim (cases_lt 2 month) [
+  | inl after ↦
+      let none : back ≡ 0 = same after in
+      let own : month + 12 * back ≡ month = omega arith in
+      let place : pos 400 *ℤ (era -ℤ pos 1) +ℤ pos (year + 400 - back) ≡ pos 400 *ℤ era +ℤ pos year = omega (arith, ints) in
+      let march = rw place at (first (era -ℤ pos 1)) in
+      let days = rw own at (within (omega arith) (pos 400 *ℤ era +ℤ pos year)) in
+      omega (arith, ints, march, days)
+  | inr early ↦
+      let one : back ≡ 1 = before early in
+      let march = first (era -ℤ pos 1) in
+      let own = after_march (pos 400 *ℤ (era -ℤ pos 1) +ℤ pos (year + 400 - back)) (pos 400 *ℤ era +ℤ pos year) month (omega (arith, ints)) from early in
+      let days : months + 97 ≡ 31 * (month + 12 * back) = late (omega arith) in
+      omega (arith, ints, march, own, days)
+]
+
+-- the days before a month of the year, likewise
+pub days_before : (year : ℤ) (month back months : ℕ) → 1 ≤ month → month ≤ 12 → (month ≤ 2 → back ≡ 1) → (2 < month → back ≡ 0)
+    → (month + 12 * back ≤ 12 → (y : ℤ) → days_before_month y (month + 12 * back) ≡ days_before_month y 3 + months) → (12 < month + 12 * back → months + 97 ≡ 31 * (month + 12 * back))
+    → (306 ≤ months + (1 - back) * days_in_year year) × (months + (1 - back) * days_in_year year ≡ days_before_month year month + 306)
+days_before year month back months from to before same within late = elim (cases_lt 2 month) [
+  | inl after ↦
+      let none : back ≡ 0 = same after in
+      let own : month + 12 * back ≡ month = omega arith in
+      let days = rw own at (within (omega arith) year) in
+      let whole : (1 - back) * days_in_year year ≡ days_in_year year = rw none (omega arith) in
+      (omega (arith, whole, days, third_month year), omega (arith, whole, days, third_month year))
+  | inr early ↦
+      let one : back ≡ 1 = before early in
+      let days : months + 97 ≡ 31 * (month + 12 * back) = late (omega arith) in
+      let nothing : (1 - back) * days_in_year year ≡ 0 = rw one (omega arith) in
+      let first : days_before_month year month ≡ 31 * (month - 1) = two_months year month from early in
+      (omega (arith, nothing, days), omega (arith, nothing, days, first))
+]
 
 -- whole years in some days, and the days that are left
 abbrev pub years_in : ℕ → ℕ

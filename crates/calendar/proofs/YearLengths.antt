@@ -1,5 +1,6 @@
 -- The days of years, and the days on which they begin.
-use Rattle.calendar.proofs.Common.{◌≡◌, ◌+◌, ◌-◌, ◌*◌, ◌/◌, ◌≤◌, ◌≤ℤ◌, ◌<ℤ◌, ◌+ℤ◌, ◌-ℤ◌, ◌*ℤ◌, ℕ, zero, suc, ℤ, pos, negsuc, Bool, true, false, cond, sum, arith, add-one, refl, nat_tests, by_lt_z, ints, to_z-of_z, divides_by_magnitude}
+use Rattle.calendar.proofs.Common.{◌≡◌, ◌+◌, ◌-◌, ◌*◌, ◌/◌, ◌≤◌, ◌≤ℤ◌, ◌<ℤ◌, ◌+ℤ◌, ◌-ℤ◌, ◌*ℤ◌, ℕ, zero, suc, ℤ, pos, negsuc, Bool, true, false, cond, sum, arith, add-one, refl, nat_tests, by_lt_z, ints, to_z-of_z}
+use Rattle.calendar.proofs.Remainders.{rem_zero}
 use Rattle.calendar.specs.Laws.{YearsFollow}
 use Rattle.calendar.specs.LeapYears.{is_leap_year, is_multiple}
 use Rattle.calendar.specs.Months.{month_lengths}
@@ -8,7 +9,7 @@ use Rattle.calendar.specs.Years.{days_after, days_before, days_in_year, first_da
 -- ---- the days of years
 
 -- what a function's goals about the multiples of a number need
-pub ruleset multiples = (ints, to_z-of_z, nat_tests, divides_by_magnitude)
+pub ruleset multiples = (ints, to_z-of_z, nat_tests, rem_zero)
 
 pub length_of : (leap : Bool) → sum (month_lengths leap) ≡ cond leap 366 365
 length_of true = refl

@@ -7,10 +7,10 @@ ghost use Rattle.calendar.specs.Months.{IsDate};
 
 use crate::days_in_year;
 use crate::eras::{
-    DAYS_PER_ERA, YEARS_PER_ERA, days_to_month, era_of_year, eras_in_days, march_year_of_day,
-    parts_from_march,
+    DAYS_PER_ERA, YEARS_PER_ERA, days_of_eras, days_to_month, era_before_year, eras_in_days,
+    march_year_of_day, parts_from_march,
 };
-use crate::months::{days_before_month, days_in_month, month_and_day_in_year};
+use crate::months::{days_before_month, length_of_month, month_and_day_in_year};
 use crate::years::{at_64_bits, nearby_year};
 
 /// The day of era 0 that is 1970-01-01, as [`Date::day_of_era`] counts days.
@@ -29,11 +29,12 @@ pub struct Date {
 }
 
 impl Date {
-    ghost use Rattle.std.specs.Prelude.{◌≡◌, ◌+◌, ◌<◌, ◌≤◌, ◌^◌, ◌≤ℤ◌, ◌<ℤ◌, ◌+ℤ◌, ◌-ℤ◌, ◌*ℤ◌, ℤ, pos, unsigned_abs, FitsSigned, MatchOption};
+    ghost use Rattle.std.specs.Prelude.{◌≡◌, ◌↔◌, ◌+◌, ◌<◌, ◌≤◌, ◌^◌, ◌≤ℤ◌, ◌<ℤ◌, ◌+ℤ◌, ◌-ℤ◌, ◌*ℤ◌, ℤ, pos, unsigned_abs, FitsSigned, IfSome, IsTrue, MatchOption};
     ghost use Rattle.std.specs.Int.{w64};
     ghost use Rattle.std.specs.Option.{SomeIff};
     ghost use Rattle.integer_core.specs.Only.{IsOnly};
     ghost use Rattle.calendar.specs.Dates.{HasParts, number_of, year_day_of};
+    ghost use Rattle.calendar.specs.Months.{days_in_month};
     ghost use Rattle.calendar.specs.Years.{HasDay, days_in_year, first_day};
     ghost use Rattle.calendar.specs.declared.date.Date.{Date};
 
@@ -60,13 +61,14 @@ impl Date {
 
     /// Returns the date of a year, a month and a day of the month, or `None` if there is no such date.
     /// `Date::new(1900, 2, 29)` is `None`.
-    pub fn new(year: i64, month: u8, day_of_month: u8) -> Option<Self>
+    #[inline]
+    pub const fn new(year: i64, month: u8, day_of_month: u8) -> Option<Self>
         ensures { MatchOption result (¬ (IsDate year month day_of_month))
             (λ date. HasParts date year month day_of_month) }
     {
         if matches!(month, 1..=12)
             && 0 < day_of_month
-            && day_of_month <= days_in_month(year, month)
+            && day_of_month <= length_of_month(year, month)
         {
             Some(Self {
                 year,
@@ -80,7 +82,8 @@ impl Date {
 
     /// Returns the date of a day, counted from 1970-01-01, which is day 0.
     /// `Some(Date::from_day_number(-1))` is `Date::new(1969, 12, 31)`.
-    pub fn from_day_number(day: i64) -> Self
+    #[inline]
+    pub const fn from_day_number(day: i64) -> Self
         ensures number { number_of result ≡ day }
         ensures only { IsOnly (λ date. number_of date ≡ day) result }
     {
@@ -95,15 +98,18 @@ impl Date {
 
     /// Returns the number of days from 1970-01-01 to the date, which is negative for an earlier date,
     /// or `None` if it does not fit an `i64`. `Date::new(1969, 12, 31).unwrap().day_number()` is `Some(-1)`.
+    #[inline]
     pub fn day_number(&self) -> Option<i64>
         ensures { SomeIff result (FitsSigned w64 (number_of self.now)) (number_of self.now) }
     {
-        at_64_bits(self.wide_day_number())
+        let (era, day) = self.day_of_era();
+        days_of_eras(era, i64::from(day) - EPOCH_IN_ERA_0)
     }
 
     /// Returns the next date, or `None` if it is in the year after `i64::MAX`.
     /// `Date::new(2000, 2, 28).unwrap().next()` is `Date::new(2000, 2, 29)`.
     #[tactic(auto, using(crate::proofs::DateOrder::month_ends))]
+    #[inline]
     pub fn next(&self) -> Option<Self>
         ensures { MatchOption result
             ((self.now.year ≡ i64.MAX) × (self.now.month ≡ 12) × (self.now.day_of_month ≡ 31))
@@ -111,7 +117,7 @@ impl Date {
     {
         let year = self.year;
         let month = self.month;
-        if self.day_of_month < days_in_month(year, month) {
+        if !self.ends_month() {
             Some(Self {
                 year,
                 month,
@@ -132,8 +138,17 @@ impl Date {
         }
     }
 
+    /// Returns `true` if the date is the last of its month.
+    #[inline]
+    const fn ends_month(&self) -> bool
+        ensures { IsTrue result ↔ (days_in_month self.now.year self.now.month ≤ self.now.day_of_month) }
+    {
+        28 <= self.day_of_month && length_of_month(self.year, self.month) <= self.day_of_month
+    }
+
     /// Returns the previous date, or `None` if it is in the year before `i64::MIN`.
     /// `Date::new(1900, 3, 1).unwrap().previous()` is `Date::new(1900, 2, 28)`.
+    #[inline]
     pub fn previous(&self) -> Option<Self>
         ensures { MatchOption result
             ((self.now.year ≡ i64.MIN) × (self.now.month ≡ 1) × (self.now.day_of_month ≡ 1))
@@ -151,7 +166,7 @@ impl Date {
             Some(Self {
                 year,
                 month: month - 1,
-                day_of_month: days_in_month(year, month - 1),
+                day_of_month: length_of_month(year, month - 1),
             })
         } else {
             Some(Self {
@@ -164,18 +179,19 @@ impl Date {
 
     /// Returns the day of the year, which is 1 on 1 January.
     /// `Date::new(2000, 12, 31).unwrap().day_of_year()` is `366`.
-    pub fn day_of_year(&self) -> u16
+    #[inline]
+    pub const fn day_of_year(&self) -> u16
         ensures day { result ≡ year_day_of self.now }
         ensures from_one { 1 ≤ result }
         ensures to_last { result ≤ days_in_year self.now.year }
     {
-        days_before_month(self.year, self.month) + u16::from(self.day_of_month)
+        days_before_month(self.year, self.month) + self.day_of_month as u16
     }
 
     /// Returns the date of a day of a year, counted from 1 January, which is day 1, or `None` if the year has
     /// no such day. `Date::from_year_day(2000, 60)` is `Date::new(2000, 2, 29)`, and
     /// `Date::from_year_day(1900, 366)` is `None`.
-    pub fn from_year_day(year: i64, day_of_year: u16) -> Option<Self>
+    pub const fn from_year_day(year: i64, day_of_year: u16) -> Option<Self>
         ensures { MatchOption result (¬ ((1 ≤ day_of_year) × (day_of_year ≤ days_in_year year)))
             (λ date. (date.year ≡ year) × (year_day_of date ≡ day_of_year)) }
     {
@@ -189,7 +205,28 @@ impl Date {
     /// Returns the date `days` days after this one, or before it if `days` is negative, or `None` if its
     /// year does not fit an `i64`. `Date::new(2000, 3, 1).unwrap().plus_days(-1)` is
     /// `Date::new(2000, 2, 29)`.
+    #[inline]
     pub fn plus_days(&self, days: i64) -> Option<Self>
+        ensures { MatchOption result
+            ((date : Date) → number_of date ≡ number_of self.now +ℤ days → ¬ (FitsSigned w64 date.year))
+            (λ date. number_of date ≡ number_of self.now +ℤ days) }
+    {
+        match self.day_later(days) {
+            Some(day) => Some(Self::from_day_number(day)),
+            None => self.far_plus_days(days),
+        }
+    }
+
+    /// Returns the day `days` days after this one, or `None` if one of the two does not fit.
+    #[inline]
+    fn day_later(&self, days: i64) -> Option<i64>
+        ensures { IfSome result (λ day. day ≡ number_of self.now +ℤ days) }
+    {
+        self.day_number()?.checked_add(days)
+    }
+
+    /// Returns what `plus_days` returns.
+    fn far_plus_days(&self, days: i64) -> Option<Self>
         ensures { MatchOption result
             ((date : Date) → number_of date ≡ number_of self.now +ℤ days → ¬ (FitsSigned w64 date.year))
             (λ date. number_of date ≡ number_of self.now +ℤ days) }
@@ -236,18 +273,20 @@ impl Date {
 
     /// Returns the era of the year, and the day of that era: day 1 is 1 March, 400 years before the era
     /// begins.
-    pub(crate) fn day_of_era(&self) -> (i64, u32)
+    #[inline]
+    pub(crate) const fn day_of_era(&self) -> (i64, u32)
         ensures number { number_of self.now ≡ pos 146097 *ℤ result.0 +ℤ pos result.1 -ℤ pos 865566 }
         ensures small { unsigned_abs result.0 < 2 ^ 55 }
-        ensures below { result.1 < 2 ^ 19 }
+        ensures below { result.1 < 2 ^ 30 }
     {
-        let (era, year) = era_of_year(self.year);
+        let (era, year) = era_before_year(self.year);
         let month = days_to_month(year, self.month);
-        (era, month + u32::from(self.day_of_month))
+        (era, month + self.day_of_month as u32)
     }
 
     /// Returns the date `days` days after 1 January of the same year.
-    pub(crate) fn in_year(year: i64, days: u16) -> Self
+    #[inline]
+    pub(crate) const fn in_year(year: i64, days: u16) -> Self
         requires { days < days_in_year year }
         ensures year { result.year ≡ year }
         ensures day { year_day_of result ≡ days + 1 }

@@ -8,7 +8,8 @@ ghost use Rattle.calendar.specs.Months.{days_in_month, month_number};
 ghost use Rattle.calendar.specs.declared.date.Date.{Date};
 
 use crate::Date;
-use crate::months::days_in_month;
+use crate::eras::days_of_eras;
+use crate::months::length_of_month;
 use crate::years::at_64_bits;
 use integer_core::{div_floor, div_mod_floor};
 
@@ -26,17 +27,20 @@ impl Date {
         Some(Self {
             year,
             month,
-            day_of_month: self.day_of_month.min(days_in_month(year, month)),
+            day_of_month: self.day_of_month.min(length_of_month(year, month)),
         })
     }
 
     /// Returns the number of days from this date to `to`, which is negative if `to` is earlier, or `None` if
     /// it does not fit. `Date::from_day_number(5).days_between(&Date::from_day_number(3))` is `Some(-2)`.
+    #[inline]
     pub fn days_between(&self, to: &Self) -> Option<i64>
         ensures { SomeIff result (FitsSigned w64 (number_of to.now -ℤ number_of self.now))
             (number_of to.now -ℤ number_of self.now) }
     {
-        at_64_bits(to.wide_day_number() - self.wide_day_number())
+        let (from_era, from_day) = self.day_of_era();
+        let (era, day) = to.day_of_era();
+        days_of_eras(era - from_era, i64::from(day) - i64::from(from_day))
     }
 
     /// Returns the number of whole months from this date to `to`, which is negative if `to` is earlier, or
@@ -124,7 +128,7 @@ fn ends_in_part_of_month(from: &Date, to: &Date) -> bool
     ensures { IsTrue result
         ↔ (to.now.day_of_month < min from.now.day_of_month (days_in_month to.now.year to.now.month)) }
 {
-    to.day_of_month < from.day_of_month.min(days_in_month(to.year, to.month))
+    to.day_of_month < from.day_of_month.min(length_of_month(to.year, to.month))
 }
 
 /// Returns the year and the month of a month that is counted from January of year 0, or `None` if the

@@ -1,18 +1,22 @@
 //! Eras of 400 years, after which the calendar repeats. An era has 146097 days. The years of this file
 //! begin on 1 March, so a leap day is the last day of its year.
 
-ghost use Rattle.std.specs.Prelude.{◌≡◌, ◌+◌, ◌<◌, ◌≤◌, ◌+ℤ◌, ◌-ℤ◌, ◌*ℤ◌, ℤ, pos, FitsSigned};
+ghost use Rattle.std.specs.Prelude.{◌≡◌, ◌+◌, ◌<◌, ◌≤◌, ◌*◌, ◌^◌, ◌<ℤ◌, ◌+ℤ◌, ◌-ℤ◌, ◌*ℤ◌, ℤ, pos, unsigned_abs, FitsSigned};
 ghost use Rattle.std.specs.Int.{w64};
+ghost use Rattle.std.specs.Option.{SomeIff};
 ghost use Rattle.calendar.specs.Months.{IsDate, days_before_month};
 ghost use Rattle.calendar.specs.Years.{day_number, days_in_year};
 
-use integer_core::div_mod_floor;
+use crate::years::at_64_bits;
 
 /// The years of an era.
-pub(crate) const YEARS_PER_ERA: u32 = 400;
+pub(crate) const YEARS_PER_ERA: i64 = 400;
 
 /// The days of an era.
-pub(crate) const DAYS_PER_ERA: u32 = 146097;
+pub(crate) const DAYS_PER_ERA: i64 = 146097;
+
+/// The era that begins in year -1400000. The years from there to 1399999 are counted from it.
+const NEAR_ERA: i64 = -3500;
 
 /// The quarters of a day in a century, on average.
 const QUARTERS_PER_CENTURY: u32 = 146097;
@@ -30,16 +34,22 @@ const MARCH_YEAR_BEFORE_EPOCH: i64 = 1600;
 /// The days from that 1 March to 1970-01-01.
 const DAYS_TO_EPOCH: u32 = 135080;
 
-/// Returns the era of a year, and how many years of the era come before the year.
-pub(crate) fn era_of_year(year: i64) -> (i64, u32)
+/// Returns an era that is not after a year, and how many years from its beginning on come before the year.
+#[inline]
+pub(crate) const fn era_before_year(year: i64) -> (i64, u32)
     ensures place { year ≡ pos 400 *ℤ result.0 +ℤ pos result.1 }
-    ensures below { result.1 < 400 }
+    ensures below { result.1 < 2800000 }
 {
-    groups_and_rest(year, YEARS_PER_ERA)
+    if -1400000 <= year && year < 1400000 {
+        (NEAR_ERA, (year + 1400000) as u32)
+    } else {
+        groups_and_rest(year, YEARS_PER_ERA)
+    }
 }
 
 /// Returns how many whole eras there are in `days`, rounded down, and the days that are left.
-pub(crate) fn eras_in_days(days: i64) -> (i64, u32)
+#[inline]
+pub(crate) const fn eras_in_days(days: i64) -> (i64, u32)
     ensures place { days ≡ pos 146097 *ℤ result.0 +ℤ pos result.1 }
     ensures below { result.1 < 146097 }
 {
@@ -47,59 +57,85 @@ pub(crate) fn eras_in_days(days: i64) -> (i64, u32)
 }
 
 /// Returns the quotient of `n` by `size`, rounded down, and the remainder.
-fn groups_and_rest(n: i64, size: u32) -> (i64, u32)
-    requires { 0 < size }
-    ensures place { n ≡ pos size *ℤ result.0 +ℤ pos result.1 }
-    ensures below { result.1 < size }
+#[inline]
+const fn groups_and_rest(n: i64, size: i64) -> (i64, u32)
+    requires from { pos 0 <ℤ size }
+    requires below { size <ℤ pos (2 ^ 32) }
+    ensures place { n ≡ size *ℤ result.0 +ℤ pos result.1 }
+    ensures below { pos result.1 <ℤ size }
 {
-    let (groups, rest) = div_mod_floor(n, i64::from(size));
-    (groups, rest as u32)
+    (n.div_euclid(size), n.rem_euclid(size) as u32)
 }
 
-/// Returns the days from 1 March, 400 years before the era begins, to the first of `month` in `year` of
-/// the era.
-pub(crate) fn days_to_month(year: u32, month: u8) -> u32
-    requires of_era { year < 400 }
+/// Returns the number of days in `eras` eras and `days` days more, or `None` if it does not fit.
+#[inline]
+pub(crate) fn days_of_eras(eras: i64, days: i64) -> Option<i64>
+    requires eras_small { unsigned_abs eras < 2 ^ 57 }
+    requires days_small { unsigned_abs days < 2 ^ 32 }
+    ensures { SomeIff result (FitsSigned w64 (pos 146097 *ℤ eras +ℤ days)) (pos 146097 *ℤ eras +ℤ days) }
+{
+    match DAYS_PER_ERA.checked_mul(eras) {
+        Some(whole) => whole.checked_add(days),
+        None => at_64_bits(i128::from(DAYS_PER_ERA) * i128::from(eras) + i128::from(days)),
+    }
+}
+
+/// Returns the days from 1 March, 400 years before the era begins, to the first of `month`, `year` years after
+/// the era begins.
+#[inline]
+pub(crate) const fn days_to_month(year: u32, month: u8) -> u32
+    requires near { year < 2800000 }
     requires from_one { 1 ≤ month }
     requires to_twelve { month ≤ 12 }
     ensures day { (era : ℤ) → day_number (pos 400 *ℤ era +ℤ pos year) month 1
         ≡ pos 146097 *ℤ era +ℤ pos result -ℤ pos 865565 }
-    ensures small { result < 300000 }
+    ensures small { result < 1023000000 }
 {
-    if month <= 2 {
-        days_of_years(year + 399) + DAYS_FROM_MARCH + 31 * (u32::from(month) - 1)
-    } else {
-        days_of_years(year + 400) + days_of_months(month)
-    }
+    let back = years_back(month);
+    days_of_years(year + 400 - back as u32) + days_of_months(month + 12 * back)
+}
+
+/// Returns 1 in January and February, which are months 13 and 14 of the year before, and else 0.
+#[inline]
+pub(crate) const fn years_back(month: u8) -> u8
+    ensures before { month ≤ 2 → result ≡ 1 }
+    ensures same { 2 < month → result ≡ 0 }
+{
+    (month <= 2) as u8
 }
 
 /// Returns the days from 1 March of the first year of an era to 1 March, `years` years later.
 #[tactic(auto, using(crate::proofs::MarchYears::march_steps))]
-fn days_of_years(years: u32) -> u32
-    requires { years < 800 }
+#[inline]
+const fn days_of_years(years: u32) -> u32
+    requires { years < 2800400 }
     ensures day { (era : ℤ) → day_number (pos 400 *ℤ era +ℤ pos years) 3 1
         ≡ pos 146097 *ℤ era +ℤ pos result -ℤ pos 719468 }
-    ensures small { result < 292195 }
+    ensures small { result < 1022900000 }
 {
     let centuries = years / 100;
     QUARTERS_PER_YEAR * years / 4 - centuries + centuries / 4
 }
 
-/// Returns the days from 1 March to the first of `month` in the same year.
+/// Returns the days from 1 March to the first of `month`. January and February of the next year are months 13 and
+/// 14.
 #[tactic(auto, using(crate::proofs::MarchYears::month_steps))]
-pub(crate) fn days_of_months(month: u8) -> u32
+#[inline]
+pub(crate) const fn days_of_months(month: u8) -> u32
     requires from { 3 ≤ month }
-    requires to_twelve { month ≤ 12 }
-    ensures days { (year : ℤ) → days_before_month year month ≡ days_before_month year 3 + result }
-    ensures small { result ≤ 275 }
+    requires to { month ≤ 14 }
+    ensures days { month ≤ 12 → (year : ℤ) → days_before_month year month ≡ days_before_month year 3 + result }
+    ensures late { 12 < month → result + 97 ≡ 31 * month }
+    ensures small { result ≤ 337 }
 {
     // From March on, five months have 153 days, and 979 / 32 is close to 153 / 5.
-    (979 * u32::from(month) - 2919) / 32
+    (979 * month as u32 - 2919) / 32
 }
 
 /// Returns the month and the day of the month `days` days after 1 March.
 #[tactic(auto, using(crate::proofs::MarchYears::month_steps))]
-pub(crate) fn month_and_day(days: u32) -> (u8, u8)
+#[inline]
+pub(crate) const fn month_and_day(days: u32) -> (u8, u8)
     requires { days < 366 }
     ensures from_march { (year : ℤ) → days < 306 → IsDate year result.0 result.1
         × (days_before_month year result.0 + result.1 ≡ days_before_month year 3 + days + 1) }
@@ -117,7 +153,8 @@ pub(crate) fn month_and_day(days: u32) -> (u8, u8)
 
 /// Returns the year, the month and the day of the month `days` days after 1 March of `year`.
 #[tactic(auto, using(crate::proofs::MarchYears::month_steps))]
-pub(crate) fn parts_from_march(year: i64, days: u32) -> (i64, u8, u8)
+#[inline]
+pub(crate) const fn parts_from_march(year: i64, days: u32) -> (i64, u8, u8)
     requires within { days < days_in_year (year +ℤ pos 1) }
     requires next_fits { FitsSigned w64 (year +ℤ pos 1) }
     ensures date { IsDate result.0 result.1 result.2 }
@@ -132,7 +169,8 @@ pub(crate) fn parts_from_march(year: i64, days: u32) -> (i64, u8, u8)
 }
 
 /// Returns the year whose 1 March is the last one that is not after the day, and the days from there.
-pub(crate) fn march_year_of_day(day: i64) -> (i64, u32)
+#[inline]
+pub(crate) const fn march_year_of_day(day: i64) -> (i64, u32)
     ensures day { day_number result.0 3 1 +ℤ pos result.1 ≡ day }
     ensures within { result.1 < days_in_year (result.0 +ℤ pos 1) }
     ensures next_fits { FitsSigned w64 (result.0 +ℤ pos 1) }
@@ -140,14 +178,15 @@ pub(crate) fn march_year_of_day(day: i64) -> (i64, u32)
     let (era, days) = eras_in_days(day);
     let (years, rest) = march_year(days + DAYS_TO_EPOCH);
     (
-        i64::from(YEARS_PER_ERA) * era + (i64::from(years) + MARCH_YEAR_BEFORE_EPOCH),
+        YEARS_PER_ERA * era + (years as i64 + MARCH_YEAR_BEFORE_EPOCH),
         rest,
     )
 }
 
 /// Returns how many whole years there are in the `days` days from 1 March of the first year of an era, and
 /// the days that are left.
-fn march_year(days: u32) -> (u32, u32)
+#[inline]
+const fn march_year(days: u32) -> (u32, u32)
     requires { days < 300000 }
     ensures day { (era : ℤ) → day_number (pos 400 *ℤ era +ℤ pos result.0) 3 1 +ℤ pos result.1
         ≡ pos 146097 *ℤ era +ℤ pos days -ℤ pos 719468 }

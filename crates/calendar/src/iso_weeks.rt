@@ -10,7 +10,7 @@ ghost use Rattle.calendar.specs.Weekday.{weekday_number};
 ghost use Rattle.calendar.specs.Weeks.{HasWeekday};
 ghost use Rattle.calendar.specs.declared.weekday.Weekday.TheVariants.{Thursday};
 
-use crate::eras::{days_to_month, era_of_year};
+use crate::eras::{days_to_month, era_before_year};
 use crate::years::{is_in_year, nearby_year};
 use crate::{Date, Weekday};
 
@@ -46,7 +46,7 @@ impl IsoWeek {
     /// Returns a week of a year, or `None` if the year has no such week.
     /// `IsoWeek::new(2004, 53).unwrap().week()` is `53`, and `IsoWeek::new(2005, 53)` is `None`.
     #[tactic(auto, using(crate::proofs::YearLengths::year_steps))]
-    pub fn new(year: i64, week: u8) -> Option<Self>
+    pub const fn new(year: i64, week: u8) -> Option<Self>
         ensures { MatchOption result (¬ (HasIsoWeek year week))
             (λ found. HasIsoWeek year week × (found.year ≡ year) × (found.week ≡ week)) }
     {
@@ -74,6 +74,7 @@ impl Date {
     /// Returns the ISO 8601 week of the date, or `None` if the year of the week does not fit in `i64`.
     /// `Date::new(2005, 1, 1).unwrap().iso_week()` is `IsoWeek::new(2004, 53)`.
     #[tactic(auto, using(crate::proofs::YearLengths::year_steps))]
+    #[inline]
     pub fn iso_week(&self) -> Option<IsoWeek>
         ensures week { MatchOption result
             ((year : ℤ) (week : ℕ) → IsInIsoWeek (number_of self.now) year week → ¬ (FitsSigned w64 year))
@@ -122,6 +123,7 @@ pub fn weeks_in_year(year: i64) -> u8
 /// Returns the number of days from 1 January of the date's year to the Thursday of the date's week. The number
 /// is negative if that Thursday is in the year before.
 #[tactic(auto, using(crate::proofs::YearLengths::length_range))]
+#[inline]
 fn days_to_thursday_of_date(date: &Date) -> i64
     ensures of_week { IsThursdayOfWeek (number_of date.now) (first_day date.now.year +ℤ result) }
     ensures from { pos 0 ≤ℤ (result +ℤ pos 6) }
@@ -131,6 +133,7 @@ fn days_to_thursday_of_date(date: &Date) -> i64
 }
 
 /// Returns the number of days from the Monday of the date's week to the date.
+#[inline]
 fn days_since_monday(date: &Date) -> i64
     ensures value { IsRemainder IsFloored (number_of date.now +ℤ pos 3) (pos 7) result }
     ensures from { pos 0 ≤ℤ result }
@@ -142,24 +145,24 @@ fn days_since_monday(date: &Date) -> i64
 
 /// Returns the number of days from 1 January to the Thursday of the week. The year may be too short to have
 /// that week.
-fn days_to_thursday_of_week(year: i64, week: u8) -> i64
+const fn days_to_thursday_of_week(year: i64, week: u8) -> i64
     ensures weekday { HasWeekday (first_day year +ℤ result) Thursday }
     ensures from { (pos 7 *ℤ (pos week -ℤ pos 1)) ≤ℤ result }
     ensures before { result <ℤ (pos 7 *ℤ pos week) }
 {
-    days_to_first_thursday(year) + 7 * (i64::from(week) - 1)
+    days_to_first_thursday(year) + 7 * (week as i64 - 1)
 }
 
 /// Returns the number of days from 1 January to the first Thursday of the year.
 ///
 /// In Rattle, the contract counts from 1970-01-01, day 0, which is a Thursday.
-fn days_to_first_thursday(year: i64) -> i64
+const fn days_to_first_thursday(year: i64) -> i64
     ensures { IsRemainder IsFloored (pos 0 -ℤ first_day year) (pos 7) result }
 {
     // 1 March of the first year of an era is a Wednesday.
-    let (_, year_of_era) = era_of_year(year);
+    let (_, year_of_era) = era_before_year(year);
     let days_to_january = days_to_month(year_of_era, 1);
-    6 - i64::from((days_to_january + 5) % 7)
+    6 - ((days_to_january + 5) % 7) as i64
 }
 
 /// Returns the number of days from a Monday to `weekday` of the same week.

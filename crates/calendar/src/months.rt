@@ -4,7 +4,7 @@ ghost use Rattle.std.specs.Prelude.{◌≡◌, ◌+◌, ◌<◌, ◌≤◌};
 ghost use Rattle.calendar.specs.Months.{IsDate, days_before_month, days_in_month};
 ghost use Rattle.calendar.specs.Years.{days_in_year};
 
-use crate::eras::{DAYS_FROM_MARCH, days_of_months, month_and_day};
+use crate::eras::{DAYS_FROM_MARCH, days_of_months, month_and_day, years_back};
 use crate::{days_in_year, is_leap_year};
 use integer_core::guards::check;
 
@@ -24,6 +24,18 @@ pub fn days_in_month(year: i64, month: u8) -> u8
 {
     check(month >= 1, "no month has the number 0");
     check(month <= 12, "no month has a number above 12");
+    length_of_month(year, month)
+}
+
+/// Returns how many days the month has.
+#[inline]
+pub(crate) const fn length_of_month(year: i64, month: u8) -> u8
+    requires from_one { 1 ≤ month }
+    requires to_twelve { month ≤ 12 }
+    ensures days { result ≡ days_in_month year month }
+    ensures from_28 { 28 ≤ result }
+    ensures to_31 { result ≤ 31 }
+{
     if month == 2 {
         if is_leap_year(year) { 29 } else { 28 }
     } else {
@@ -34,21 +46,21 @@ pub fn days_in_month(year: i64, month: u8) -> u8
 
 /// Returns how many days of the year come before the month.
 #[tactic(auto, using(crate::proofs::MarchYears::month_steps))]
-pub(crate) fn days_before_month(year: i64, month: u8) -> u16
+#[inline]
+pub(crate) const fn days_before_month(year: i64, month: u8) -> u16
     requires from_one { 1 ≤ month }
     requires to_twelve { month ≤ 12 }
     ensures { result ≡ days_before_month year month }
 {
-    if month <= 2 {
-        31 * (u16::from(month) - 1)
-    } else {
-        days_in_year(year) - DAYS_FROM_MARCH as u16 + days_of_months(month) as u16
-    }
+    let back = years_back(month);
+    let days = days_of_months(month + 12 * back) as u16;
+    days + (1 - back as u16) * days_in_year(year) - DAYS_FROM_MARCH as u16
 }
 
 /// Returns the month and the day of the month `days` days after 1 January of `year`.
 #[tactic(auto, using(crate::proofs::MarchYears::month_steps))]
-pub(crate) fn month_and_day_in_year(year: i64, days: u16) -> (u8, u8)
+#[inline]
+pub(crate) const fn month_and_day_in_year(year: i64, days: u16) -> (u8, u8)
     requires { days < days_in_year year }
     ensures date { IsDate year result.0 result.1 }
     ensures day { days_before_month year result.0 + result.1 ≡ days + 1 }
@@ -59,5 +71,5 @@ pub(crate) fn month_and_day_in_year(year: i64, days: u16) -> (u8, u8)
     } else {
         days - march
     };
-    month_and_day(u32::from(from_march))
+    month_and_day(from_march as u32)
 }

@@ -13,7 +13,7 @@ use std::fmt;
 use std::str::FromStr;
 
 /// The error that parsing returns for a string that is not a date. `"1900-02-29".parse::<Date>()` is `Err(DateError)`.
-#[derive(Debug, Clone, Copy, PartialEq, Eq)]
+#[derive(Debug, Clone, Copy, PartialEq, Eq, Hash)]
 pub struct DateError;
 
 impl fmt::Display for DateError {

@@ -73,6 +73,7 @@ impl Weekday {
     }
 
     /// Returns the number of days from a Sunday to this day of the week.
+    #[inline]
     pub(crate) fn days_after_sunday(self) -> u8
         ensures value { result ≡ weekday_number self }
         ensures small { result < 7 }
@@ -92,7 +93,7 @@ impl Weekday {
 
 /// The error of a string that is not the name of a day of the week. `"Mon".parse::<Weekday>()` is
 /// `Err(WeekdayError)`.
-#[derive(Debug, Clone, Copy, PartialEq, Eq)]
+#[derive(Debug, Clone, Copy, PartialEq, Eq, Hash)]
 pub struct WeekdayError;
 
 impl fmt::Display for WeekdayError {
@@ -143,6 +144,7 @@ impl FromStr for Weekday {
 
 impl Date {
     /// Returns the day of the week. `Date::new(2000, 2, 29).unwrap().weekday()` is `Weekday::Tuesday`.
+    #[inline]
     pub fn weekday(&self) -> Weekday
         ensures { HasWeekday (number_of self.now) result }
     {
@@ -154,6 +156,7 @@ impl Date {
 
 /// Returns the day of the week of a day, counted from 1970-01-01, which is a Thursday.
 /// `weekday_of(-1)` is `Weekday::Wednesday`.
+#[inline]
 pub fn weekday_of(day: i64) -> Weekday
     ensures { IsRemainder IsFloored (day +ℤ pos 4) (pos 7) (pos (weekday_number result)) }
 {
@@ -161,6 +164,7 @@ pub fn weekday_of(day: i64) -> Weekday
 }
 
 /// Returns the day of the week `days` days after a Sunday.
+#[inline]
 fn weekday_after_sunday(days: u32) -> Weekday
     ensures { weekday_number result ≡ days % 7 }
 {

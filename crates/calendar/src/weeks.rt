@@ -6,7 +6,7 @@ ghost use Rattle.calendar.specs.Dates.{IsLastWeekdayOfMonth, IsNextLastWeekday, 
 ghost use Rattle.calendar.specs.Weeks.{IsFirstWeekday, IsLastWeekday};
 ghost use Rattle.calendar.specs.declared.date.Date.{Date};
 
-use crate::months::days_in_month;
+use crate::months::length_of_month;
 use crate::{Date, Weekday, weekday_of};
 
 /// Returns the first `weekday` that is not before `day`, or `None` if it does not fit an `i64`. Days are
@@ -95,7 +95,7 @@ fn last_weekday(year: i64, month: u8, weekday: Weekday) -> Date
     let last = Date {
         year,
         month,
-        day_of_month: days_in_month(year, month),
+        day_of_month: length_of_month(year, month),
     };
     Date {
         year,

@@ -6,12 +6,11 @@ ghost use Rattle.std.specs.Option.{SomeIff};
 ghost use Rattle.calendar.specs.LeapYears.{is_leap_year, is_multiple};
 ghost use Rattle.calendar.specs.Years.{HasDay, days_in_year, first_day};
 
-use integer_core::Integer;
-
 /// Returns `true` if the year has a 29 February. `is_leap_year(2000)` is `true`, `is_leap_year(1900)` is
 /// `false`, and `is_leap_year(0)` is `true`.
 #[tactic(auto, using(crate::proofs::YearLengths::multiples), unfolding(crate::specs::LeapYears::is_leap_year, crate::specs::LeapYears::is_multiple))]
-pub fn is_leap_year(year: i64) -> bool
+#[inline]
+pub const fn is_leap_year(year: i64) -> bool
     ensures { result ≡ is_leap_year year }
 {
     // A multiple of 4 is a multiple of 100 if 25 divides it, and a multiple of 100 one of 400 if 16 does.
@@ -24,16 +23,18 @@ pub fn is_leap_year(year: i64) -> bool
 
 /// Returns `true` if the year is a multiple of `number`.
 #[tactic(auto, using(crate::proofs::YearLengths::multiples), unfolding(crate::specs::LeapYears::is_multiple))]
-fn is_multiple(year: i64, number: u16) -> bool
+#[inline]
+const fn is_multiple(year: i64, number: u16) -> bool
     requires { 0 < number }
     ensures { result ≡ is_multiple year number }
 {
-    year.is_multiple_of(&i64::from(number))
+    year % number as i64 == 0
 }
 
 /// Returns how many days the year has. `days_in_year(1900)` is `365`.
 #[tactic(auto, unfolding(crate::specs::Years::days_in_year))]
-pub fn days_in_year(year: i64) -> u16
+#[inline]
+pub const fn days_in_year(year: i64) -> u16
     ensures days { result ≡ days_in_year year }
     ensures from_365 { 365 ≤ result }
     ensures to_366 { result ≤ 366 }
@@ -43,17 +44,19 @@ pub fn days_in_year(year: i64) -> u16
 
 /// Returns how many days the year has, as an `i64`.
 #[tactic(auto, using(crate::proofs::YearLengths::length_range))]
-fn length_of(year: i64) -> i64
+#[inline]
+const fn length_of(year: i64) -> i64
     ensures value { result ≡ pos (days_in_year year) }
     ensures from { pos 365 ≤ℤ result }
     ensures to { result ≤ℤ pos 366 }
 {
-    i64::from(days_in_year(year))
+    days_in_year(year) as i64
 }
 
 /// Returns `true` if the day `days` days after 1 January of the year is in the same year.
 #[tactic(auto, using(crate::proofs::YearLengths::length_range))]
-pub(crate) fn is_in_year(year: i64, days: i64) -> bool
+#[inline]
+pub(crate) const fn is_in_year(year: i64, days: i64) -> bool
     ensures { IsTrue result ↔ ((pos 0 ≤ℤ days) × (days <ℤ pos (days_in_year year))) }
 {
     0 <= days && (days < 365 || days < length_of(year))
@@ -61,6 +64,7 @@ pub(crate) fn is_in_year(year: i64, days: i64) -> bool
 
 /// Returns the year of the day `days` days after 1 January of a year, and the days from its 1 January to
 /// that day, or `None` if that year does not fit an `i64`.
+#[inline]
 pub(crate) fn nearby_year(year: i64, days: i64) -> Option<(i64, u16)>
     requires from { pos 0 ≤ℤ (days +ℤ pos 6) }
     requires below { days <ℤ pos 372 }
@@ -81,6 +85,7 @@ pub(crate) fn nearby_year(year: i64, days: i64) -> Option<(i64, u16)>
 }
 
 /// Returns the number as an `i64`, or `None` if it does not fit.
+#[inline]
 pub(crate) fn at_64_bits(number: i128) -> Option<i64>
     ensures { SomeIff result (FitsSigned w64 number) number }
 {

@@ -1,5 +1,7 @@
-//! Prints the nanoseconds of a call of the crate, of the same call of `num-integer`, and the ratio of the two. Run it by
-//! hand, on a quiet machine: `cargo run --release`.
+//! Prints the nanoseconds of a call of the crate, of the same call of `num-integer` or `chrono`, and the ratio of the two. Run
+//! it by hand, on a quiet machine: `cargo run --release`.
+
+mod dates;
 
 use std::hint::black_box;
 use std::time::Instant;
@@ -107,4 +109,5 @@ fn main() {
         "multinomial of three" 3 |it, a, b| it::multinomial(&[a, b, 2]);
     }
     lists();
+    dates::print_all();
 }

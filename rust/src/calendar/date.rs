@@ -7,10 +7,10 @@
 
 use crate::calendar::days_in_year;
 use crate::calendar::eras::{
-    days_to_month, era_of_year, eras_in_days, march_year_of_day, parts_from_march, DAYS_PER_ERA,
-    YEARS_PER_ERA,
+    days_of_eras, days_to_month, era_before_year, eras_in_days, march_year_of_day,
+    parts_from_march, DAYS_PER_ERA, YEARS_PER_ERA,
 };
-use crate::calendar::months::{days_before_month, days_in_month, month_and_day_in_year};
+use crate::calendar::months::{days_before_month, length_of_month, month_and_day_in_year};
 use crate::calendar::years::{at_64_bits, nearby_year};
 
 /// The day of era 0 that is 1970-01-01, as [`Date::day_of_era`] counts days.
@@ -97,8 +97,11 @@ impl Date {
     ///
     /// [Contract](crate::definitions::contracts#calendardatenew)
     #[must_use]
-    pub fn new(year: i64, month: u8, day_of_month: u8) -> Option<Self> {
-        if matches!(month, 1..=12) && 0 < day_of_month && day_of_month <= days_in_month(year, month)
+    #[inline]
+    pub const fn new(year: i64, month: u8, day_of_month: u8) -> Option<Self> {
+        if matches!(month, 1..=12)
+            && 0 < day_of_month
+            && day_of_month <= length_of_month(year, month)
         {
             Some(Self {
                 year,
@@ -122,7 +125,8 @@ impl Date {
     ///
     /// [Contract](crate::definitions::contracts#calendardatefrom_day_number)
     #[must_use]
-    pub fn from_day_number(day: i64) -> Self {
+    #[inline]
+    pub const fn from_day_number(day: i64) -> Self {
         let (march_year, days) = march_year_of_day(day);
         let (year, month, day_of_month) = parts_from_march(march_year, days);
         Self {
@@ -145,8 +149,10 @@ impl Date {
     ///
     /// [Contract](crate::definitions::contracts#calendardateday_number)
     #[must_use]
+    #[inline]
     pub fn day_number(&self) -> Option<i64> {
-        at_64_bits(self.wide_day_number())
+        let (era, day) = self.day_of_era();
+        days_of_eras(era, i64::from(day) - EPOCH_IN_ERA_0)
     }
 
     /// Returns the next date, or `None` if it is in the year after `i64::MAX`.
@@ -161,10 +167,11 @@ impl Date {
     ///
     /// [Contract](crate::definitions::contracts#calendardatenext)
     #[must_use]
+    #[inline]
     pub fn next(&self) -> Option<Self> {
         let year = self.year;
         let month = self.month;
-        if self.day_of_month < days_in_month(year, month) {
+        if !self.ends_month() {
             Some(Self {
                 year,
                 month,
@@ -185,6 +192,12 @@ impl Date {
         }
     }
 
+    /// Returns `true` if the date is the last of its month.
+    #[inline]
+    const fn ends_month(&self) -> bool {
+        28 <= self.day_of_month && length_of_month(self.year, self.month) <= self.day_of_month
+    }
+
     /// Returns the previous date, or `None` if it is in the year before `i64::MIN`.
     ///
     /// # Examples
@@ -197,6 +210,7 @@ impl Date {
     ///
     /// [Contract](crate::definitions::contracts#calendardateprevious)
     #[must_use]
+    #[inline]
     pub fn previous(&self) -> Option<Self> {
         let year = self.year;
         let month = self.month;
@@ -210,7 +224,7 @@ impl Date {
             Some(Self {
                 year,
                 month: month - 1,
-                day_of_month: days_in_month(year, month - 1),
+                day_of_month: length_of_month(year, month - 1),
             })
         } else {
             Some(Self {
@@ -233,8 +247,9 @@ impl Date {
     ///
     /// [Contract](crate::definitions::contracts#calendardateday_of_year)
     #[must_use]
-    pub fn day_of_year(&self) -> u16 {
-        days_before_month(self.year, self.month) + u16::from(self.day_of_month)
+    #[inline]
+    pub const fn day_of_year(&self) -> u16 {
+        days_before_month(self.year, self.month) + self.day_of_month as u16
     }
 
     /// Returns the date of a day of a year, counted from 1 January, which is day 1, or `None` if
@@ -251,7 +266,7 @@ impl Date {
     ///
     /// [Contract](crate::definitions::contracts#calendardatefrom_year_day)
     #[must_use]
-    pub fn from_year_day(year: i64, day_of_year: u16) -> Option<Self> {
+    pub const fn from_year_day(year: i64, day_of_year: u16) -> Option<Self> {
         if 0 < day_of_year && day_of_year <= days_in_year(year) {
             Some(Self::in_year(year, day_of_year - 1))
         } else {
@@ -272,7 +287,22 @@ impl Date {
     ///
     /// [Contract](crate::definitions::contracts#calendardateplus_days)
     #[must_use]
+    #[inline]
     pub fn plus_days(&self, days: i64) -> Option<Self> {
+        match self.day_later(days) {
+            Some(day) => Some(Self::from_day_number(day)),
+            None => self.far_plus_days(days),
+        }
+    }
+
+    /// Returns the day `days` days after this one, or `None` if one of the two does not fit.
+    #[inline]
+    fn day_later(&self, days: i64) -> Option<i64> {
+        self.day_number()?.checked_add(days)
+    }
+
+    /// Returns what `plus_days` returns.
+    fn far_plus_days(&self, days: i64) -> Option<Self> {
         let (era, day) = self.day_of_era();
         let (eras, rest) = eras_in_days(days);
         Self::from_day_number(i64::from(day + rest) - EPOCH_IN_ERA_0).eras_later(era + eras)
@@ -315,14 +345,16 @@ impl Date {
 
     /// Returns the era of the year, and the day of that era: day 1 is 1 March, 400 years before the
     /// era begins.
-    pub(crate) fn day_of_era(&self) -> (i64, u32) {
-        let (era, year) = era_of_year(self.year);
+    #[inline]
+    pub(crate) const fn day_of_era(&self) -> (i64, u32) {
+        let (era, year) = era_before_year(self.year);
         let month = days_to_month(year, self.month);
-        (era, month + u32::from(self.day_of_month))
+        (era, month + self.day_of_month as u32)
     }
 
     /// Returns the date `days` days after 1 January of the same year.
-    pub(crate) fn in_year(year: i64, days: u16) -> Self {
+    #[inline]
+    pub(crate) const fn in_year(year: i64, days: u16) -> Self {
         let (month, day_of_month) = month_and_day_in_year(year, days);
         Self {
             year,

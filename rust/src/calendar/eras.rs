@@ -2,13 +2,16 @@
 //! Eras of 400 years, after which the calendar repeats. An era has 146097 days. The years of this
 //! file begin on 1 March, so a leap day is the last day of its year.
 
-use crate::integer_core::div_mod_floor;
+use crate::calendar::years::at_64_bits;
 
 /// The years of an era.
-pub(crate) const YEARS_PER_ERA: u32 = 400;
+pub(crate) const YEARS_PER_ERA: i64 = 400;
 
 /// The days of an era.
-pub(crate) const DAYS_PER_ERA: u32 = 146097;
+pub(crate) const DAYS_PER_ERA: i64 = 146097;
+
+/// The era that begins in year -1400000. The years from there to 1399999 are counted from it.
+const NEAR_ERA: i64 = -3500;
 
 /// The quarters of a day in a century, on average.
 const QUARTERS_PER_CENTURY: u32 = 146097;
@@ -26,48 +29,70 @@ const MARCH_YEAR_BEFORE_EPOCH: i64 = 1600;
 /// The days from that 1 March to 1970-01-01.
 const DAYS_TO_EPOCH: u32 = 135080;
 
-/// Returns the era of a year, and how many years of the era come before the year.
-#[track_caller]
-pub(crate) fn era_of_year(year: i64) -> (i64, u32) {
-    groups_and_rest(year, YEARS_PER_ERA)
+/// Returns an era that is not after a year, and how many years from its beginning on come before
+/// the year.
+#[inline]
+pub(crate) const fn era_before_year(year: i64) -> (i64, u32) {
+    if -1400000 <= year && year < 1400000 {
+        (NEAR_ERA, (year + 1400000) as u32)
+    } else {
+        groups_and_rest(year, YEARS_PER_ERA)
+    }
 }
 
 /// Returns how many whole eras there are in `days`, rounded down, and the days that are left.
-pub(crate) fn eras_in_days(days: i64) -> (i64, u32) {
+#[inline]
+pub(crate) const fn eras_in_days(days: i64) -> (i64, u32) {
     groups_and_rest(days, DAYS_PER_ERA)
 }
 
 /// Returns the quotient of `n` by `size`, rounded down, and the remainder.
-#[track_caller]
-fn groups_and_rest(n: i64, size: u32) -> (i64, u32) {
-    let (groups, rest) = div_mod_floor(n, i64::from(size));
-    (groups, rest as u32)
+#[inline]
+const fn groups_and_rest(n: i64, size: i64) -> (i64, u32) {
+    (n.div_euclid(size), n.rem_euclid(size) as u32)
 }
 
-/// Returns the days from 1 March, 400 years before the era begins, to the first of `month` in
-/// `year` of the era.
-pub(crate) fn days_to_month(year: u32, month: u8) -> u32 {
-    if month <= 2 {
-        days_of_years(year + 399) + DAYS_FROM_MARCH + 31 * (u32::from(month) - 1)
-    } else {
-        days_of_years(year + 400) + days_of_months(month)
+/// Returns the number of days in `eras` eras and `days` days more, or `None` if it does not fit.
+#[inline]
+pub(crate) fn days_of_eras(eras: i64, days: i64) -> Option<i64> {
+    match DAYS_PER_ERA.checked_mul(eras) {
+        Some(whole) => whole.checked_add(days),
+        None => at_64_bits(i128::from(DAYS_PER_ERA) * i128::from(eras) + i128::from(days)),
     }
 }
 
+/// Returns the days from 1 March, 400 years before the era begins, to the first of `month`, `year`
+/// years after the era begins.
+#[inline]
+pub(crate) const fn days_to_month(year: u32, month: u8) -> u32 {
+    let back = years_back(month);
+    days_of_years(year + 400 - back as u32) + days_of_months(month + 12 * back)
+}
+
+/// Returns 1 in January and February, which are months 13 and 14 of the year before, and else 0.
+#[inline]
+pub(crate) const fn years_back(month: u8) -> u8 {
+    (month <= 2) as u8
+}
+
 /// Returns the days from 1 March of the first year of an era to 1 March, `years` years later.
-fn days_of_years(years: u32) -> u32 {
+#[inline]
+const fn days_of_years(years: u32) -> u32 {
     let centuries = years / 100;
     QUARTERS_PER_YEAR * years / 4 - centuries + centuries / 4
 }
 
-/// Returns the days from 1 March to the first of `month` in the same year.
-pub(crate) fn days_of_months(month: u8) -> u32 {
+/// Returns the days from 1 March to the first of `month`. January and February of the next year are
+/// months 13 and 14.
+#[inline]
+pub(crate) const fn days_of_months(month: u8) -> u32 {
     // From March on, five months have 153 days, and 979 / 32 is close to 153 / 5.
-    (979 * u32::from(month) - 2919) / 32
+    (979 * month as u32 - 2919) / 32
 }
 
 /// Returns the month and the day of the month `days` days after 1 March.
-pub(crate) fn month_and_day(days: u32) -> (u8, u8) {
+#[inline]
+pub(crate) const fn month_and_day(days: u32) -> (u8, u8) {
     // 65536 / 2141 is also close to 153 / 5.
     let scaled = 2141 * days + 197913;
     let month = (scaled / 65536) as u8;
@@ -78,7 +103,8 @@ pub(crate) fn month_and_day(days: u32) -> (u8, u8) {
 }
 
 /// Returns the year, the month and the day of the month `days` days after 1 March of `year`.
-pub(crate) fn parts_from_march(year: i64, days: u32) -> (i64, u8, u8) {
+#[inline]
+pub(crate) const fn parts_from_march(year: i64, days: u32) -> (i64, u8, u8) {
     let (month, day_of_month) = month_and_day(days);
     (
         if days < 306 { year } else { year + 1 },
@@ -89,18 +115,20 @@ pub(crate) fn parts_from_march(year: i64, days: u32) -> (i64, u8, u8) {
 
 /// Returns the year whose 1 March is the last one that is not after the day, and the days from
 /// there.
-pub(crate) fn march_year_of_day(day: i64) -> (i64, u32) {
+#[inline]
+pub(crate) const fn march_year_of_day(day: i64) -> (i64, u32) {
     let (era, days) = eras_in_days(day);
     let (years, rest) = march_year(days + DAYS_TO_EPOCH);
     (
-        i64::from(YEARS_PER_ERA) * era + (i64::from(years) + MARCH_YEAR_BEFORE_EPOCH),
+        YEARS_PER_ERA * era + (years as i64 + MARCH_YEAR_BEFORE_EPOCH),
         rest,
     )
 }
 
 /// Returns how many whole years there are in the `days` days from 1 March of the first year of an
 /// era, and the days that are left.
-fn march_year(days: u32) -> (u32, u32) {
+#[inline]
+const fn march_year(days: u32) -> (u32, u32) {
     let quarters = 4 * days + 3;
     let of_century = quarters % QUARTERS_PER_CENTURY / 4 * 4 + 3;
     (

@@ -16,7 +16,7 @@ use core::str::FromStr;
 ///
 /// assert_eq!("1900-02-29".parse::<Date>(), Err(DateError));
 /// ```
-#[derive(Debug, Clone, Copy, PartialEq, Eq)]
+#[derive(Debug, Clone, Copy, PartialEq, Eq, Hash)]
 pub struct DateError;
 
 /// [Contract](crate::definitions::contracts#display-for-calendardateerror)

@@ -85,6 +85,7 @@ impl Weekday {
     }
 
     /// Returns the number of days from a Sunday to this day of the week.
+    #[inline]
     pub(crate) fn days_after_sunday(self) -> u8 {
         self as u8
     }
@@ -105,7 +106,7 @@ impl Weekday {
 ///
 /// assert_eq!("Mon".parse::<Weekday>(), Err(WeekdayError));
 /// ```
-#[derive(Debug, Clone, Copy, PartialEq, Eq)]
+#[derive(Debug, Clone, Copy, PartialEq, Eq, Hash)]
 pub struct WeekdayError;
 
 /// [Contract](crate::definitions::contracts#display-for-calendarweekdayerror)
@@ -179,6 +180,7 @@ impl Date {
     ///
     /// [Contract](crate::definitions::contracts#calendardateweekday)
     #[must_use]
+    #[inline]
     pub fn weekday(&self) -> Weekday {
         // An era is a whole number of weeks, and its day 0 is a Tuesday.
         let (_, day) = self.day_of_era();
@@ -198,11 +200,13 @@ impl Date {
 ///
 /// [Contract](crate::definitions::contracts#calendarweekday_of)
 #[must_use]
+#[inline]
 pub fn weekday_of(day: i64) -> Weekday {
     weekday_after_sunday(mod_floor(day, 7) as u32 + 4)
 }
 
 /// Returns the day of the week `days` days after a Sunday.
+#[inline]
 fn weekday_after_sunday(days: u32) -> Weekday {
     match days % 7 {
         0 => Weekday::Sunday,

@@ -2,7 +2,7 @@
 //! in these files.
 
 use crate::outcome;
-use cellarcove::calendar::days_in_month;
+use cellarcove::calendar::{days_in_month, Date};
 use cellarcove::counted::{binomial_counted, extended_gcd_counted, GcdCounted, SqrtCounted};
 use cellarcove::modular::{self, Modular};
 use cellarcove::ratio64::Ratio;
@@ -384,6 +384,34 @@ fn models() {
     }
     // The one call that is not tested: the place of a number in a slice that does not increase is some place.
     assert!(halving::lower_bound(&[3, 1, 2], 2) <= 3);
+}
+
+#[test]
+fn dates() {
+    let first = Date::new(i64::MIN, 1, 1).unwrap();
+    let last = Date::new(i64::MAX, 12, 31).unwrap();
+    let (days, year, count) = (
+        "the number of days does not fit",
+        "the year of the date does not fit",
+        "the number of dates does not fit",
+    );
+    panics! {
+        days {
+            last - first;
+            first - last;
+        }
+        year {
+            last + 1;
+            first + -1;
+            last + i64::MAX;
+            first - 1;
+            last - -1;
+            last - i64::MIN;
+            { let mut date = last; date += 1; };
+            { let mut date = first; date -= 1; };
+        }
+        count { first.days_until(last).count(); }
+    }
 }
 
 /// What a call changes it leaves as it was where it panics.

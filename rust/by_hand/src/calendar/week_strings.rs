@@ -14,7 +14,7 @@ use core::str::FromStr;
 ///
 /// assert_eq!("2005-W53".parse::<IsoWeek>(), Err(IsoWeekError));
 /// ```
-#[derive(Debug, Clone, Copy, PartialEq, Eq)]
+#[derive(Debug, Clone, Copy, PartialEq, Eq, Hash)]
 pub struct IsoWeekError;
 
 impl fmt::Display for IsoWeekError {

@@ -1,21 +1,23 @@
-use Rattle.calendar.proofs.Common.{pos, FitsSigned, w64, arith, ints, to_z-of_z, floored_remainder_range, IsFloored}
+use Rattle.calendar.proofs.Common.{FitsSigned, w64, arith, rules, ints, to_z-of_z}
+use Rattle.calendar.proofs.Remainders.{euclidean}
 use Rattle.calendar.proofs.eras.groups_and_rest.Goals as goal
+
+pub overflow_cast-result : goal.overflow_cast-result
+overflow_cast-result c =
+    let n = c.ranges.n in
+    let size = c.ranges.size in
+    let fits : FitsSigned w64 c.rem_euclid.result = search rules in
+    let rest = simp to_z-of_z at c.rem_euclid.ensures in
+    let (is, from, below) = euclidean c.args.n c.args.size c.requires.from in
+    simp to_z-of_z (omega (arith, ints, rest, from, below, c.requires.below))
 
 pub returns : goal.returns
 returns c =
     let n = c.ranges.n in
     let size = c.ranges.size in
-    let size_fits : FitsSigned w64 (pos c.args.size) = omega (arith, ints) in
-    let (fits, rest_fits) = c.div_mod_floor-groups.ensures.in_range in
-    let division : IsFloored c.args.n (pos c.args.size) c.div_mod_floor-groups.result.0 c.div_mod_floor-groups.result.1 = simp (c.from.ensures, to_z-of_z) at c.div_mod_floor-groups.ensures.floored in
-    let range = floored_remainder_range (omega (arith, ints)) (record { quotient = c.div_mod_floor-groups.result.0; division = division }) in
-    simp to_z-of_z (record { place = omega (arith, ints, division.division.equation); below = omega (arith, ints) })
-
-pub overflow_cast-result : goal.overflow_cast-result
-overflow_cast-result c =
-    let size = c.ranges.size in
-    let (fits, rest_fits) = c.div_mod_floor-groups.ensures.in_range in
-    let size_fits : FitsSigned w64 (pos c.args.size) = omega (arith, ints) in
-    let division = simp (c.from.ensures, to_z-of_z) at c.div_mod_floor-groups.ensures.floored in
-    let range = floored_remainder_range (omega (arith, ints)) (record { quotient = c.div_mod_floor-groups.result.0; division = division }) in
-    simp to_z-of_z (omega (arith, ints))
+    let groups_fit : FitsSigned w64 c.div_euclid.result = search rules in
+    let rest_fits : FitsSigned w64 c.rem_euclid.result = search rules in
+    let groups = simp to_z-of_z at c.div_euclid.ensures in
+    let rest = simp to_z-of_z at c.rem_euclid.ensures in
+    let (is, from, below) = euclidean c.args.n c.args.size c.requires.from in
+    simp to_z-of_z (rw (groups, rest) (record { place = omega (arith, ints, is, from); below = omega (arith, ints, from, below) }))

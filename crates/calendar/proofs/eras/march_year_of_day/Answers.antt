@@ -1,4 +1,5 @@
-use Rattle.calendar.proofs.Common.{◌≡◌, ◌<◌, ◌+ℤ◌, ◌*ℤ◌, ℕ, ℤ, pos, FitsSigned, w64, arith, rules, ints, to_z-of_z}
+use Rattle.calendar.proofs.Common.{◌≡◌, ◌<◌, ◌+ℤ◌, ◌*ℤ◌, ℕ, ℤ, pos, FitsSigned, w64, arith, rules, to_z, ints, to_z-of_z}
+use Rattle.std.proofs.lemmas.Int.{to_z_pos}
 use Rattle.calendar.proofs.eras.march_year_of_day.Goals as goal
 use Rattle.calendar.proofs.eras.march_year_of_day.Goals.{After-march_year-years}
 
@@ -11,33 +12,34 @@ fitting : (day era : ℤ) (days years : ℕ) → FitsSigned w64 day → FitsSign
 fitting day era days years fits era_fits place below few = (era_fits, omega (arith, ints), omega (arith, ints), omega (arith, ints), omega (arith, ints), omega (arith, ints))
 
 placed : (c : After-march_year-years)
-    → (c.args.day ≡ pos 146097 *ℤ c.eras_in_days-era.result.0 +ℤ pos c.eras_in_days-era.result.1) × Fitting c.eras_in_days-era.result.0 c.march_year-years.result.0
+    → (c.args.day ≡ pos 146097 *ℤ c.eras_in_days-era.result.0 +ℤ pos c.eras_in_days-era.result.1) × (to_z w64 c.march_year-years.result.0 ≡ pos c.march_year-years.result.0)
+    × Fitting c.eras_in_days-era.result.0 c.march_year-years.result.0
 placed c =
     let day = c.ranges.day in
     let era : FitsSigned w64 c.eras_in_days-era.result.0 = search rules in
     let place = simp to_z-of_z at c.eras_in_days-era.ensures.place in
-    (place, fitting _ _ _ _ (search rules) era place c.eras_in_days-era.ensures.below c.march_year-years.ensures.small)
+    (place, to_z_pos w64 c.march_year-years.result.0 (omega (arith, c.march_year-years.ensures.small)), fitting _ _ _ _ (search rules) era place c.eras_in_days-era.ensures.below c.march_year-years.ensures.small)
 
 pub overflow_add-result-2 : goal.overflow_add-result-2
 overflow_add-result-2 c =
-    let (place, (era, scaled, years, shifted, whole, next)) = placed (goal.at.overflow_add-result-2 c).After-march_year-years in
-    simp (c.from.ensures, c.from-2.ensures, to_z-of_z) whole
+    let (place, cast, (era, scaled, years, shifted, whole, next)) = placed (goal.at.overflow_add-result-2 c).After-march_year-years in
+    simp (cast, to_z-of_z) whole
 
 pub returns : goal.returns
 returns c =
-    let (place, (era_fits, scaled, years, shifted, whole, next)) = placed (goal.at.returns c).After-march_year-years in
+    let (place, cast, (era_fits, scaled, years, shifted, whole, next)) = placed (goal.at.returns c).After-march_year-years in
     let era = c.eras_in_days-era.result.0 in
     let same : pos 400 *ℤ (era +ℤ pos 4) +ℤ pos c.march_year-years.result.0 ≡ pos 400 *ℤ era +ℤ (pos c.march_year-years.result.0 +ℤ pos 1600) = omega (arith, ints) in
     let march = rw same at (c.march_year-years.ensures.day (era +ℤ pos 4)) in
     let part = rw same at (c.march_year-years.ensures.within (era +ℤ pos 4)) in
-    simp (c.from.ensures, c.from-2.ensures, to_z-of_z) (record { day = omega (arith, ints, march, place); within = part; next_fits = next })
+    simp (cast, to_z-of_z) (record { day = omega (arith, ints, march, place); within = part; next_fits = next })
 
 pub overflow_mul-result : goal.overflow_mul-result
 overflow_mul-result c =
-    let (place, (era, scaled, years, shifted, whole, next)) = placed (goal.at.overflow_mul-result c).After-march_year-years in
-    simp (c.from.ensures, to_z-of_z) scaled
+    let (place, cast, (era, scaled, years, shifted, whole, next)) = placed (goal.at.overflow_mul-result c).After-march_year-years in
+    simp to_z-of_z scaled
 
 pub overflow_add-result : goal.overflow_add-result
 overflow_add-result c =
-    let (place, (era, scaled, years, shifted, whole, next)) = placed (goal.at.overflow_add-result c).After-march_year-years in
-    simp (c.from-2.ensures, to_z-of_z) shifted
+    let (place, cast, (era, scaled, years, shifted, whole, next)) = placed (goal.at.overflow_add-result c).After-march_year-years in
+    simp cast shifted

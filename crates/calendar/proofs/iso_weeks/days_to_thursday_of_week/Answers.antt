@@ -14,4 +14,4 @@ returns-clause-weekday c =
     let less_fits : FitsSigned w64 (pos c.args.week -ℤ pos 1) = omega (arith, ints) in
     let days_fit : FitsSigned w64 (pos 7 *ℤ (pos c.args.week -ℤ pos 1)) = omega (arith, ints) in
     let sum_fits : FitsSigned w64 (c.days_to_first_thursday.result +ℤ pos 7 *ℤ (pos c.args.week -ℤ pos 1)) = omega (arith, ints, range.0, range.1) in
-    simp (c.from.ensures, to_z-of_z) (is_thursday (pos c.args.week -ℤ pos 1 -ℤ first.quotient) (omega (arith, ints, equation)))
+    simp to_z-of_z (is_thursday (pos c.args.week -ℤ pos 1 -ℤ first.quotient) (omega (arith, ints, equation)))

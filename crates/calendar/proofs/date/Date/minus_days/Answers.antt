@@ -4,7 +4,7 @@ use Rattle.calendar.proofs.LaterEras.{later_or_none}
 use Rattle.calendar.proofs.date.Date.minus_days.Goals as goal
 
 -- the days and the eras fit
-fitting : {day rest : ℕ} {days : ℤ} (era eras : ℤ) → day < 2 ^ 19 → rest < 146097 → unsigned_abs era < 2 ^ 55 → FitsSigned w64 days
+fitting : {day rest : ℕ} {days : ℤ} (era eras : ℤ) → day < 2 ^ 30 → rest < 146097 → unsigned_abs era < 2 ^ 55 → FitsSigned w64 days
     → days ≡ pos 146097 *ℤ eras +ℤ pos rest
     → FitsSigned w64 (pos day) × FitsSigned w64 (pos rest) × FitsSigned w64 (pos day -ℤ pos rest) × FitsSigned w64 (pos day -ℤ pos rest -ℤ pos 865566) × FitsSigned w64 era × FitsSigned w64 (era -ℤ eras)
 fitting era eras day_below rest_below small fits place = (omega (arith, ints), omega (arith, ints), omega (arith, ints), omega (arith, ints), omega (arith, ints), omega (arith, ints))

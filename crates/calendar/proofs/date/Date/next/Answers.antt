@@ -1,8 +1,11 @@
-use Rattle.calendar.proofs.Common.{◌≡◌, ◌+◌, FitsSigned, w64, arith, of_z, rules, to_z, ints, to_z-of_z}
+use Rattle.calendar.proofs.Common.{ℕ, ◌≤◌, ◌≡◌, ◌+◌, FitsSigned, w64, arith, of_z, rules, to_z, to_z-of_z}
 use Rattle.calendar.specs.Months.{days_in_month}
 use Rattle.calendar.proofs.DateOrder.{last_of_year, next_month, next_year}
 use Rattle.calendar.proofs.MonthLengths.{month_length_range}
 use Rattle.calendar.proofs.date.Date.next.Goals as goal
+
+at_end : {day length : ℕ} → day ≤ length → length ≤ day → day ≡ length
+at_end to from = omega arith
 
 pub invariant_of-result-then-month-lt12 : goal.invariant_of-result-then-month-lt12
 invariant_of-result-then-month-lt12 c =
@@ -14,21 +17,14 @@ pub returns-then-month-lt12 : goal.returns-then-month-lt12
 returns-then-month-lt12 c =
     let date = c.args.self.now in
     let year : FitsSigned w64 date.year = search rules in
-    let days = simp to_z-of_z at c.days_in_month.ensures.days in
-    let last : date.day_of_month ≡ days_in_month date.year date.month = omega (arith, date.valid.day_to_last) in
+    let last : date.day_of_month ≡ days_in_month date.year date.month = at_end date.valid.day_to_last (c.ends_month.ensures.0 (cc)) in
     simp to_z-of_z (rw last (next_month date.year date.month date.valid.month_from_one c.if-month-lt12.true))
 
 pub returns-in_ok-checked_add : goal.returns-in_ok-checked_add
 returns-in_ok-checked_add c =
     let date = c.args.self.now in
     let year : FitsSigned w64 date.year = search rules in
-    let days = simp to_z-of_z at c.days_in_month.ensures.days in
-    let last = last_of_year date.valid (omega arith) (omega arith) in
+    let last = last_of_year date.valid (omega arith) (c.ends_month.ensures.0 (cc)) in
     let step = simp to_z-of_z at c.in_ok-checked_add.ensures in
     let fits = step.0 in
     rw (step.1, last.0, last.1) (simp to_z-of_z (next_year date.year))
-
-pub returns-then-self-days_in_month : goal.returns-then-self-days_in_month
-returns-then-self-days_in_month c =
-    let year : FitsSigned w64 c.args.self.now.year = search rules in
-    simp to_z-of_z (omega (arith, ints))

@@ -26,4 +26,4 @@ returns c =
     let (number, wide, sum) = fitting c.month_number.result c.args.months c.month_number.ensures.small c.ranges.months in
     let year : FitsSigned w64 c.in_ok-year.year = search rules in
     let (from, to, is) = simp (c.from.ensures, to_z-of_z) at c.in_ok-year.ensures in
-    record { month_is = simp to_z-of_z (omega (arith, ints, is)); day_is = rw c.days_in_month.ensures.days at c.min.ensures }
+    record { month_is = simp to_z-of_z (omega (arith, ints, is)); day_is = rw c.length_of_month.ensures.days at c.min.ensures }

@@ -6,7 +6,7 @@ pub returns-then-month-gt1 : goal.returns-then-month-gt1
 returns-then-month-gt1 c =
     let date = c.args.self.now in
     let year : FitsSigned w64 date.year = search rules in
-    let days = simp to_z-of_z at c.days_in_month.ensures.days in
+    let days = simp to_z-of_z at c.length_of_month.ensures.days in
     let first : date.day_of_month ≡ 1 = omega (arith, date.valid.day_from_one) in
     let month : date.month - 1 + 1 ≡ date.month = omega arith in
     let step = rw month at (next_month date.year (date.month - 1) (omega arith) (omega (arith, date.valid.month_to_twelve))) in

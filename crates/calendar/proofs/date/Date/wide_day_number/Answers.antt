@@ -2,7 +2,7 @@ use Rattle.calendar.proofs.Common.{pos, ◌+ℤ◌, ◌*ℤ◌, ◌-ℤ◌, ◌<
 use Rattle.calendar.proofs.date.Date.wide_day_number.Goals as goal
 
 -- the day and its parts fit 128 bits
-fitting : (era : ℤ) (day : ℕ) → unsigned_abs era < 2 ^ 55 → day < 2 ^ 19
+fitting : (era : ℤ) (day : ℕ) → unsigned_abs era < 2 ^ 55 → day < 2 ^ 30
     → FitsSigned w64 era × FitsSigned w128 era × FitsSigned w128 (pos day) × FitsSigned w128 (pos 146097 *ℤ era) × FitsSigned w128 (pos 146097 *ℤ era +ℤ pos day) × FitsSigned w128 (pos 146097 *ℤ era +ℤ pos day -ℤ pos 865566)
 fitting era day era_small day_small = (omega (arith, ints), omega (arith, ints), omega (arith, ints), omega (arith, ints), omega (arith, ints), omega (arith, ints))
 
@@ -26,7 +26,7 @@ returns-clause-value c =
     let (era, era_wide, day, product, sum, whole) = fitting c.day_of_era-era.result.0 c.day_of_era-era.result.1 c.day_of_era-era.ensures.small c.day_of_era-era.ensures.below in
     simp (c.from.ensures, c.from-2.ensures, c.from-3.ensures, c.from-4.ensures, to_z-of_z) (sym c.day_of_era-era.ensures.number)
 
-small : (era : ℤ) (day : ℕ) → unsigned_abs era < 2 ^ 55 → day < 2 ^ 19 → unsigned_abs (pos 146097 *ℤ era +ℤ pos day -ℤ pos 865566) < 2 ^ 73
+small : (era : ℤ) (day : ℕ) → unsigned_abs era < 2 ^ 55 → day < 2 ^ 30 → unsigned_abs (pos 146097 *ℤ era +ℤ pos day -ℤ pos 865566) < 2 ^ 73
 small era day era_small day_small = omega (arith, ints)
 
 pub returns-clause-small : goal.returns-clause-small
