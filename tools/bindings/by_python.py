@@ -88,6 +88,43 @@ def is_power(x: int, degree: int) -> bool:
     return (x > 0 or degree % 2 == 1) and signed_root(x, degree) ** degree == x
 
 
+def ilog(_: Pair, x: int, base: int) -> Result:
+    if x < 1 or base < 2:
+        return OUTSIDE
+    degree = 0
+    while base ** (degree + 1) <= x:
+        degree += 1
+    return (degree,)
+
+
+def reduced(_: Pair, x: int, y: int) -> Result:
+    gcd = math.gcd(x, y) or 1
+    return toward_zero(x, gcd), toward_zero(y, gcd)
+
+
+def falling(n: int, k: int) -> int:
+    """The number of rows of k of n things. If it is above 2**64, it may be another such number."""
+    return 0 if k > n else math.prod(range(n, n - min(k, WIDEST_CHOICE), -1))
+
+
+def pages(make: Callable[..., tuple[int, ...]]) -> Model:
+    """A call whose second number is a page size."""
+    return lambda bounds, x, size, *items: fitting(bounds, *make(x, size, *items)) if size > 0 and min(items, default=0) >= 0 else OUTSIDE
+
+
+def range_of_page(page: int, size: int, items: int) -> Pair:
+    first, end = max(0, page * size), min(items, (page + 1) * size)
+    return (first, end) if first < end else (items, items)
+
+
+def range_of_part(_: Pair, part: int, parts: int, items: int) -> Result:
+    if not 0 <= part < parts or items < 0:
+        return OUTSIDE
+    size, longer = divmod(items, parts)
+    first = part * size + min(part, longer)
+    return first, first + size + (part < longer)
+
+
 def coefficient(n: int, k: int) -> int:
     """The number of choices of k of n things. If it is above 2**64, it may be another such number."""
     if k > n:
@@ -240,6 +277,19 @@ def away_from_zero(x: Fraction) -> int:
     return size if x >= 0 else -size
 
 
+def power(a: Fraction, exponent: int) -> Result:
+    if a == 0 and exponent < 0:
+        return ZERO_DENOMINATOR
+    if abs(exponent) > 64 and abs(a) not in (0, 1):
+        return NOT_FITTING
+    return parts(Fraction(a ** (exponent % 2 + 2 if abs(a) == 1 else exponent)))
+
+
+def to_parts(make: Callable[[Fraction], int]) -> Model:
+    """A call of a fraction and of a number of parts, to which it is rounded."""
+    return lambda bounds, pair, count: OUTSIDE if count <= 0 else of_fractions(lambda a: parts(Fraction(make(a * count), count)))(bounds, pair)
+
+
 def limit_denominator(bounds: Pair, pair: Pair, most: int) -> Result:
     return OUTSIDE if most <= 0 else of_fractions(lambda a: parts(a.limit_denominator(most)))(bounds, pair)
 
@@ -318,6 +368,24 @@ def months_between(_: Pair, start: Triple, end: Triple) -> Result:
     return fitting(I64, months - (months_later(start, months) > end))
 
 
+def years_between(_: Pair, start: Triple, end: Triple) -> Result:
+    years = end[0] - start[0]
+    return fitting(I64, years - (months_later(start, 12 * years) > end))
+
+
+def date_from_year_day(_: Pair, year: int, day: int) -> Result:
+    first = valid(year, 1, 1)
+    found = first + datetime.timedelta(day - 1) if day else first
+    return dated(year, found) if day and found.year == first.year else NO_DATE
+
+
+def near_weekday(step: int) -> Model:
+    """The first day from one on, or the last day up to one, that is a day of the week."""
+    def result(_: Pair, day: int, weekday: int) -> Result:
+        return fitting(I64, day + step * (step * (weekday - (day + 3) % 7 - 1) % 7)) if 1 <= weekday <= 7 else OUTSIDE
+    return result
+
+
 def iso_week(_: Pair, parts_of_date: Triple) -> Result:
     year, week = valid(*parts_of_date).isocalendar()[:2]
     return within((year + parts_of_date[0] - near(parts_of_date[0]), week))
@@ -372,6 +440,8 @@ RESULTS: dict[str, Model] = {
     'div_rem': divided(toward_zero, lambda x, y: x - toward_zero(x, y) * y),
     'div_floor': divided(operator.floordiv),
     'div_ceil': divided(ceil),
+    'div_round': divided(lambda x, y: away_from_zero(Fraction(x, y))),
+    'div_round_even': divided(lambda x, y: round(Fraction(x, y))),
     'mod_floor': divided(operator.mod),
     'div_mod_floor': divided(operator.floordiv, operator.mod),
     'product_div_mod_floor': lambda bounds, a, b, d: fitting(bounds, *divmod(a * b, d)) if d else OUTSIDE,
@@ -388,6 +458,19 @@ RESULTS: dict[str, Model] = {
     'sqrt': lambda _, x: OUTSIDE if x < 0 else (math.isqrt(x),),
     'cbrt': lambda _, x: (signed_root(x, 3),),
     'nth_root': lambda _, x, n: OUTSIDE if n == 0 or (x < 0 and n % 2 == 0) else (signed_root(x, n),),
+    'sqrt_rem': lambda _, x: OUTSIDE if x < 0 else (math.isqrt(x), x - math.isqrt(x) ** 2),
+    'ilog': ilog,
+    'is_coprime': lambda _, x, y: (int(math.gcd(x, y) == 1),),
+    'reduced': reduced,
+    'factorial': lambda bounds, n: OUTSIDE if n < 0 else fitting(bounds, falling(n, n)),
+    'falling': lambda bounds, n, k: OUTSIDE if n < 0 or k < 0 else fitting(bounds, falling(n, k)),
+    'pages': pages(lambda items, size: (ceil(items, size),)),
+    'place_of': pages(divmod),
+    'item_at': lambda bounds, page, place, size: fitting(bounds, page * size + place) if 0 <= place < size else OUTSIDE,
+    'range_of_page': pages(range_of_page),
+    'range_of_part': range_of_part,
+    'align_up': pages(lambda offset, alignment: (ceil(offset, alignment) * alignment,)),
+    'padding': pages(lambda offset, alignment: (-offset % alignment,)),
     'is_square': lambda _, x: (int(is_power(x, 2)),),
     'is_power': lambda _, x, degree: (int(is_power(x, degree)),),
     'is_perfect_power': lambda _, x: (int(any(is_power(x, degree) for degree in range(2, 65))),),
@@ -395,6 +478,8 @@ RESULTS: dict[str, Model] = {
     'multinomial': multinomial,
     'rank': rank,
     'choice_of_rank': choice_of_rank,
+    'residue': modulo(operator.pos),
+    'negation_modulo': modulo(operator.neg),
     'sum_modulo': modulo(operator.add),
     'difference_modulo': modulo(operator.sub),
     'product_modulo': modulo(operator.mul),
@@ -414,7 +499,17 @@ RESULTS: dict[str, Model] = {
     'fraction_mul': of_fractions(lambda a, b: parts(a * b)),
     'fraction_div': of_fractions(quotient),
     'fraction_cmp': of_fractions(lambda a, b: ((a > b) - (a < b),)),
+    'fraction_recip': of_fractions(lambda a: quotient(Fraction(1), a)),
+    'fraction_neg': of_fractions(lambda a: parts(-a)),
+    'fraction_abs': of_fractions(lambda a: parts(abs(a))),
+    'fraction_pow': of_fractions(power),
+    'fraction_times': of_fractions(lambda a, n, d: ZERO_DENOMINATOR if d == 0 else parts(a * Fraction(n, d))),
     'fraction_limit_denominator': limit_denominator,
+    'fraction_trunc': of_fractions(lambda a: (math.trunc(a),)),
+    'fraction_fract': of_fractions(lambda a: parts(a - math.trunc(a))),
+    'fraction_floor_to': to_parts(math.floor),
+    'fraction_ceil_to': to_parts(math.ceil),
+    'fraction_round_to': to_parts(away_from_zero),
     'fraction_floor': of_fractions(lambda a: (math.floor(a),)),
     'fraction_ceil': of_fractions(lambda a: (math.ceil(a),)),
     'fraction_round': of_fractions(lambda a: (away_from_zero(a),)),
@@ -425,6 +520,12 @@ RESULTS: dict[str, Model] = {
     'day_from_date': of_dates(lambda days, _: fitting(I64, *days)),
     'plus_months': of_dates(lambda _, parts_of_date, months: within(months_later(parts_of_date, months))),
     'months_between': of_dates(months_between),
+    'years_between': of_dates(years_between),
+    'date_from_year_day': date_from_year_day,
+    'weekday_of_date': of_dates(lambda _, found: (valid(*found).isoweekday(),)),
+    'first_weekday_on_or_after': near_weekday(1),
+    'last_weekday_on_or_before': near_weekday(-1),
+    'days_in_year': lambda _, year: (365 + int(days_in(year, 2) == 29),),
     'iso_week': of_dates(iso_week),
     'date_from_iso_week': date_from_iso_week,
     'easter': easter,
