@@ -63,8 +63,6 @@ class Eraser(Deletion):
         documentation.add_sections(self, item, owner)
         if item.kind == 'struct':
             self.struct(item)
-        if item.kind == 'fn':
-            self.parameters(item)
 
     def key(self, item: Item) -> tuple[str, str, str]:
         return self.crate, '/'.join(self.module.path), item.name
@@ -151,15 +149,6 @@ class Eraser(Deletion):
         for field in item.fields:
             if field.public and not field.ghost and has_invariant and self.library.place_of(self.module, item) is not None:
                 self.write(field.place - 1, 'pub(crate)' if self.crate in AT_ROOT else f'pub(in crate::{self.crate})')
-
-    def parameters(self, item: Item) -> None:
-        """A parameter that only a clause names is unused in Rust."""
-        names = {self.at(k) for k in range(*self.source.parameters(item))
-                 if self.kind(k) == 'word' and self.at(k + 1) == ':' and self.at(k + 2) != ':'}
-        clauses = {self.at(k) for clause in item.clauses for k in range(clause.first, clause.last)}
-        body = {self.at(k) for k in range(item.open, item.last)} if item.open else names
-        if names & clauses - body:
-            self.put_before(item.first, '#[allow(unused_variables)] // its contract alone names a parameter\n')
 
     # ---- code
 
