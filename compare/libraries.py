@@ -4,13 +4,12 @@ crates/replay/src/tests/libraries.rt. `tools/cellarcove make python` writes it.
 Each function stands beside the one of its name in crates/replay, and goes over the same inputs in the same order. Most results are
 those of tools/bindings/by_python.py, with which the exports are compared too.
 """
-import math
 from collections.abc import Callable, Iterable, Iterator, Sequence
 from fractions import Fraction
 from itertools import combinations
 
 from tools.bindings import by_python as model
-from tools.bindings.by_python import Pair, Result, Triple
+from tools.bindings.by_python import Pair, Result
 
 MASK = (1 << 64) - 1
 FACTOR = 0x517CC1B727220A95
@@ -105,21 +104,34 @@ TYPES = {
 }
 
 
-# The calls of modular. Each takes the ends of the type first.
+# A call, and what makes its result: a name in by_python.py, and letters for the arguments.
+Calls = dict[str, str]
+LETTERS = "abmsxynz"                            # numbers, a modulus and a size; fractions, a number and 0
 
-OF_ONE_MODULUS: dict[str, model.Model] = {
-    "Residue": lambda _, a, b, m: (a % m,),
-    "Negation": lambda _, a, b, m: (-a % m,),
-    "Sum": model.RESULTS["sum_modulo"],
-    "Difference": model.RESULTS["difference_modulo"],
-    "Product": model.RESULTS["product_modulo"],
-    "Power": lambda ends, a, b, m: model.power_modulo(ends, a, abs(b), m),
-    "Inverse": lambda ends, a, b, m: model.quotient_modulo(ends, 1, a, m),
-    "Quotient": model.quotient_modulo,
-    "Solutions": model.solutions,
-    "Next": model.next_congruent,
-    "Previous": model.previous_congruent,
-    "CountCongruent": lambda ends, a, b, m: model.count_congruent(ends, a, b, a, m),
+
+def model_of(words: str) -> Callable[..., Result]:
+    """What makes the result of the ends of the type and of the arguments of all letters from the first one of the words on."""
+    name, *letters = words.split()
+    made, first = model.RESULTS[name], LETTERS.index("a" if letters[0] in "abms" else "x")
+    places = [LETTERS.index(letter) - first for letter in letters]
+    return lambda ends, *arguments: made(ends, *[arguments[place] for place in places])
+
+
+# The calls of modular.
+
+OF_ONE_MODULUS: Calls = {
+    "Residue": "residue a m",
+    "Negation": "negation_modulo a m",
+    "Sum": "sum_modulo a b m",
+    "Difference": "difference_modulo a b m",
+    "Product": "product_modulo a b m",
+    "Power": "power_modulo a s m",
+    "Inverse": "inverse_modulo a m",
+    "Quotient": "quotient_modulo a b m",
+    "Solutions": "solutions a b m",
+    "Next": "next_congruent a b m",
+    "Previous": "previous_congruent a b m",
+    "CountCongruent": "count_congruent a b a m",
 }
 
 
@@ -128,9 +140,9 @@ def next_common_solution(ends: Pair, a: int, m: int, b: int, n: int) -> Numbers:
     return (BEYOND,) if found == model.NOT_FITTING else found
 
 
-def of_one_modulus(shape: Shape, call: model.Model) -> Answered:
-    numbers = shape.spread(36)
-    return Answered(((a, b, m), call(shape.bounds, a, b, m)) for a in numbers for b in numbers for m in numbers if m > 0)
+def of_one_modulus(shape: Shape, words: str) -> Answered:
+    numbers, call = shape.spread(36), model_of(words)
+    return Answered(((a, b, m), call(shape.bounds, a, b, m, abs(b))) for a in numbers for b in numbers for m in numbers if m > 0)
 
 
 def of_two_moduli(shape: Shape, call: Callable[..., Numbers]) -> Answered:
@@ -141,81 +153,72 @@ def of_two_moduli(shape: Shape, call: Callable[..., Numbers]) -> Answered:
 
 def residue_lines() -> Iterator[Line]:
     for name, shape in TYPES.items():
-        for call, function in OF_ONE_MODULUS.items():
-            yield name, call, of_one_modulus(shape, function)
+        for call, words in OF_ONE_MODULUS.items():
+            yield name, call, of_one_modulus(shape, words)
         yield name, "ChineseRemainder", of_two_moduli(shape, model.chinese_remainder)
         yield name, "NextSolution", of_two_moduli(shape, next_common_solution)
 
 
-# The calls of ratio64.
+# The calls of ratio64. Of those in COUNTED, that there is no result is counted too.
 
-def parts(x: Fraction) -> Pair:
-    return x.numerator, x.denominator
-
-
-def answer(x: Fraction | None) -> Numbers:
-    """The parts of a fraction, or what is counted if they do not fit or there is none."""
-    if x is None:
-        return (BEYOND,)
-    found = model.parts(x)
-    return found if isinstance(found, tuple) else (NOT_FITTING,)
-
-
-def sign(x: Fraction) -> int:
-    return (x > 0) - (x < 0)
-
-
-def power(x: Fraction, n: int) -> Fraction | None:
-    """The power, or None if there is none. One that is sure not to fit is not computed."""
-    if x == 0:
-        return None if n < 0 else Fraction(int(n == 0))
-    if abs(x) == 1:
-        return Fraction(x ** (n % 2))
-    return Fraction(x**n) if abs(n) <= 64 else Fraction(1 << 64)
-
-
-ONE_FRACTION: dict[str, Callable[[Fraction], Numbers]] = {
-    "Rounded": lambda x: (math.floor(x), math.ceil(x), math.trunc(x), model.away_from_zero(x)),
-    "Fract": lambda x: parts(x - math.trunc(x)),
-    "Sign": lambda x: (sign(x), 1),
-    "Negation": lambda x: answer(-x),
-    "Magnitude": lambda x: answer(abs(x)),
-    "Reciprocal": lambda x: answer(1 / x if x else None),
+COUNTED = {"Negation", "Magnitude", "Reciprocal", "Power", "Sum", "Difference", "Product", "Quotient"}
+ONE_FRACTION: Calls = {
+    "Rounded": "fraction_floor x, fraction_ceil x, fraction_trunc x, fraction_round x",
+    "Fract": "fraction_fract x",
+    "Sign": "fraction_cmp x z",
+    "Negation": "fraction_neg x",
+    "Magnitude": "fraction_abs x",
+    "Reciprocal": "fraction_recip x",
 }
-
-FRACTION_AND_NUMBER: dict[str, Callable[[Fraction, int], Numbers]] = {
-    "Power": lambda x, n: answer(power(x, n)) if -(1 << 31) <= n < 1 << 31 else None,
-    "FloorTimes": lambda x, n: model.fitting(model.I64, math.floor(x * n)),
-    "CeilTimes": lambda x, n: model.fitting(model.I64, math.ceil(x * n)),
-    "RoundTimes": lambda x, n: model.fitting(model.I64, model.away_from_zero(x * n)),
-    "Limited": lambda x, n: parts(x.limit_denominator(n)) if n > 0 else None,
+FRACTION_AND_NUMBER: Calls = {
+    "Power": "fraction_pow x n",
+    "FloorTimes": "fraction_floor_times x n",
+    "CeilTimes": "fraction_ceil_times x n",
+    "RoundTimes": "fraction_round_times x n",
+    "Limited": "fraction_limit_denominator x n",
 }
-
-TWO_FRACTIONS: dict[str, Callable[[Fraction, Fraction], Numbers]] = {
-    "Sum": lambda x, y: answer(x + y),
-    "Difference": lambda x, y: answer(x - y),
-    "Product": lambda x, y: answer(x * y),
-    "Quotient": lambda x, y: answer(x / y if y else None),
-    "Order": lambda x, y: (sign(x - y),),
+TWO_FRACTIONS: Calls = {
+    "Sum": "fraction_add x y",
+    "Difference": "fraction_sub x y",
+    "Product": "fraction_mul x y",
+    "Quotient": "fraction_div x y",
+    "Order": "fraction_cmp x y",
 }
 
 
-def fractions_of(numbers: Sequence[int]) -> list[Fraction]:
-    """The fractions of each two of the numbers, where there is one whose parts fit."""
-    found = (Fraction(num, den) for num in numbers for den in numbers if den)
-    return [x for x in found if isinstance(model.parts(x), tuple)]
+def of_fractions(call: str, words: str, inputs: Iterable[tuple[tuple[int, ...], Pair, Pair, int]]) -> Answered:
+    """What is counted of a call: its results, or why there are none. A sign is a fraction."""
+    models = [model_of(each) for each in words.split(",")]
+
+    def counted(x: Pair, y: Pair, n: int) -> Numbers:
+        if call == "Power" and not -(1 << 31) <= n < 1 << 31:
+            return None
+        found: list[int] = []
+        for made in models:
+            part = made(model.I64, x, y, n, (0, 1))
+            if isinstance(part, int):
+                return (BEYOND if part == model.ZERO_DENOMINATOR else NOT_FITTING,) if call in COUNTED else None
+            found += part
+        return (*found, *[1] * (call == "Sign"))
+    return Answered((arguments, counted(x, y, n)) for arguments, x, y, n in inputs)
+
+
+def fractions_of(numbers: Sequence[int]) -> list[Pair]:
+    """The parts of the fraction of each two of the numbers, where there is one whose parts fit."""
+    found = (Fraction(num, den).as_integer_ratio() for num in numbers for den in numbers if den)
+    return [x for x in found if isinstance(model.fitting(model.I64, *x), tuple)]
 
 
 def fraction_lines() -> Iterator[Line]:
     for bits in (16, 32, 64):
         numbers = signed(bits).spread(52)
         all_fractions, few = fractions_of(numbers), fractions_of(signed(bits).spread(16))
-        for call, of_one in ONE_FRACTION.items():
-            yield bits, call, Answered((parts(x), of_one(x)) for x in all_fractions)
-        for call, with_number in FRACTION_AND_NUMBER.items():
-            yield bits, call, Answered(((*parts(x), n), with_number(x, n)) for x in few for n in numbers)
-        for call, of_two in TWO_FRACTIONS.items():
-            yield bits, call, Answered(((*parts(x), *parts(y)), of_two(x, y)) for x in few for y in few)
+        for call, words in ONE_FRACTION.items():
+            yield bits, call, of_fractions(call, words, ((x, x, x, 0) for x in all_fractions))
+        for call, words in FRACTION_AND_NUMBER.items():
+            yield bits, call, of_fractions(call, words, (((*x, n), x, x, n) for x in few for n in numbers))
+        for call, words in TWO_FRACTIONS.items():
+            yield bits, call, of_fractions(call, words, (((*x, *y), x, y, 0) for x in few for y in few))
 
 
 # The calls of calendar.
@@ -244,11 +247,6 @@ def nearest_weekdays(n: int) -> Numbers:
         next(d for d in range(n, n + 7 * step, step) if (d + 3) % 7 + 1 == weekday) for weekday in range(1, 8) for step in (1, -1)))
 
 
-def years_between(start: Triple, end: Triple) -> int:
-    count = end[0] - start[0]
-    return count - (model.months_later(start, 12 * count) > end)
-
-
 OF_NUMBER: dict[str, Callable[[int], Numbers]] = {
     "Day": day,
     "Year": year,
@@ -262,7 +260,7 @@ OF_TWO_NUMBERS: dict[str, Callable[[int, int], Result]] = {
     "PlusMonths": lambda d, n: model.within(model.months_later(model.of_day(d), n)),
     "DaysBetween": lambda d, n: model.fitting(model.I64, n - d),
     "MonthsBetween": lambda d, n: model.months_between(model.I64, model.of_day(d), model.of_day(n)),
-    "YearsBetween": lambda d, n: model.fitting(model.I64, years_between(model.of_day(d), model.of_day(n))),
+    "YearsBetween": lambda d, n: model.years_between(model.I64, model.of_day(d), model.of_day(n)),
 }
 
 
@@ -278,31 +276,21 @@ def date_lines() -> Iterator[Line]:
 
 # The calls of applied.
 
-def range_of_page(page: int, size: int, items: int) -> Result:
-    first = min(page * size, items) if page >= 0 else items
-    return first, min(first + size, items)
-
-
-def range_of_part(part: int, parts_wanted: int, items: int) -> Result:
-    size, longer = divmod(items, parts_wanted)
-    return tuple(size * k + min(k, longer) for k in (part, part + 1))
-
-
-MODELS: dict[str, model.Model] = {
-    "Pages": lambda _, a, b, m: (-(-a // m),),
-    "PlaceOf": lambda _, a, b, m: (a // m, a % m),
-    "RangeOfPage": lambda _, a, b, m: range_of_page(a, m, b) if b >= 0 else model.OUTSIDE,
-    "RangeOfPart": lambda _, a, b, m: range_of_part(a, m, b) if 0 <= a < m and b >= 0 else model.OUTSIDE,
-    "AlignUp": lambda ends, a, b, m: model.fitting(ends, -(-a // m) * m),
-    "Padding": lambda _, a, b, m: (-a % m,),
-    "Midpoint": lambda _, a, b, m: ((a + b) // 2,),
+MODELS: Calls = {
+    "Pages": "pages a m",
+    "PlaceOf": "place_of a m",
+    "RangeOfPage": "range_of_page a m b",
+    "RangeOfPart": "range_of_part a m b",
+    "AlignUp": "align_up a m",
+    "Padding": "padding a m",
+    "Midpoint": "average_floor a b",
 }
 
 
 def model_lines() -> Iterator[Line]:
     for name in ("I64", "U64"):
-        for call, function in MODELS.items():
-            yield name, call, of_one_modulus(TYPES[name], function)
+        for call, words in MODELS.items():
+            yield name, call, of_one_modulus(TYPES[name], words)
 
 
 def ranked_choices() -> Iterator[tuple[Sequence[int], Numbers]]:

@@ -52,8 +52,6 @@ class Eraser(Deletion):
         documentation.add_sections(self, item, owner)
         if item.kind == 'struct':
             self.struct(item)
-        if item.kind == 'fn':
-            self.parameters(item)
 
     def only_returns(self, item: Item, owner: Item | None) -> bool:
         """Whether a call of the item is of no use where its result is not used: a public function that changes nothing.
@@ -122,15 +120,6 @@ class Eraser(Deletion):
             if self.kind(k + 1) == 'word' and self.at(k + 2) == ':':
                 self.drop(k + 2, stop - 1)
             k = stop
-
-    def parameters(self, item: Item) -> None:
-        """A parameter that only a clause names is unused in Rust."""
-        names = {self.at(k) for k in range(*self.source.parameters(item))
-                 if self.kind(k) == 'word' and self.at(k + 1) == ':' and self.at(k + 2) != ':'}
-        clauses = {self.at(k) for clause in item.clauses for k in range(clause.first, clause.last)}
-        body = {self.at(k) for k in range(item.open, item.last)} if item.open else names
-        if names & clauses - body:
-            self.put_before(item.first, '#[allow(unused_variables)] // its contract alone names a parameter\n')
 
     # ---- code
 

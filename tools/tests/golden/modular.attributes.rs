@@ -9,7 +9,6 @@ pub trait Halved {
     fn halve(&mut self);
 }
 
-#[allow(unused_variables)] // its contract alone names a parameter
 #[allow(clippy::manual_div_ceil)] // as it was proved
 fn half(x: u64, limit: u64) -> u64 {
     #[allow(unused)]

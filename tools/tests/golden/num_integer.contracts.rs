@@ -25,14 +25,12 @@ impl Number {
         self.value
     }
 
-    #[allow(unused_variables)] // its contract alone names a parameter
     fn lowered(mut self, by: u64) -> Self {
         self.value -= 1;
         self
     }
 }
 
-#[allow(unused_variables)] // its contract alone names a parameter
 fn last(items: &[u64], least: u64) -> u64 {
     let mut i = 0;
     while i < items.len() {
