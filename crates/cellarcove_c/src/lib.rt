@@ -24,5 +24,6 @@ mod roots;
 mod rounding;
 mod schedules;
 mod several_congruences;
+mod shares;
 mod weekdays;
 mod years;

@@ -2,15 +2,15 @@
 
 ghost use Rattle.std.specs.Prelude.{◌≡◌, ◌⊎◌, ◌↔◌, ◌<ℤ◌, ◌≤ℤ◌, pos, FitsSigned};
 ghost use Rattle.std.specs.Int.{FitsUnsignedBits, w64};
-ghost use Rattle.applied.specs.Schedules.{IsMeeting};
+ghost use Rattle.applied.specs.Schedules.{IsCountOfTimes, IsMeeting};
 ghost use Rattle.modular.specs.CommonSolutions.{MatchCommonSolution};
 ghost use Rattle.num_integer.specs.Least.{IsLeastFrom};
 ghost use Rattle.cellarcove_c.specs.Answers.{Refuses};
-ghost use Rattle.cellarcove_c.specs.Congruences.{IsBeyond, IsNever, IsReasonOfCongruences};
+ghost use Rattle.cellarcove_c.specs.Congruences.{I64Congruent, IsBeyond, IsNever, IsReasonOfCongruences, U64Congruent};
 ghost use Rattle.cellarcove_c.specs.Statuses.{bad_modulus, common_solution_of};
 
-use crate::answers::{BAD_MODULUS, I64Answer, U64Answer};
-use applied::schedules::next_meeting;
+use crate::answers::{BAD_MODULUS, I64Answer, NOT_FITTING, U64Answer};
+use applied::schedules::{count, next_meeting};
 
 /// Returns the first time, not before `now`, that is in two schedules. One has the times `a`, `a + p`,
 /// `a + 2 * p` and so on, and the other those of `b` and `q`. For 10, 1, 4, 3 and 6 it is 21.
@@ -53,4 +53,34 @@ pub extern "C" fn cellarcove_next_meeting_u64(now: u64, a: u64, p: u64, b: u64, 
         return U64Answer::none(BAD_MODULUS);
     }
     U64Answer::of_common(next_meeting(now, (a, p), (b, q)))
+}
+
+/// Returns how many times of a schedule are in the range of numbers between `from` and `to`, and at them.
+/// The schedule has the times `first`, `first + period` and so on. For 4, 15, 3 and 6 it is 2.
+///
+/// `BAD_MODULUS` if `period` is not positive. `NOT_FITTING` if the count does not fit.
+#[unsafe(no_mangle)]
+pub extern "C" fn cellarcove_count_times_i64(from: i64, to: i64, first: i64, period: i64) -> I64Answer
+    ensures { I64Congruent period
+        (IsCountOfTimes from to first period) result }
+{
+    if period <= 0 {
+        return I64Answer::none(BAD_MODULUS);
+    }
+    I64Answer::of(count(from, to, (first, period)), NOT_FITTING)
+}
+
+/// Returns how many times of a schedule are in the range of numbers between `from` and `to`, and at them.
+/// The schedule has the times `first`, `first + period` and so on. For 4, 15, 3 and 6 it is 2.
+///
+/// `BAD_MODULUS` if `period` is 0. `NOT_FITTING` if the count does not fit.
+#[unsafe(no_mangle)]
+pub extern "C" fn cellarcove_count_times_u64(from: u64, to: u64, first: u64, period: u64) -> U64Answer
+    ensures { U64Congruent (pos period)
+        (IsCountOfTimes (pos from) (pos to) (pos first) (pos period)) result }
+{
+    if period == 0 {
+        return U64Answer::none(BAD_MODULUS);
+    }
+    U64Answer::of(count(from, to, (first, period)), NOT_FITTING)
 }
