@@ -39,5 +39,6 @@ mod roots;
 mod rounding;
 mod schedules;
 mod several_congruences;
+mod shares;
 mod weekdays;
 mod years;
