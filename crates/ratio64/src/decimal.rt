@@ -9,6 +9,7 @@ use std::fmt;
 
 /// A decimal number with at most 18 places, as [`Ratio::to_decimal`] returns it: an amount of money, say.
 /// Two are equal if they have the same digits, so 0.5 is not 0.50.
+/// `Ratio::new(1234, 5).unwrap().to_decimal(2).unwrap().to_string()` is `"246.80"`.
 #[derive(Debug, Clone, Copy, PartialEq, Eq, Hash)]
 pub struct Decimal {
     units: i128,

@@ -8,6 +8,14 @@ use core::fmt;
 /// A decimal number with at most 18 places, as [`Ratio::to_decimal`] returns it: an amount of
 /// money, say. Two are equal if they have the same digits, so 0.5 is not 0.50.
 ///
+/// # Examples
+///
+/// ```
+/// use cellarcove::ratio64::Ratio;
+///
+/// assert_eq!(Ratio::new(1234, 5).unwrap().to_decimal(2).unwrap().to_string(), "246.80");
+/// ```
+///
 /// [Contract](crate::definitions::contracts#ratio64decimal)
 #[derive(Debug, Clone, Copy, PartialEq, Eq, Hash)]
 pub struct Decimal {
