@@ -70,7 +70,7 @@ impl AddAssign<i64> for Date {
     ///
     /// In plain Rust, if the year of the date does not fit in `i64`.
     fn add_assign(&mut self, days: i64) {
-        *self = *self + days;
+        *self = self.add(days);
     }
 }
 
@@ -84,6 +84,6 @@ impl SubAssign<i64> for Date {
     ///
     /// In plain Rust, if the year of the date does not fit in `i64`.
     fn sub_assign(&mut self, days: i64) {
-        *self = *self - days;
+        *self = self.sub(days);
     }
 }

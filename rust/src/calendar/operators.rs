@@ -74,8 +74,9 @@ impl AddAssign<i64> for Date {
     /// # Panics
     ///
     /// If the year of the date does not fit in `i64`.
+    #[track_caller]
     fn add_assign(&mut self, days: i64) {
-        *self = *self + days;
+        *self = self.add(days);
     }
 }
 
@@ -84,7 +85,8 @@ impl SubAssign<i64> for Date {
     /// # Panics
     ///
     /// If the year of the date does not fit in `i64`.
+    #[track_caller]
     fn sub_assign(&mut self, days: i64) {
-        *self = *self - days;
+        *self = self.sub(days);
     }
 }
