@@ -179,6 +179,7 @@ if has_packages "${originals[@]}"; then
     check_tests 'and without overflow checks' \
         at compare cargo test --test front_page --release --config profile.release.overflow-checks=false
     check "the checksums of compare, $(sums crates/replay/src/tests/list.rt | wc -l) lines" checksums
+    check 'the module checked has the calls of each of this name' sh -c '! grep -E "^fn [a-z_]+::checked::" rust/api.txt'
     if has_packages "${dependents[@]}"; then
         check 'the two packages for cargo replace num-integer, by the lines of their pages' from_the_files
         check 'what rustc says of a missing trait' what_rustc_says renamed 'num-integer = { package = "cellarcove", path = "../rust" }'

@@ -1,0 +1,4 @@
+//! A trait that the source does not derive.
+
+#[derive(Hash)]
+enum SharesError {}
