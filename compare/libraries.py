@@ -328,10 +328,11 @@ def table(name: str, key_type: str, calls: str, lines: Iterable[Line]) -> str:
     return f"\npub(crate) const {name}: [LibraryLine<{key_type}, {calls}>; {len(texts)}] = [\n{''.join(texts)}];\n"
 
 
-def made() -> str:
+def made() -> dict[str, str]:
     """The file."""
     choices = Answered(ranked_choices())
-    return (HEAD + table("RESIDUES", "Type", "Residues", residue_lines()) + table("FRACTIONS", "u32", "Fractions", fraction_lines())
+    text = (HEAD + table("RESIDUES", "Type", "Residues", residue_lines()) + table("FRACTIONS", "u32", "Fractions", fraction_lines())
             + table("DATES", "u32", "Dates", date_lines()) + table("MODELS", "Type", "Models", model_lines())
             + "\n/// All choices of the numbers below each number up to 14.\n"
             + f"pub(crate) const CHOICES: Answered = Answered({choices.count}, Checksum({choices.checksum}));\n")
+    return {'crates/replay/src/tests/libraries.rt': text}

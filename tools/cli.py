@@ -22,36 +22,36 @@ class Part(NamedTuple):
 
 PARTS = {
     'make': {
-        'rust': Part('rust/src, the crate of plain Rust', 'erase.crate:make'),
-        'exports': Part('rust/c/src, its exports for C', 'erase.exports:make'),
-        'bindings': Part('what C, C++ and Python know of the exports', 'bindings.files:made'),
-        'api': Part('rust/api.txt, its public items', 'pages.api:made'),
-        'reference': Part('docs/reference', 'pages.reference:made'),
-        'python': Part('crates/replay/src/tests/libraries.rt, which takes a minute', 'checks.replayed:made'),
-        'symbols': Part('prints the symbols of the exports', 'bindings.exports:symbols', False),
-        'checksums': Part('prints a program in C that calls each export', 'bindings.checksums:make', False),
-        'upstream': Part("SOURCE CRATE OUT: a package of num-integer's own tests", 'checks.upstream:make', False),
-        'dependents': Part('REGISTRY PACKAGE OUT NAME..: a workspace of packages over num-integer', 'checks.dependents:make', False),
+        'rust': Part('rust/src, the crate of plain Rust', 'tools.erase.crate:make'),
+        'exports': Part('rust/c/src, its exports for C', 'tools.erase.exports:make'),
+        'bindings': Part('what C, C++ and Python know of the exports', 'tools.bindings.files:made'),
+        'api': Part('rust/api.txt, its public items', 'tools.pages.api:made'),
+        'reference': Part('docs/reference', 'tools.pages.reference:made'),
+        'python': Part('crates/replay/src/tests/libraries.rt, which takes a minute', 'compare.libraries:made'),
+        'symbols': Part('prints the symbols of the exports', 'tools.bindings.exports:symbols', False),
+        'checksums': Part('prints a program in C that calls each export', 'tools.bindings.checksums:make', False),
+        'upstream': Part("SOURCE CRATE OUT: a package of num-integer's own tests", 'tools.checks.upstream:make', False),
+        'dependents': Part('REGISTRY PACKAGE OUT NAME..: a workspace of packages over num-integer', 'tools.checks.dependents:make', False),
     },
     'check': {
-        'pages': Part('the pages quote files, their links lead somewhere, and docs/ERRORS.md has each message', 'checks.pages:check'),
-        'edits': Part('each seeded bug fits its file, and its first line has a form', 'checks.edits:check'),
-        'laws': Part('each law is a clause that the gate proves', 'checks.laws:check'),
+        'pages': Part('the pages quote files, their links lead somewhere, and docs/ERRORS.md has each message', 'tools.checks.pages:check'),
+        'edits': Part('each seeded bug fits its file, and its first line has a form', 'tools.checks.edits:check'),
+        'laws': Part('each law is a clause that the gate proves', 'tools.checks.laws:check'),
         'erased': Part('plain Rust is its source with its contracts deleted, but for a table', 'tools/checks/erased.py'),
-        'rust_docs': Part('[--links DOC]: each public item of plain Rust has an example, and says when it panics', 'checks.rust_docs:check'),
-        'bindings': Part('the files of `make bindings` are what it makes', 'bindings.files:made'),
-        'api': Part('so is that of `make api`', 'pages.api:made'),
-        'reference': Part('so are those of `make reference`', 'pages.reference:made'),
-        'types': Part('mypy --strict on the tools', 'checks.programs:types'),
-        'shell': Part('shellcheck on the scripts of the shell', 'checks.programs:shell'),
-        'tests': Part('pytest on the tools', 'checks.programs:tests'),
-        'python': Part('so is that of `make python`, which takes a minute', 'checks.replayed:made', False),
-        'trust': Part('LOG: docs/TESTING.md says of the axioms what `rt ci` printed', 'checks.trust:check', False),
-        'sessions': Part('PROGRAM: it prints what the sessions of the pages show', 'checks.pages:sessions_of_pages', False),
-        'examples': Part('FOLDER: its programs print what the heads of rust/examples show', 'checks.pages:sessions_of_examples', False),
-        'wrong_lines': Part('[NAME..]: the first line of each seeded bug is true, as plain Rust', 'checks.wrong_lines:check', False),
-        'guards': Part('[--sample]: a test misses each guard of plain Rust that is taken out', 'checks.guards:check', False),
-        'fuzz': Part('[--minutes M ..]: the package for Python returns what Python computes', 'bindings.fuzz:check', False),
+        'rust_docs': Part('[--links DOC]: each public item of plain Rust has an example, and says when it panics', 'tools.checks.rust_docs:check'),
+        'bindings': Part('the files of `make bindings` are what it makes', 'tools.bindings.files:made'),
+        'api': Part('so is that of `make api`', 'tools.pages.api:made'),
+        'reference': Part('so are those of `make reference`', 'tools.pages.reference:made'),
+        'types': Part('mypy --strict on the tools', 'tools.checks.programs:types'),
+        'shell': Part('shellcheck on the scripts of the shell', 'tools.checks.programs:shell'),
+        'tests': Part('pytest on the tools', 'tools.checks.programs:tests'),
+        'python': Part('so is that of `make python`, which takes a minute', 'compare.libraries:made', False),
+        'trust': Part('LOG: docs/TESTING.md says of the axioms what `rt ci` printed', 'tools.checks.trust:check', False),
+        'sessions': Part('PROGRAM: it prints what the sessions of the pages show', 'tools.checks.pages:sessions_of_pages', False),
+        'examples': Part('FOLDER: its programs print what the heads of rust/examples show', 'tools.checks.pages:sessions_of_examples', False),
+        'wrong_lines': Part('[NAME..]: the first line of each seeded bug is true, as plain Rust', 'tools.checks.wrong_lines:check', False),
+        'guards': Part('[--sample]: a test misses each guard of plain Rust that is taken out', 'tools.checks.guards:check', False),
+        'fuzz': Part('[--small ..]: the package for Python returns what Python computes', 'tools.bindings.fuzz:check', False),
     },
 }
 
@@ -61,7 +61,7 @@ def run_part(verb: str, part: Part, words: list[str]) -> int:
     if '/' in part.function:
         return 0 if run(sys.executable, ROOT / part.function, *words) else 1
     name, function = part.function.split(':')
-    module = importlib.import_module(f'tools.{name}')
+    module = importlib.import_module(name)
     if words == ['--help']:
         print(module.__doc__)
         return 0

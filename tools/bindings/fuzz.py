@@ -1,8 +1,8 @@
-"""Calls all exports on all small numbers and on random ones, and compares what they return with the integers, the fractions and the dates
-of Python (by_python.py). The package `cellarcove` makes the calls, as it is installed: over arrays, with and without outputs, and of one
-number. Of those that it lacks the shared library makes them, if it is given.
+"""Calls all exports on random numbers, and with --small first on all small ones, and compares what they return with the integers, the
+fractions and the dates of Python (by_python.py). The package `cellarcove` makes the calls, as it is installed: over arrays, with and
+without outputs, and of one number. Of those that it lacks the shared library makes them, if it is given.
 
-    tools/cellarcove check fuzz [--seed N] [--minutes M] [--library libcellarcove_c.so]
+    tools/cellarcove check fuzz [--small] [--seed N] [--minutes M] [--library libcellarcove_c.so]
 
 It prints each call that is wrong, and at the end how many calls it made of how many exports. Its status is 1 if a call was
 wrong, or if by_python.py does not say what an export returns. First it wants of some calls what another returns, and each has to be
@@ -308,6 +308,7 @@ def check(words: list[str]) -> bool:
     parser = argparse.ArgumentParser(prog='tools/cellarcove check fuzz')
     parser.add_argument('--seed', type=int, default=1)
     parser.add_argument('--minutes', type=float, default=1)
+    parser.add_argument('--small', action='store_true')
     parser.add_argument('--library')
     options = parser.parse_args(words)
     unknown = sorted({call.name for call in EXPORTS().calls} - RESULTS.keys() - PROPERTIES.keys())
@@ -320,13 +321,14 @@ def check(words: list[str]) -> bool:
     if options.library:
         others = list(lacking(ctypes.CDLL(options.library)))
         runners, exports = runners + others, exports + len(others)
-    all_small = [partial(of_arrays, name, form, small(form)) for name, forms in public_calls() for form in forms if not form.has_slice]
+    if options.small:
+        all_small = [partial(of_arrays, name, form, small(form)) for name, forms in public_calls() for form in forms if not form.has_slice]
+        done, wrong = run(options.seed, 0, all_small, MOST_SHOWN)
+        print(f'all small numbers: {done:,} calls; {wrong} runs are wrong')
+        if wrong:
+            return False
     begin = time.monotonic()
-    done, wrong = run(options.seed, 0, all_small, MOST_SHOWN)
-    if not wrong:
-        print(f'all small numbers: {done:,} calls in {time.monotonic() - begin:.0f} s')
-        begin = time.monotonic()
-        done, wrong = run(options.seed, options.minutes, runners, MOST_SHOWN)
+    done, wrong = run(options.seed, options.minutes, runners, MOST_SHOWN)
     spent = (time.monotonic() - begin) / 60
     print(f'seed {options.seed}: {done:,} calls of {exports} exports in {spent:.1f} minutes, {done / spent:,.0f} a minute; {wrong} runs are wrong')
     return wrong == 0

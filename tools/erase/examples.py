@@ -42,13 +42,7 @@ def sentences(source: Source, item: Item) -> list[tuple[str, str]]:
 
 def paragraphs(lines: list[str]) -> list[list[str]]:
     """The lines of a comment by paragraph."""
-    found: list[list[str]] = [[]]
-    for line in lines:
-        if line:
-            found[-1].append(line)
-        elif found[-1]:
-            found.append([])
-    return [part for part in found if part]
+    return [part.split('\n') for part in re.split('\n\n+', '\n'.join(lines).strip('\n')) if part]
 
 
 def without_examples(lines: list[str]) -> list[str]:

@@ -277,10 +277,10 @@ class Source:
     def read_block(self, item: Item, brace: int) -> None:
         item.open, item.last = brace, self.close(brace)
         item.items = self.items(brace + 1, item.last)
+        item.clauses = [self.member(inner) for inner in item.items if inner.kind == 'ghost' and inner.name != 'use']
 
     def read_trait(self, item: Item) -> None:
         self.read_block(item, self.end(item.word, '{'))
-        item.clauses = [self.member(inner) for inner in item.items if inner.kind == 'ghost' and inner.name != 'use']
 
     def read_impl(self, item: Item) -> None:
         brace = self.end(item.word, '{')
@@ -296,7 +296,6 @@ class Source:
             item.of_trait, names = names[names.index('for') - 1], names[names.index('for') + 1:]
         item.name = names[-1] if names else ''
         self.read_block(item, brace)
-        item.clauses = [self.member(inner) for inner in item.items if inner.kind == 'ghost' and inner.name != 'use']
 
     def member(self, item: Item) -> Clause:
         """A ghost member as a clause, without its proof."""

@@ -165,10 +165,10 @@ counted() {
     judge "$1, $(tail -n 1 "$work/log")" "$status"
 }
 
-# All exports return what Python computes, for all small arguments and for random ones.
+# fuzz MINUTES [--small]: all exports return what Python computes, for random arguments and for all small ones.
 fuzz() {
     cc -shared "$(dirname "$archive")/cellarcove_c.o" -o "$work/all_calls.so" &&
-        with_package "$PWD/tools/cellarcove" check fuzz --seed "$1" --minutes "$2" --library "$work/all_calls.so"
+        with_package "$PWD/tools/cellarcove" check fuzz --minutes "$@" --library "$work/all_calls.so"
 }
 
 # An editable install leads to the sources, and has the licences.
@@ -188,7 +188,7 @@ passes_with_sanitizers() {
     CFLAGS='-O1 -g -fsanitize=address,undefined -fno-sanitize-recover' CC=gcc makes_a_wheel || return 1
     local -x ASAN_OPTIONS=detect_leaks=0 PYTHONMALLOC=malloc LD_PRELOAD
     LD_PRELOAD="$(gcc -print-file-name=libasan.so) $(gcc -print-file-name=libubsan.so)"
-    passes_its_tests && with_package "$PWD/tools/cellarcove" check fuzz --minutes 0
+    passes_its_tests && with_package "$PWD/tools/cellarcove" check fuzz --minutes 0.02
 }
 
 # A source distribution has all that a wheel is built of by cargo, and its names are those of the package.
@@ -242,7 +242,7 @@ looks_at() {
     fi
 }
 
-# python_calls MINUTES: the wheel, its tests, and so many minutes of random calls.
+# python_calls MINUTES [--small]: the wheel, its tests, and so many minutes of random calls.
 python_calls() {
     has python3 Python && has cc Python || return
     python3 -m pip --version >/dev/null 2>&1 || { echo 'Python: skipped, since there is no pip'; return; }
@@ -250,7 +250,7 @@ python_calls() {
     check 'the wheel' makes_a_wheel
     check 'Python' passes_its_tests
     check 'the files and the tags of the wheel' with_package "$tests/test_wheel.py" "$work"/wheel/*.whl
-    counted 'random calls' fuzz 1 "$1"
+    counted 'random calls' fuzz "$@"
 }
 
 if [ "$libraries" != --cargo ]; then
@@ -258,7 +258,7 @@ if [ "$libraries" != --cargo ]; then
     looks_at
     cp "$work/sums" "$work/proved_sums" 2>/dev/null
     c_with gcc
-    python_calls 0.2
+    python_calls 0.2 --small
 fi
 if builds_by_cargo; then
     archive=$work/by_cargo/libcellarcove_c.a
@@ -267,7 +267,7 @@ if builds_by_cargo; then
     looks_at
     c_with gcc
     if [ "$libraries" = --cargo ]; then
-        python_calls 0.2
+        python_calls 0.2 --small
     else
         check 'the results of both' diff "$work/proved_sums" "$work/sums"
         python_calls 0.05

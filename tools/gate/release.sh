@@ -102,10 +102,10 @@ with_python() {
 }
 
 tries_the_wheel() (
-    local python here=$work/one/clone minutes=1
-    [ "$quick" = no ] || minutes=0.05
+    local python here=$work/one/clone words=(--minutes 1 --small)
+    [ "$quick" = no ] || words=(--minutes 0.05)
     python=$(with_python wheel "$files"/*.whl) && cd "$(empty nowhere)" && "$python" "$here/bindings/python/tests/test_cellarcove.py" &&
-        "$python" "$here/tools/cellarcove" check fuzz --minutes "$minutes"
+        "$python" "$here/tools/cellarcove" check fuzz "${words[@]}"
 )
 
 tries_the_source_distribution() {

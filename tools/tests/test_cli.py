@@ -12,7 +12,7 @@ PARTS = [part for parts in cli.PARTS.values() for name, part in parts.items() if
 @pytest.mark.parametrize('part', PARTS)
 def test_parts(part: cli.Part) -> None:
     name, _, function = part.function.partition(':')
-    assert callable(getattr(importlib.import_module(f'tools.{name}'), function)) if function else (ROOT / name).is_file()
+    assert callable(getattr(importlib.import_module(name), function)) if function else (ROOT / name).is_file()
 
 
 @pytest.mark.parametrize('words', [[], ['nothing'], ['check', 'nothing'], ['make', 'pages']])
