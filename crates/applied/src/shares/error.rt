@@ -7,7 +7,7 @@ use std::error::Error;
 use std::fmt;
 
 /// Why an amount has no shares. `shares(100, &[0, 0], &mut [7, 7])` is `Err(SharesError::ZeroWeights)`.
-#[derive(Debug, Clone, Copy, PartialEq, Eq)]
+#[derive(Debug, Clone, Copy, PartialEq, Eq, Hash)]
 pub enum SharesError {
     /// There is not one share for each weight.
     DifferentLengths,

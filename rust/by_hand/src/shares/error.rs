@@ -1,4 +1,0 @@
-//! A trait that the source does not derive.
-
-#[derive(Hash)]
-enum SharesError {}
