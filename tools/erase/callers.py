@@ -95,12 +95,13 @@ class Callers(Made):
         return not owner.of_trait and not (item.public and owner.name in self.types)
 
     def put(self) -> None:
-        """Puts the attribute at each function that is to have it. An implementation has it of its trait, if that is of the crate."""
+        """Writes the attribute at each function that is to have it. An implementation has it of its trait, if that is of the crate."""
         names = self.on_the_way()
         for function in self.functions:
             of_own = function.owner is not None and function.owner.of_trait in self.traits
             if function.name in names and not function.has() and not of_own and (self.is_closed(function) or function.says_so()):
                 function.module.source.put_before(function.item.first, f'#[{ATTRIBUTE}]\n')
+        self.write()
 
 
 def functions(module: Module) -> Iterator[Function]:
@@ -108,10 +109,3 @@ def functions(module: Module) -> Iterator[Function]:
         if item.kind == 'fn':
             yield Function(module, item, None)
         yield from (Function(module, inner, item) for inner in item.items if inner.kind == 'fn' and item.kind in ('trait', 'impl'))
-
-
-def write(folder: Path) -> None:
-    """Writes the attributes of a crate whose sources are below a folder."""
-    callers = Callers(folder)
-    callers.put()
-    callers.write()

@@ -17,9 +17,10 @@ from collections.abc import Callable, Iterable
 from pathlib import Path
 
 from tools import ROOT as REPOSITORY, write as write_files
-from tools.erase import callers, documentation
+from tools.erase import documentation
 from tools.erase.additions import Additions
 from tools.erase.bounds import Bounds
+from tools.erase.callers import Callers
 from tools.erase.deletion import GHOST_TRAITS, Deletion
 from tools.erase.library import AT_ROOT, CRATES, ROOT, WITHIN, Module, RustLibrary
 from tools.erase.prose import within_columns
@@ -217,7 +218,7 @@ def formatted(out: Path) -> None:
 def write(out: Path) -> None:
     """Writes the sources below a folder."""
     write_files(out / 'src', texts_of(RustLibrary(REPOSITORY / 'crates')))
-    callers.write(out)
+    Callers(out).put()
     formatted(out)
 
 
