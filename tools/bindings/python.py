@@ -5,9 +5,6 @@ from collections.abc import Callable, Sequence
 
 from tools.bindings.exports import EXPORTS, Call, Field, c_type, filled, without_returns
 
-# The operators of `fractions.Fraction` and the calls of `math` do the same.
-LEFT_OUT = {'fraction_new', 'fraction_add', 'fraction_sub', 'fraction_mul', 'fraction_div', 'fraction_cmp', 'fraction_floor',
-            'fraction_ceil', 'fraction_floor_times', 'fraction_ceil_times'}
 RENAMED = {'fraction_limit_denominator': 'limit_denominator'}
 ALIASES = {'comb': 'binomial', 'isqrt': 'sqrt'}
 PARAMETERS = {'from': 'start', 'to': 'end', 'max': 'max_denominator'}
@@ -18,6 +15,11 @@ WRITTEN = 'count'          # the parameter in place of an array that is written
 DOCS = {
     'choice_of_rank': 'The choice of `count` numbers below `n` that has the rank, as a tuple: it is the inverse of `rank`. For 2, 5 and 3'
                       ' it is (0, 2, 3).',
+    'shares': 'The shares of the amount in proportion to the weights, as a tuple. Together they are the amount. The first shares together are their'
+              ' exact share rounded up, and those of a negative amount are the shares of its magnitude with its sign. For 100 and [1, 1, 1] they are'
+              ' (34, 33, 33).',
+    'shares_by_largest_remainder': 'The shares of the amount by largest remainders, as a tuple: each is the exact share rounded down, or 1 more for the'
+                                   ' weights with the largest remainders, and of equal ones the first. For 2 and [1, 1, 98] they are (0, 0, 2).',
     'next_common_solution_of': 'Returns the smallest number from `from` on that solves each of up to 64 congruences, which are pairs of a residue and'
                                ' a modulus. No product of the moduli need fit. For 10 and [(1, 4), (3, 6), (0, 7)] it is 21.',
 }
@@ -34,6 +36,11 @@ EXAMPLES: dict[str, tuple[str, list[tuple[str, str]]]] = {
     'previous_congruent': ('', [('2, 7, 28', '-21')]),
     'rank': ('For 0, 2 and 3, and 5, it is 2.', [('[0, 2, 3], 5', '2')]),
     'choice_of_rank': ('For 2, 5 and 3 it is (0, 2, 3).', [('2, 5, 3', '(0, 2, 3)')]),
+    'shares': ('For 100 and [1, 1, 1] they are (34, 33, 33).', [('100, [1, 1, 1]', '(34, 33, 33)'), ('-100, [1, 1, 1]', '(-34, -33, -33)')]),
+    'shares_by_largest_remainder': ('For 2 and [1, 1, 98] they are (0, 0, 2).', [('2, [1, 1, 98]', '(0, 0, 2)'), ('1, [1, 1]', '(1, 0)')]),
+    'fraction_from_text': ('That of `6/-4` is -3/2.', [("'6/-4'", 'Fraction(-3, 2)')]),
+    'is_coprime': ('8 and 15 are coprime, and 8 and 6 are not.', [('8, 15', 'True'), ('8, 6', 'False')]),
+    'days_in_year': ('1900 has 365.', [('1900', '365')]),
     'next_common_solution_of': ('For 10 and [(1, 4), (3, 6), (0, 7)] it is 21.', [('10, [(1, 4), (3, 6), (0, 7)]', '21')]),
     'iso_week': ('That of 2005-01-01 is week 53 of 2004.', [('Date(2005, 1, 1)', 'IsoWeek(year=2004, week=53)')]),
     'is_leap_year': ('2000 and 0 have one, and 1900 and -1 do not.', [('2000', 'True'), ('0', 'True'), ('1900', 'False'), ('-1', 'False')]),
@@ -51,15 +58,18 @@ OBJECTS = {'i64': 'PyLong_FromLongLong', 'u64': 'PyLong_FromUnsignedLongLong', '
 CLASSES = {'Bezout': ('class_gcd', 'ExtendedGcd'), 'Solutions': ('class_solutions', 'Solutions'), 'IsoWeek': ('class_week', 'IsoWeek')}
 FIELDS = {'ExtendedGcd': ('gcd', 'x', 'y'), 'Solutions': ('first', 'step')}
 SHAPES = {'Fraction': 'f', 'Date': 'd'}
+MODULI = {'m', 'n', 'step', 'p', 'q', 'period'}  # the parameters whose 0 is the reason of `BAD_MODULUS`
 
 
 def public_calls() -> list[tuple[str, list[Call]]]:
     """The calls of Python: the name, and the forms."""
-    return [(RENAMED.get(name, name), forms) for name, forms in EXPORTS().forms().items() if name not in LEFT_OUT]
+    return [(RENAMED.get(name, name), forms) for name, forms in EXPORTS().forms().items()]
 
 
 def parameter_names(call: Call) -> list[str]:
-    return [WRITTEN if parameter.is_written else PARAMETERS.get(parameter.name, parameter.name) for parameter in call.parameters]
+    divides_by_weights = sum(bool(parameter.item) for parameter in call.parameters) == 2
+    return [WRITTEN if parameter.is_written else PARAMETERS.get(parameter.name, parameter.name) for parameter in call.parameters
+            if not (parameter.is_written and divides_by_weights)]
 
 
 def cells(call: Call) -> list[str]:
@@ -77,7 +87,7 @@ def divides(call: Call) -> list[bool]:
     """Whether each number is a divisor, whose 0 is the reason of a status."""
     reasons = ' '.join(call.statuses)
     divisors = {'y', 'd'} if call.module == 'division' else set()
-    divisors |= {'m', 'n', 'step'} if '`BAD_MODULUS`' in reasons else set()
+    divisors |= MODULI if '`BAD_MODULUS`' in reasons else set()
     return [parameter.name in divisors for parameter in call.parameters for _ in EXPORTS().leaves(parameter.kind)]
 
 
@@ -149,13 +159,17 @@ def signature(name: str, forms: list[Call]) -> str:
 RAISED = {'NOT_FITTING': '`NotFitting`', 'ZERO_DENOMINATOR': '`DivisionByZero`'}
 
 
-def raised(call: Call) -> str:
+def raised(call: Call, unsigned: Call | None) -> str:
     """What a docstring says of the errors."""
     by_zero = {'OUTSIDE': '`DivisionByZero`'} if call.module == 'division' else {}
 
     def exception(status: re.Match[str]) -> str:
         return 'Raises ' + (RAISED | by_zero).get(status[1], f'`Refused` with {status[0]}')
-    return ' '.join(re.sub('^`([A-Z_]+)`', exception, sentence) for sentence in call.statuses)
+    said = []
+    for sentence in call.statuses:
+        negative = unsigned is not None and not any(sentence.split('`')[1] == other.split('`')[1] for other in unsigned.statuses)
+        said.append(re.sub('^`([A-Z_]+)`', exception, sentence.removesuffix('.') + ', which takes a negative number.' * negative + '.' * (not negative)))
+    return ' '.join(said)
 
 
 def value_of(term: str, of: str) -> str:
@@ -200,7 +214,7 @@ def docstring(name: str, forms: list[Call]) -> str:
     """What a call does, its errors, its arrays, and its examples, which the tests of the package run."""
     call = forms[0]
     doc, found = examples(name, call, without_returns(DOCS.get(name, call.doc)))
-    parts = [doc, raised(call), 'It takes any count of numbers.' if name in OF_MANY else '']
+    parts = [doc, raised(call, forms[1] if len(forms) == 2 else None), 'It takes any count of numbers.' if name in OF_MANY else '']
     text = ['\n'.join(textwrap.wrap(in_python(part), 88)) for part in parts if part]
     return '\n\n'.join([*text, '\n'.join(f'>>> {name}({given})\n{result}' for given, result in found)])
 
@@ -223,7 +237,7 @@ def call_text(name: str, forms: list[Call]) -> str:
     shapes = ''.join('w' if parameter.name == WEEKDAY else SHAPES.get(parameter.kind, 'n') for parameter in call.parameters)
     names = ', '.join(f'"{parameter}"' for parameter in parameter_names(call))
     of_many = f'''    if (count != 2 && names == NULL) {{
-        return of_any_count(py_{name}_of, args, count);
+        return of_any_count(py_{name}_of, "{name}", args, count);
     }}
 ''' if name in OF_MANY else ''
     return f'''static const call call_{name} = {{"{name}", {len(call.parameters)}, {{{names}}}, "{shapes}",
@@ -274,6 +288,39 @@ def list_text(name: str, forms: list[Call]) -> str:
 '''
 
 
+# What says, before there is room for the numbers that a call writes, that it has no result.
+ASKED = {'choice_of_rank': 'is_below_binomial(numbers[0].u, numbers[1].u, numbers[2].u) ? CELLARCOVE_ANSWER : CELLARCOVE_OUTSIDE'}
+
+
+def divided_text(name: str, forms: list[Call]) -> str:
+    """The function of a call that divides a number by weights."""
+    signed = forms[0].symbol if len(forms) == 2 else 'NULL'
+    return f'''static PyObject *py_{name}(PyObject *module, PyObject *const *args, Py_ssize_t given) {{
+    (void)module;
+    return divided("{name}", args, given, {signed}, {forms[-1].symbol});
+}}
+
+'''
+
+
+def text_text(name: str, call: Call) -> str:
+    """The function of a call of a text."""
+    return f'''static PyObject *py_{name}(PyObject *module, PyObject *object) {{
+    (void)module;
+    const uint8_t *bytes;
+    size_t count;
+    PyObject *text = bytes_of("{name}", object, &bytes, &count);
+    if (text == NULL) {{
+        return NULL;
+    }}
+    {c_type(call.result)} r = {call.symbol}(bytes, count);
+    Py_DECREF(text);
+    return r.status == CELLARCOVE_ANSWER ? {object_of(call)} : refused(r.status, r.status == CELLARCOVE_ZERO_DENOMINATOR);
+}}
+
+'''
+
+
 def written_text(name: str, call: Call) -> str:
     """The function of a call that writes unsigned numbers, whose other parameters are unsigned numbers before it."""
     count = len(call.parameters)
@@ -284,15 +331,18 @@ def written_text(name: str, call: Call) -> str:
     if (unsigned_numbers("{name}", args, given, {count}, numbers) != 0) {{
         return NULL;
     }}
+    uint32_t status = {ASKED.get(name, 'CELLARCOVE_ANSWER')};
+    if (status != CELLARCOVE_ANSWER) {{
+        return refused(status, false);
+    }}
     uint64_t *written = room_for(numbers[{count - 1}].u);
     if (written == NULL) {{
         return NULL;
     }}
-    uint32_t status;
     Py_BEGIN_ALLOW_THREADS
     status = {call.symbol}({", ".join(f"numbers[{k}].u" for k in range(count - 1))}, written, (size_t)numbers[{count - 1}].u);
     Py_END_ALLOW_THREADS
-    PyObject *result = status == CELLARCOVE_ANSWER ? tuple_of_numbers(written, (Py_ssize_t)numbers[{count - 1}].u) : refused(status, false);
+    PyObject *result = status == CELLARCOVE_ANSWER ? tuple_of_numbers(written, (Py_ssize_t)numbers[{count - 1}].u, false) : refused(status, false);
     PyMem_Free(written);
     return result;
 }}
@@ -314,7 +364,12 @@ def calls_c() -> str:
     named = public_calls()
     text = ''
     for name, forms in named:
-        if forms[0].has_slice:
+        kinds = [parameter.item for parameter in forms[0].parameters if parameter.item]
+        if len(kinds) == 2:
+            text += divided_text(name, forms)
+        elif kinds == ['u8']:
+            text += text_text(name, forms[0])
+        elif kinds:
             text += written_text(name, forms[0]) if forms[0].writes else list_text(name, forms)
     for name, forms in named:
         if not forms[0].has_slice:
@@ -328,6 +383,7 @@ def calls_c() -> str:
 
 PYTHON = {'Fraction': 'Fractional', 'Date': 'Dated'}
 NUMBER, ARRAY = 'SupportsIndex', 'Array'
+BYTES = 'Array | bytes | bytearray'  # what an array of `u8` may be too
 
 
 def scalar_result(call: Call) -> str:
@@ -344,7 +400,7 @@ def scalar_result(call: Call) -> str:
 
 
 def array_result(call: Call) -> str:
-    arrays = ['memoryview' if kind == 'bool' else 'array[int]' for _, kind in results(call)] + ['array[int]'] * EXPORTS().has_status(call)
+    arrays = ['Mask' if kind == 'bool' else 'Numbers' for _, kind in results(call)] + ['Numbers'] * EXPORTS().has_status(call)
     return arrays[0] if len(arrays) == 1 else f'tuple[{", ".join(arrays)}]'
 
 
@@ -358,7 +414,8 @@ def array_types(parameter: Field, chosen: bool) -> str:
     leaves = len(EXPORTS().leaves(parameter.kind))
     each = f'{ARRAY} | {NUMBER}'
     if leaves == 1:
-        return ARRAY if chosen else f'{ARRAY} | {scalar_type(parameter)}'
+        array = BYTES if parameter.kind == 'u8' else ARRAY
+        return array if chosen else f'{array} | {scalar_type(parameter)}'
     if not chosen:
         return f'{PYTHON[parameter.kind]} | tuple[{", ".join([each] * leaves)}]'
     return ' | '.join(f'tuple[{", ".join([NUMBER] * first + [ARRAY] + [each] * (leaves - first - 1))}]' for first in range(leaves))
@@ -368,6 +425,8 @@ def listed_type(parameter: Field) -> str:
     """The type of a parameter of a call with a list."""
     if not parameter.item or parameter.is_written:
         return NUMBER
+    if parameter.item == 'u8':
+        return 'str'
     leaves = len(EXPORTS().leaves(parameter.item))
     return f'{ARRAY} | Iterable[{NUMBER}]' if leaves == 1 else f'Iterable[tuple[{", ".join([NUMBER] * leaves)}]]'
 
@@ -377,12 +436,14 @@ def stub(name: str, forms: list[Call]) -> str:
     names = parameter_names(call)
     if call.has_slice:
         taken = ', '.join(f'{given}: {listed_type(parameter)}' for given, parameter in zip(names, call.parameters))
-        return f'def {name}({taken}, /) -> {"tuple[int, ...]" if call.writes else "int"}: ...\n'
+        return f'def {name}({taken}, /) -> {"tuple[int, ...]" if call.writes else scalar_result(call)}: ...\n'
     if name in OF_MANY:
         return f'''@overload
 def {name}(x: {ARRAY}, y: {ARRAY} | {NUMBER}, *, out: Outputs = ...) -> {array_result(call)}: ...
 @overload
 def {name}(x: {NUMBER}, y: {ARRAY}, *, out: Outputs = ...) -> {array_result(call)}: ...
+@overload
+def {name}(x: {NUMBER}, y: {NUMBER}) -> int: ...
 @overload
 def {name}(*numbers: {NUMBER}) -> int: ...
 '''

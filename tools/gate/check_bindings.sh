@@ -163,8 +163,7 @@ counted() {
 
 # All exports return what Python computes, for all small arguments and for random ones.
 fuzz() {
-    cc -shared "$(dirname "$archive")/cellarcove_c.o" -o "$work/all_calls.so" &&
-        with_package "$PWD/tools/cellarcove" check fuzz --seed "$1" --minutes "$2" --library "$work/all_calls.so"
+    with_package "$PWD/tools/cellarcove" check fuzz --seed "$1" --minutes "$2"
 }
 
 # An editable install leads to the sources, and has the licences.

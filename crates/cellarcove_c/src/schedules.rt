@@ -60,7 +60,12 @@ pub extern "C" fn cellarcove_next_meeting_u64(now: u64, a: u64, p: u64, b: u64, 
 ///
 /// `BAD_MODULUS` if `period` is not positive. `NOT_FITTING` if the count does not fit.
 #[unsafe(no_mangle)]
-pub extern "C" fn cellarcove_count_times_i64(from: i64, to: i64, first: i64, period: i64) -> I64Answer
+pub extern "C" fn cellarcove_count_times_i64(
+    from: i64,
+    to: i64,
+    first: i64,
+    period: i64,
+) -> I64Answer
     ensures { I64Congruent period
         (IsCountOfTimes from to first period) result }
 {
@@ -75,7 +80,12 @@ pub extern "C" fn cellarcove_count_times_i64(from: i64, to: i64, first: i64, per
 ///
 /// `BAD_MODULUS` if `period` is 0. `NOT_FITTING` if the count does not fit.
 #[unsafe(no_mangle)]
-pub extern "C" fn cellarcove_count_times_u64(from: u64, to: u64, first: u64, period: u64) -> U64Answer
+pub extern "C" fn cellarcove_count_times_u64(
+    from: u64,
+    to: u64,
+    first: u64,
+    period: u64,
+) -> U64Answer
     ensures { U64Congruent (pos period)
         (IsCountOfTimes (pos from) (pos to) (pos first) (pos period)) result }
 {

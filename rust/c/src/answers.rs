@@ -73,6 +73,14 @@ impl I64Answer {
         I64Answer { status, value }
     }
 
+    /// Returns a result.
+    pub(crate) fn some(value: i64) -> I64Answer {
+        I64Answer {
+            status: ANSWER,
+            value,
+        }
+    }
+
     /// Returns a rejection.
     pub(crate) fn none(status: u32) -> I64Answer {
         I64Answer { status, value: 0 }

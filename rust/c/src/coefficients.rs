@@ -38,8 +38,8 @@ pub extern "C" fn cellarcove_multinomial_u64(counts: *const u64, counts_len: usi
     U64Answer::of(checked::multinomial(counts), NOT_FITTING)
 }
 
-/// Returns why there is no coefficient of two counts.
-fn reason_for_counts(n: i64, k: i64) -> u32 {
+/// Returns why there is no result of two counts.
+pub(crate) fn reason_for_counts(n: i64, k: i64) -> u32 {
     if n < 0 || k < 0 {
         OUTSIDE
     } else {

@@ -2,7 +2,9 @@
 //! Dates of the proleptic Gregorian calendar, and days counted from 1970-01-01, which is day 0.
 
 use crate::answers::{I64Answer, ANSWER, NOT_FITTING, NO_DATE, OUTSIDE};
-use cellarcove::calendar::{days_between, easter, months_between, weeks_in_year, Weekday};
+use cellarcove::calendar::{
+    days_between, easter, months_between, weeks_in_year, years_between, Weekday,
+};
 
 /// A year, a month and a day of the month. The year before year 1 is year 0. January is month 1.
 #[repr(C)]
@@ -105,6 +107,32 @@ pub extern "C" fn cellarcove_months_between(from: Date, to: Date) -> I64Answer {
             None => I64Answer::none(NO_DATE),
         },
         None => I64Answer::none(NO_DATE),
+    }
+}
+
+/// Returns the largest number of years that leads from one date to a date not after another,
+/// negative if the other is earlier. From 2000-02-29 to 2025-02-28 it is 25.
+///
+/// `NO_DATE` if a date does not exist. `NOT_FITTING` if the number does not fit.
+#[unsafe(no_mangle)]
+pub extern "C" fn cellarcove_years_between(from: Date, to: Date) -> I64Answer {
+    match from.found() {
+        Some(first) => match to.found() {
+            Some(last) => I64Answer::of(years_between(&first, &last), NOT_FITTING),
+            None => I64Answer::none(NO_DATE),
+        },
+        None => I64Answer::none(NO_DATE),
+    }
+}
+
+/// Returns the date of a day of a year; 1 January is day 1. That of 2000 and 60 is 2000-02-29.
+///
+/// `NO_DATE` if the year has no such day.
+#[unsafe(no_mangle)]
+pub extern "C" fn cellarcove_date_from_year_day(year: i64, day: u16) -> DateAnswer {
+    match cellarcove::calendar::Date::from_year_day(year, day) {
+        Some(found) => DateAnswer::some(&found),
+        None => DateAnswer::none(NO_DATE),
     }
 }
 

@@ -75,6 +75,52 @@ pub extern "C" fn cellarcove_fraction_div(a: Fraction, b: Fraction) -> FractionA
     FractionAnswer::of(quotient(a.reduced(), b.reduced()))
 }
 
+/// Returns the reciprocal. That of -2/3 is -3/2.
+///
+/// `ZERO_DENOMINATOR` if the denominator is 0, and if `a` is 0. `NOT_FITTING` if a part of the
+/// argument, reduced, does not fit, or a part of the result.
+#[unsafe(no_mangle)]
+pub extern "C" fn cellarcove_fraction_recip(a: Fraction) -> FractionAnswer {
+    FractionAnswer::of(reciprocal(a.reduced()))
+}
+
+/// Returns the negation. That of -3/2 is 3/2.
+///
+/// `ZERO_DENOMINATOR` if the denominator is 0. `NOT_FITTING` if a part of the argument, reduced,
+/// does not fit, or a part of the result.
+#[unsafe(no_mangle)]
+pub extern "C" fn cellarcove_fraction_neg(a: Fraction) -> FractionAnswer {
+    FractionAnswer::of(negation(a.reduced()))
+}
+
+/// Returns the magnitude. That of -3/2 is 3/2.
+///
+/// `ZERO_DENOMINATOR` if the denominator is 0. `NOT_FITTING` if a part of the argument, reduced,
+/// does not fit, or a part of the result.
+#[unsafe(no_mangle)]
+pub extern "C" fn cellarcove_fraction_abs(a: Fraction) -> FractionAnswer {
+    FractionAnswer::of(magnitude(a.reduced()))
+}
+
+/// Returns the power, which for a negative exponent is that of the reciprocal. That of 2/3 and -2
+/// is 9/4.
+///
+/// `ZERO_DENOMINATOR` if the denominator is 0, and if `a` is 0 and the exponent is negative.
+/// `NOT_FITTING` if a part of the argument, reduced, does not fit, or a part of the result.
+#[unsafe(no_mangle)]
+pub extern "C" fn cellarcove_fraction_pow(a: Fraction, exponent: i32) -> FractionAnswer {
+    FractionAnswer::of(power(a.reduced(), exponent))
+}
+
+/// Returns the fraction times `n / d`. That of 2/3, 9 and 4 is 3/2.
+///
+/// `ZERO_DENOMINATOR` if the denominator is 0, and if `d` is 0. `NOT_FITTING` if a part of the
+/// argument, reduced, does not fit, or a part of the result.
+#[unsafe(no_mangle)]
+pub extern "C" fn cellarcove_fraction_times(a: Fraction, n: i64, d: i64) -> FractionAnswer {
+    FractionAnswer::of(times(a.reduced(), n, d))
+}
+
 /// Returns -1, 0 or 1 if `a` is less than, equal to or greater than `b`. For 1/2 and 1/3 it is 1.
 ///
 /// `ZERO_DENOMINATOR` if a denominator is 0. `NOT_FITTING` if a part of an argument, reduced, does
@@ -108,7 +154,7 @@ impl Fraction {
 
 impl FractionAnswer {
     /// Returns a result of `ratio64`.
-    fn of(answered: Result<Ratio, RatioError>) -> FractionAnswer {
+    pub(crate) fn of(answered: Result<Ratio, RatioError>) -> FractionAnswer {
         match answered {
             Ok(ratio) => FractionAnswer::some(&ratio),
             Err(error) => FractionAnswer::none(error.number()),
@@ -116,7 +162,7 @@ impl FractionAnswer {
     }
 
     /// Returns a result.
-    fn some(ratio: &Ratio) -> FractionAnswer {
+    pub(crate) fn some(ratio: &Ratio) -> FractionAnswer {
         FractionAnswer {
             status: ANSWER,
             value: Fraction {
@@ -127,7 +173,7 @@ impl FractionAnswer {
     }
 
     /// Returns a rejection.
-    fn none(status: u32) -> FractionAnswer {
+    pub(crate) fn none(status: u32) -> FractionAnswer {
         FractionAnswer {
             status,
             value: Fraction { num: 0, den: 0 },
@@ -172,6 +218,31 @@ fn quotient(
     b: Result<Ratio, RatioError>,
 ) -> Result<Ratio, RatioError> {
     a?.checked_div(&b?)
+}
+
+/// Returns the reciprocal of a fraction, or its error.
+fn reciprocal(a: Result<Ratio, RatioError>) -> Result<Ratio, RatioError> {
+    a?.checked_recip()
+}
+
+/// Returns the negation of a fraction, or its error.
+fn negation(a: Result<Ratio, RatioError>) -> Result<Ratio, RatioError> {
+    a?.checked_neg()
+}
+
+/// Returns the magnitude of a fraction, or its error.
+fn magnitude(a: Result<Ratio, RatioError>) -> Result<Ratio, RatioError> {
+    a?.checked_abs()
+}
+
+/// Returns the power of a fraction, or its error.
+fn power(a: Result<Ratio, RatioError>, exponent: i32) -> Result<Ratio, RatioError> {
+    a?.checked_pow(exponent)
+}
+
+/// Returns a fraction times `n / d`, or its error.
+fn times(a: Result<Ratio, RatioError>, n: i64, d: i64) -> Result<Ratio, RatioError> {
+    a?.checked_times(n, d)
 }
 
 /// Returns the order of two fractions, or the status of the first error.

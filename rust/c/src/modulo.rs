@@ -4,6 +4,38 @@
 use crate::answers::{I64Answer, U64Answer, BAD_MODULUS, NO_SOLUTION};
 use cellarcove::modular::checked;
 
+/// Returns the residue of `a` modulo `m`, from 0 to `m` - 1. For -3 and 7 it is 4.
+///
+/// `BAD_MODULUS` if `m` is not positive.
+#[unsafe(no_mangle)]
+pub extern "C" fn cellarcove_residue_i64(a: i64, m: i64) -> I64Answer {
+    I64Answer::of(checked::residue(a, m), BAD_MODULUS)
+}
+
+/// Returns the residue of `a` modulo `m`, from 0 to `m` - 1. For 10 and 7 it is 3.
+///
+/// `BAD_MODULUS` if `m` is 0.
+#[unsafe(no_mangle)]
+pub extern "C" fn cellarcove_residue_u64(a: u64, m: u64) -> U64Answer {
+    U64Answer::of(checked::residue(a, m), BAD_MODULUS)
+}
+
+/// Returns `-a` modulo `m`, from 0 to `m` - 1. For 3 and 7 it is 4.
+///
+/// `BAD_MODULUS` if `m` is not positive.
+#[unsafe(no_mangle)]
+pub extern "C" fn cellarcove_negation_modulo_i64(a: i64, m: i64) -> I64Answer {
+    I64Answer::of(checked::negation_modulo(a, m), BAD_MODULUS)
+}
+
+/// Returns `-a` modulo `m`, from 0 to `m` - 1. For 3 and 7 it is 4.
+///
+/// `BAD_MODULUS` if `m` is 0.
+#[unsafe(no_mangle)]
+pub extern "C" fn cellarcove_negation_modulo_u64(a: u64, m: u64) -> U64Answer {
+    U64Answer::of(checked::negation_modulo(a, m), BAD_MODULUS)
+}
+
 /// Returns `a + b` modulo `m`, from 0 to `m` - 1. For 5, 4 and 7 it is 2.
 ///
 /// `BAD_MODULUS` if `m` is not positive.

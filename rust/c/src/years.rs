@@ -3,12 +3,18 @@
 
 use crate::answers::{U64Answer, NO_DATE};
 use crate::dates::Date;
-use cellarcove::calendar::{days_in_month, is_leap_year, weeks_in_year};
+use cellarcove::calendar::{days_in_month, days_in_year, is_leap_year, weeks_in_year};
 
 /// Returns `true` if the year has a 29 February. 2000 and 0 have one, and 1900 and -1 do not.
 #[unsafe(no_mangle)]
 pub extern "C" fn cellarcove_is_leap_year(year: i64) -> bool {
     is_leap_year(year)
+}
+
+/// Returns how many days the year has: 365 or 366. 1900 has 365.
+#[unsafe(no_mangle)]
+pub extern "C" fn cellarcove_days_in_year(year: i64) -> u16 {
+    days_in_year(year)
 }
 
 /// Returns how many weeks of ISO 8601 the year has: 52 or 53. 2020 has 53.
