@@ -418,7 +418,8 @@ def array_types(parameter: Field, chosen: bool) -> str:
         return array if chosen else f'{array} | {scalar_type(parameter)}'
     if not chosen:
         return f'{PYTHON[parameter.kind]} | tuple[{", ".join([each] * leaves)}]'
-    return ' | '.join(f'tuple[{", ".join([NUMBER] * first + [ARRAY] + [each] * (leaves - first - 1))}]' for first in range(leaves))
+    shapes = [[NUMBER] * first + [ARRAY] + [each] * (leaves - first - 1) for first in range(leaves)] + [[ARRAY] * (leaves + 1)]  # with statuses
+    return ' | '.join(f'tuple[{", ".join(shape)}]' for shape in shapes)
 
 
 def listed_type(parameter: Field) -> str:

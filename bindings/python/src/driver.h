@@ -243,12 +243,12 @@ static int bind(const call *c, PyObject *const *args, Py_ssize_t count, PyObject
     return 0;
 }
 
-/* The parts of a fraction or a date: those of a tuple, or the attributes of another object. They are owned. */
+/* The parts of a fraction or a date: those of a tuple, which may have statuses too, or the attributes of another object. They are owned. */
 static int parts(PyObject *object, char shape, PyObject **cells) {
     PyObject *const names[2][3] = {{name_numerator, name_denominator, NULL}, {name_year, name_month, name_day}};
     Py_ssize_t count = shape == 'f' ? 2 : 3;
     bool is_tuple = PyTuple_Check(object);
-    if (is_tuple && PyTuple_Size(object) != count) {
+    if (is_tuple && PyTuple_Size(object) != count && !(PyTuple_Size(object) == count + 1 && is_array(PyTuple_GetItem(object, count)))) {
         PyErr_Format(PyExc_ValueError, "a %s has %zd parts, and the tuple has %zd", shape == 'f' ? "fraction" : "date", count,
                      PyTuple_Size(object));
         return -1;
