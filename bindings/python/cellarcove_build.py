@@ -131,13 +131,6 @@ def build_editable(wheel_directory: str, config_settings: Settings = None, metad
     return write_wheel(wheel_directory, [(f'{NAME}.pth', f'{HERE}\n'.encode()), *info_files(tag)], tag)
 
 
-def get_requires_for_build_wheel(config_settings: Settings = None) -> list[str]:
-    return []
-
-
-get_requires_for_build_editable = get_requires_for_build_sdist = get_requires_for_build_wheel
-
-
 def build_sdist(sdist_directory: str, config_settings: Settings = None) -> str:
     """The hook of PEP 517 for source distributions."""
     top = f'{NAME}-{VERSION}'

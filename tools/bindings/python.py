@@ -3,6 +3,7 @@ import re
 import textwrap
 from collections.abc import Callable, Sequence
 
+from tools import ROOT
 from tools.bindings.exports import EXPORTS, Call, Field, c_type, filled, without_returns
 
 RENAMED = {'fraction_limit_denominator': 'limit_denominator'}
@@ -13,42 +14,19 @@ WEEKDAY = 'weekday'        # the parameter that may be a `Weekday`
 WRITTEN = 'count'          # the parameter in place of an array that is written
 # What a call does that returns in Python what C writes.
 DOCS = {
-    'choice_of_rank': 'The choice of `count` numbers below `n` that has the rank, as a tuple: it is the inverse of `rank`. For 2, 5 and 3'
-                      ' it is (0, 2, 3).',
+    'choice_of_rank': 'The choice of `count` numbers below `n` that has the rank, as a tuple: it is the inverse of `rank`.',
+    'fraction_cmp': 'The order of two fractions: -1, 0 or 1 if `a` is less than, equal to or greater than `b`.',
     'shares': 'The shares of the amount in proportion to the weights, as a tuple. Together they are the amount. The first shares together are their'
-              ' exact share rounded up, and those of a negative amount are the shares of its magnitude with its sign. For 100 and [1, 1, 1] they are'
-              ' (34, 33, 33).',
+              ' exact share rounded up, and those of a negative amount are the shares of its magnitude with its sign.',
     'shares_by_largest_remainder': 'The shares of the amount by largest remainders, as a tuple: each is the exact share rounded down, or 1 more for the'
-                                   ' weights with the largest remainders, and of equal ones the first. For 2 and [1, 1, 98] they are (0, 0, 2).',
+                                   ' weights with the largest remainders, and of equal ones the first.',
     'next_common_solution_of': 'Returns the smallest number from `from` on that solves each of up to 64 congruences, which are pairs of a residue and'
-                               ' a modulus. No product of the moduli need fit. For 10 and [(1, 4), (3, 6), (0, 7)] it is 21.',
+                               ' a modulus. No product of the moduli need fit.',
 }
 
-# Examples in a sentence of a comment that `example` does not read: the sentence, and in Python the calls and what they return.
-EXAMPLES: dict[str, tuple[str, list[tuple[str, str]]]] = {
-    'is_multiple_of': ('', [('12, 4', 'True'), ('0, 0', 'True'), ('4, 0', 'False')]),
-    'lcm_of': ('That of -4, 6 and 10 is 60, that of numbers of which one is 0 is 0, and that of no numbers is 1.',
-               [('[-4, 6, 10]', '60'), ('[4, 0]', '0'), ('[]', '1')]),
-    'is_square': ('144 is one, and -144 is not.', [('144', 'True'), ('-144', 'False')]),
-    'is_power': ('For -243 and 5 it is `true`, and for 244 and 5 it is `false`; for the degree 0 it is `true` at 1 alone.',
-                 [('-243, 5', 'True'), ('244, 5', 'False'), ('1, 0', 'True'), ('2, 0', 'False')]),
-    'is_perfect_power': ('128 is one, and 72 is not.', [('128', 'True'), ('72', 'False')]),
-    'previous_congruent': ('', [('2, 7, 28', '-21')]),
-    'rank': ('For 0, 2 and 3, and 5, it is 2.', [('[0, 2, 3], 5', '2')]),
-    'choice_of_rank': ('For 2, 5 and 3 it is (0, 2, 3).', [('2, 5, 3', '(0, 2, 3)')]),
-    'shares': ('For 100 and [1, 1, 1] they are (34, 33, 33).', [('100, [1, 1, 1]', '(34, 33, 33)'), ('-100, [1, 1, 1]', '(-34, -33, -33)')]),
-    'shares_by_largest_remainder': ('For 2 and [1, 1, 98] they are (0, 0, 2).', [('2, [1, 1, 98]', '(0, 0, 2)'), ('1, [1, 1]', '(1, 0)')]),
-    'fraction_from_text': ('That of `6/-4` is -3/2.', [("'6/-4'", 'Fraction(-3, 2)')]),
-    'is_coprime': ('8 and 15 are coprime, and 8 and 6 are not.', [('8, 15', 'True'), ('8, 6', 'False')]),
-    'days_in_year': ('1900 has 365.', [('1900', '365')]),
-    'next_common_solution_of': ('For 10 and [(1, 4), (3, 6), (0, 7)] it is 21.', [('10, [(1, 4), (3, 6), (0, 7)]', '21')]),
-    'iso_week': ('That of 2005-01-01 is week 53 of 2004.', [('Date(2005, 1, 1)', 'IsoWeek(year=2004, week=53)')]),
-    'is_leap_year': ('2000 and 0 have one, and 1900 and -1 do not.', [('2000', 'True'), ('0', 'True'), ('1900', 'False'), ('-1', 'False')]),
-    'weeks_in_year': ('2020 has 53.', [('2020', '53')]),
-    'days_in_month': ('February 1900 has 28.', [('1900, 2', '28')]),
-}
-EXAMPLE = re.compile(r'(?:[Tt]hat of|Those of|Those for|For|From|The date for) (.*?) (?:it is|they are|is|are) ([^`]*)')
-TERM = re.compile(r'-?\d+-\d\d-\d\d|-?\d+(?:/\d+)?')  # a date, a fraction or a number
+# A sentence of a comment with an example, in whose place a docstring has the lines of the call in the last part of rows.txt.
+EXAMPLE = re.compile(r'(?:That of|Those of|Those for|For|From|The date for|February|-?\d).*\d.*')
+ROWS = (ROOT / 'bindings/python/tests/rows.txt').read_text().rpartition('\n\n')[2]
 
 LETTERS = {'i64': 'q', 'u64': 'Q', 'u32': 'I', 'u16': 'H', 'u8': 'B', 'i32': 'i', 'bool': '?'}
 TYPES = {'q': 'int64_t', 'Q': 'uint64_t', 'I': 'uint32_t', 'H': 'uint16_t', 'B': 'uint8_t', 'i': 'int32_t', '?': 'uint8_t'}
@@ -56,9 +34,10 @@ OBJECTS = {'i64': 'PyLong_FromLongLong', 'u64': 'PyLong_FromUnsignedLongLong', '
            'bool': 'PyBool_FromLong'}
 # The class of a result, and the scalar result of the stubs.
 CLASSES = {'Bezout': ('class_gcd', 'ExtendedGcd'), 'Solutions': ('class_solutions', 'Solutions'), 'IsoWeek': ('class_week', 'IsoWeek')}
-FIELDS = {'ExtendedGcd': ('gcd', 'x', 'y'), 'Solutions': ('first', 'step')}
 SHAPES = {'Fraction': 'f', 'Date': 'd'}
 MODULI = {'m', 'n', 'step', 'p', 'q', 'period'}  # the parameters whose 0 is the reason of `BAD_MODULUS`
+# What says, before there is room for the numbers that a call writes, whether it has a result.
+ASKED = {'choice_of_rank': 'is_below_binomial(numbers[0].u, numbers[1].u, numbers[2].u)'}
 
 
 def public_calls() -> list[tuple[str, list[Call]]]:
@@ -114,34 +93,19 @@ def object_of(call: Call) -> str:
 
 def form_text(call: Call) -> str:
     """The functions of a form, and its entry."""
-    has_status = EXPORTS().has_status(call)
-    taken = arguments(call, lambda k, kind: f'({TYPES[LETTERS[kind]]})a[{k}].{"i" if kind[0] == "i" else "u"}')
-    many = arguments(call, lambda k, kind: f'AT({TYPES[LETTERS[kind]]}, {k})')
-    name = call.symbol.removeprefix('cellarcove_')
-    found = results(call)
-    letters = ''.join(LETTERS[kind] for _, kind in found) + ('B' if has_status else '')
-    stores = [f'TO({TYPES[LETTERS[kind]]}, {k}) = r{path};' for k, (path, kind) in enumerate(found)]
-    if has_status:
-        stores.append(f'TO(uint8_t, {len(found)}) = (uint8_t)r.status;')
+    has_status, found = EXPORTS().has_status(call), results(call)
+    stores = [f'        TO({TYPES[LETTERS[kind]]}, {k}) = r{path};' for k, (path, kind) in enumerate(found)]
+    stores += [f'        TO(uint8_t, {len(found)}) = (uint8_t)r.status;'] * has_status
     refused = '''    if (r.status != CELLARCOVE_ANSWER) {
         *status = r.status;
         return NULL;
-    }
-''' if has_status else '    (void)status;\n'
-    return f'''static PyObject *one_{name}(const cell *a, uint32_t *status) {{
-    {c_type(call.result)} r = {call.symbol}({taken});
-{refused}    return {object_of(call)};
-}}
-
-static void many_{name}(Py_ssize_t count, char *const *in, const Py_ssize_t *steps, char *const *out) {{
-    for (Py_ssize_t k = 0; k < count; k++) {{
-        {c_type(call.result)} r = {call.symbol}({many});
-''' + ''.join(f'        {store}\n' for store in stores) + f'''    }}
-}}
-
-static const form form_{name} = {{"{''.join(LETTERS[kind] for kind in cells(call))}", "{letters}", {'true' if has_status else 'false'}, one_{name}, many_{name}}};
-
-'''
+    }''' if has_status else '    (void)status;'
+    return filled(
+        'form.c', name=call.symbol.removeprefix('cellarcove_'), type=c_type(call.result), symbol=call.symbol, refused=refused,
+        taken=arguments(call, lambda k, kind: f'({TYPES[LETTERS[kind]]})a[{k}].{"i" if kind[0] == "i" else "u"}'), object=object_of(call),
+        many=arguments(call, lambda k, kind: f'AT({TYPES[LETTERS[kind]]}, {k})'), stores='\n'.join(stores),
+        cells=''.join(LETTERS[kind] for kind in cells(call)), letters=''.join(LETTERS[kind] for _, kind in found) + 'B' * has_status,
+        has_status='true' if has_status else 'false')
 
 
 def bools(values: Sequence[bool]) -> str:
@@ -172,51 +136,25 @@ def raised(call: Call, unsigned: Call | None) -> str:
     return ' '.join(said)
 
 
-def value_of(term: str, of: str) -> str:
-    """A date, a fraction or a number in Python, as an argument or as it is printed."""
-    if '/' in term:
-        return f'{of}({", ".join(term.split("/"))})'
-    if '-' in term[1:]:
-        year, month, day = map(int, term.rsplit('-', 2))
-        return f'Date(year={year}, month={month}, day={day})' if of else f'Date({year}, {month}, {day})'
-    return term
-
-
-def example(call: Call, sentence: str) -> list[tuple[str, str]]:
-    """The examples of a sentence such as "That of -8 by 3 is -3.": the arguments and the result in Python. There are none if it has no example."""
-    found = []
-    for clause in re.split(', and (?=that of)', sentence):
-        said = EXAMPLE.fullmatch(clause.removesuffix('.'))
-        if not said:
-            return []
-        given = ', '.join(value_of(term, '') for term in TERM.findall(said[1]))
-        terms, kind = [value_of(term, 'Fraction') for term in TERM.findall(said[2])], scalar_result(call)
-        fields = FIELDS.get(kind, ())
-        named = [f'{field}={term}' for field, term in zip(fields, terms)] or terms
-        found.append((f'[{given}]' if call.has_slice else given, named[0] if len(named) == 1 else f'{kind if fields else ""}({", ".join(named)})'))
+def examples(name: str) -> list[tuple[str, str]]:
+    """The calls of a name of which the docstring has the results, with these."""
+    found = [(call, value) for call, value in re.findall(r'^(\w+\(.*\))  # (.*)$', ROWS, re.M) if call.startswith(f'{name}(')]
+    assert found, f'{name}: the last part of rows.txt has no example'
     return found
 
 
-def examples(name: str, call: Call, doc: str) -> tuple[str, list[tuple[str, str]]]:
+def split(doc: str) -> tuple[str, list[str]]:
     """The comment of a call without the sentences that have examples, and those."""
-    sentence, by_hand = EXAMPLES.get(name, ('', []))
-    assert sentence in doc, f'{name}: the comment has no "{sentence}"'
-    kept, found = [], list(by_hand)
-    for part in re.split('(?<=[.]) ', doc.replace(sentence, '').strip()):
-        read = example(call, part)
-        found += read
-        kept += [] if read else [part]
-    assert found, f'{name}: the comment has no example'
-    return ' '.join(kept), found
+    parts = re.split('(?<=[.]) ', doc)
+    return ' '.join(part for part in parts if not EXAMPLE.fullmatch(part)), list(filter(EXAMPLE.fullmatch, parts))
 
 
 def docstring(name: str, forms: list[Call]) -> str:
     """What a call does, its errors, its arrays, and its examples, which the tests of the package run."""
     call = forms[0]
-    doc, found = examples(name, call, without_returns(DOCS.get(name, call.doc)))
-    parts = [doc, raised(call, forms[1] if len(forms) == 2 else None), 'It takes any count of numbers.' if name in OF_MANY else '']
+    parts = [split(without_returns(DOCS.get(name, call.doc)))[0], raised(call, forms[1] if len(forms) == 2 else None), 'It takes any count of numbers.' if name in OF_MANY else '']
     text = ['\n'.join(textwrap.wrap(in_python(part), 88)) for part in parts if part]
-    return '\n\n'.join([*text, '\n'.join(f'>>> {name}({given})\n{result}' for given, result in found)])
+    return '\n\n'.join([*text, '\n'.join(f'>>> {given}\n{result}' for given, result in examples(name))])
 
 
 def in_python(text: str) -> str:
@@ -233,22 +171,16 @@ def call_text(name: str, forms: list[Call]) -> str:
     call, two = forms[0], len(forms) == 2
     follows = [two and a != b for a, b in zip(cells(forms[0]), cells(forms[-1]))]
     named = {form.form: f'&form_{form.symbol.removeprefix("cellarcove_")}' for form in forms}
-    forms_text = f'NULL, {named["i64"]}, {named["u64"]}' if two else f'&form_{call.symbol.removeprefix("cellarcove_")}, NULL, NULL'
-    shapes = ''.join('w' if parameter.name == WEEKDAY else SHAPES.get(parameter.kind, 'n') for parameter in call.parameters)
-    names = ', '.join(f'"{parameter}"' for parameter in parameter_names(call))
-    of_many = f'''    if (count != 2 && names == NULL) {{
+    of_many = f'''
+    if (count != 2 && names == NULL) {{
         return of_any_count(py_{name}_of, "{name}", args, count);
     }}
 ''' if name in OF_MANY else ''
-    return f'''static const call call_{name} = {{"{name}", {len(call.parameters)}, {{{names}}}, "{shapes}",
-    {bools(divides(call))}, {bools(follows)}, {forms_text}}};
-
-static PyObject *py_{name}(PyObject *module, PyObject *const *args, Py_ssize_t count, PyObject *names) {{
-    (void)module;
-{of_many}    return run(&call_{name}, args, count, names);
-}}
-
-'''
+    return filled(
+        'call.c', name=name, count=str(len(call.parameters)), names=', '.join(f'"{parameter}"' for parameter in parameter_names(call)),
+        shapes=''.join('w' if parameter.name == WEEKDAY else SHAPES.get(parameter.kind, 'n') for parameter in call.parameters),
+        divides=bools(divides(call)), follows=bools(follows), of_many=of_many,
+        forms=f'NULL, {named["i64"]}, {named["u64"]}' if two else f'&form_{call.symbol.removeprefix("cellarcove_")}, NULL, NULL')
 
 
 def list_text(name: str, forms: list[Call]) -> str:
@@ -257,9 +189,6 @@ def list_text(name: str, forms: list[Call]) -> str:
     place, width = next((k, len(EXPORTS().leaves(item))) for k, item in enumerate(items) if item)
     for form in forms:
         assert {parameter.kind for parameter in form.parameters if not parameter.item} <= {form.form} and not form.writes, form
-    several = count > 1
-    head = 'PyObject *const *args, Py_ssize_t given' if several else 'PyObject *object'
-    taken = f'args, given, {count}' if several else '&object, 1, 1'
 
     def case(form: Call) -> str:
         others = iter(range(count))
@@ -271,83 +200,21 @@ def list_text(name: str, forms: list[Call]) -> str:
         Py_END_ALLOW_THREADS
         return of_list(&of, r.status, {OBJECTS[form.form]}(r.value));
 '''
-    signed = f'''    if (of.is_signed) {{
+    signed = f'''
+    if (of.is_signed) {{
 {case(forms[0])}    }}
 ''' if len(forms) == 2 else ''
-    return f'''static PyObject *py_{name}(PyObject *module, {head}) {{
-    (void)module;
-    list of;
-    cell others[{count}];
-    if (read_list("{name}", {taken}, {place}, {width}, {"true" if len(forms) == 2 else "false"}, &of, others) != 0) {{
-        return NULL;
-    }}
-{signed}    {{
-{case(forms[-1])}    }}
-}}
-
-'''
-
-
-# What says, before there is room for the numbers that a call writes, that it has no result.
-ASKED = {'choice_of_rank': 'is_below_binomial(numbers[0].u, numbers[1].u, numbers[2].u) ? CELLARCOVE_ANSWER : CELLARCOVE_OUTSIDE'}
-
-
-def divided_text(name: str, forms: list[Call]) -> str:
-    """The function of a call that divides a number by weights."""
-    signed = forms[0].symbol if len(forms) == 2 else 'NULL'
-    return f'''static PyObject *py_{name}(PyObject *module, PyObject *const *args, Py_ssize_t given) {{
-    (void)module;
-    return divided("{name}", args, given, {signed}, {forms[-1].symbol});
-}}
-
-'''
-
-
-def text_text(name: str, call: Call) -> str:
-    """The function of a call of a text."""
-    return f'''static PyObject *py_{name}(PyObject *module, PyObject *object) {{
-    (void)module;
-    const uint8_t *bytes;
-    size_t count;
-    PyObject *text = bytes_of("{name}", object, &bytes, &count);
-    if (text == NULL) {{
-        return NULL;
-    }}
-    {c_type(call.result)} r = {call.symbol}(bytes, count);
-    Py_DECREF(text);
-    return r.status == CELLARCOVE_ANSWER ? {object_of(call)} : refused(r.status, r.status == CELLARCOVE_ZERO_DENOMINATOR);
-}}
-
-'''
+    return filled('list.c', name=name, parameters='PyObject *const *args, Py_ssize_t given' if count > 1 else 'PyObject *object',
+                  taken=f'args, given, {count}' if count > 1 else '&object, 1, 1', count=str(count), place=str(place), width=str(width),
+                  has_signed='true' if len(forms) == 2 else 'false', signed=signed, unsigned=case(forms[-1]))
 
 
 def written_text(name: str, call: Call) -> str:
     """The function of a call that writes unsigned numbers, whose other parameters are unsigned numbers before it."""
-    count = len(call.parameters)
+    last = len(call.parameters) - 1
     assert call.parameters[-1].is_written and {parameter.item or parameter.kind for parameter in call.parameters} == {'u64'}, call
-    return f'''static PyObject *py_{name}(PyObject *module, PyObject *const *args, Py_ssize_t given) {{
-    (void)module;
-    cell numbers[{count}];
-    if (unsigned_numbers("{name}", args, given, {count}, numbers) != 0) {{
-        return NULL;
-    }}
-    uint32_t status = {ASKED.get(name, 'CELLARCOVE_ANSWER')};
-    if (status != CELLARCOVE_ANSWER) {{
-        return refused(status, false);
-    }}
-    uint64_t *written = room_for(numbers[{count - 1}].u);
-    if (written == NULL) {{
-        return NULL;
-    }}
-    Py_BEGIN_ALLOW_THREADS
-    status = {call.symbol}({", ".join(f"numbers[{k}].u" for k in range(count - 1))}, written, (size_t)numbers[{count - 1}].u);
-    Py_END_ALLOW_THREADS
-    PyObject *result = status == CELLARCOVE_ANSWER ? tuple_of_numbers(written, (Py_ssize_t)numbers[{count - 1}].u, false) : refused(status, false);
-    PyMem_Free(written);
-    return result;
-}}
-
-'''
+    return filled('written.c', name=name, symbol=call.symbol, asked=ASKED[name], count=str(last + 1), last=str(last),
+                  passed=', '.join(f'numbers[{k}].u' for k in range(last)))
 
 
 def method(name: str, forms: list[Call]) -> str:
@@ -366,9 +233,9 @@ def calls_c() -> str:
     for name, forms in named:
         kinds = [parameter.item for parameter in forms[0].parameters if parameter.item]
         if len(kinds) == 2:
-            text += divided_text(name, forms)
+            text += filled('divided.c', name=name, signed=forms[0].symbol if len(forms) == 2 else 'NULL', unsigned=forms[-1].symbol)
         elif kinds == ['u8']:
-            text += text_text(name, forms[0])
+            text += filled('text.c', name=name, symbol=forms[0].symbol, kind=c_type(forms[0].result), result=object_of(forms[0]))
         elif kinds:
             text += written_text(name, forms[0]) if forms[0].writes else list_text(name, forms)
     for name, forms in named:

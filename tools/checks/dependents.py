@@ -9,18 +9,12 @@ import re
 import shutil
 import tomllib
 from pathlib import Path
+from string import Template
 
 from tools.erase.source import Unknown
 from tools import write
 
-WORKSPACE = '''\
-[workspace]
-members = [{members}]
-resolver = "2"
-
-[patch.crates-io]
-num-integer = {{ path = "{num_integer}" }}
-{patches}'''
+WORKSPACE = Path(__file__).parent / 'templates' / 'dependents.toml'
 SECTION = re.compile(r'^\[', re.M)
 
 
@@ -68,5 +62,5 @@ def make(words: list[str]) -> bool:
     for name in names:
         take(registry, name, out)
     members = ', '.join(f'"{name}"' for name in names)
-    patches = ''.join(f'{name} = {{ path = "{name}" }}\n' for name in names)
-    return write(out, {'Cargo.toml': WORKSPACE.format(members=members, num_integer=num_integer, patches=patches)})
+    patches = '\n'.join(f'{name} = {{ path = "{name}" }}' for name in names)
+    return write(out, {'Cargo.toml': Template(WORKSPACE.read_text()).substitute(members=members, num_integer=num_integer, patches=patches)})

@@ -13,7 +13,7 @@ import pathlib
 import re
 import subprocess
 from collections.abc import Callable, Iterable, Iterator
-from dataclasses import dataclass
+from typing import NamedTuple
 
 from tools import ROOT, counted
 from tools.erase.prose import anchor
@@ -24,7 +24,7 @@ PAGES = ('README.md', 'docs/*.md', 'crates/*/CALLING.md', 'crates/*/README.md')
 LINKED = PAGES + ('CHANGELOG.md', 'CONTRIBUTING.md', 'bindings/*.md', 'bindings/python/*.md', 'compare/*.md', 'rust/*.md',
                   'rust/num-integer/*.md', 'docs/reference/*.md')
 SESSIONS = ('README.md', 'docs/INTCALC.md')
-KINDS = {'rust', 'antt', 'crates', 'console'}
+BLOCK = re.compile(r'^ *```(rust|antt|crates|console)\n(.*?)(?:^ *```$|\Z)', re.M | re.S)
 IMPORT = re.compile(r'(?:pub )?((?:ghost )?use .*);')
 CODE = re.compile(r'^ *```.*?^ *```$|`[^`\n]*`', re.M | re.S)
 LINK = re.compile(r'\]\(([^()\s]+)\)')
@@ -43,30 +43,17 @@ NO_CODE = re.compile(r'^ *//.*$|#!?\[(?:[^\[\]]|\[[^\[\]]*\])*\]', re.M)
 COMMAND = re.compile(r'(?:intcalc|cargo run --example \w+)(?: [^;|&]*)?|echo \$\?')
 
 
-@dataclass
-class Block:
+class Block(NamedTuple):
     """A block of a page, with the number of the line that begins it."""
-    page: str
     line: int
     kind: str
     lines: list[str]
 
 
-def blocks(page: str, text: str) -> Iterator[Block]:
+def blocks(text: str) -> Iterator[Block]:
     """The blocks of a page of the kinds that are read."""
-    block = None
-    for number, line in enumerate(text.split('\n'), 1):
-        line = line.lstrip(' ')
-        if block is None:
-            if line.startswith('```') and line[3:] in KINDS:
-                block = Block(page, number, line[3:], [])
-        elif line == '```':
-            yield block
-            block = None
-        else:
-            block.lines.append(line)
-    if block is not None:
-        yield block
+    for found in BLOCK.finditer(text):
+        yield Block(text.count('\n', 0, found.start()) + 1, found[1], unindented(found[2]).split('\n')[:-1])
 
 
 # ---- blocks that quote a file
@@ -84,29 +71,6 @@ def imported_names(lines: list[str]) -> Iterator[str]:
             yield from (path + name.strip() for name in names.rstrip('}').split(',')) if names else (path,)
 
 
-def pieces(lines: list[str]) -> list[str]:
-    """The texts between the comments that replace lines."""
-    found = ['']
-    for line in lines:
-        if line.startswith('// and '):
-            found.append('')
-        else:
-            found[-1] += line + '\n'
-    return found
-
-
-def contains(text: str, wanted: list[str]) -> bool:
-    """Whether the text has the pieces, in this order, each from the beginning of a line."""
-    at = 0
-    text = '\n' + text
-    for piece in wanted:
-        found = text.find('\n' + piece, at)
-        if found < 0:
-            return False
-        at = found + len(piece)
-    return True
-
-
 class Files:
     """What the blocks quote."""
 
@@ -120,8 +84,9 @@ class Files:
             return self.crates.issuperset(block.lines)
         if block.kind == 'rust' and all(IMPORT.fullmatch(line) or not line for line in block.lines):
             return self.imports.issuperset(imported_names(block.lines))
-        wanted = pieces(block.lines)
-        return any(contains(text, wanted) for text in self.texts[block.kind])
+        pieces = re.split('^// and .*\n', '\n'.join([*block.lines, '']), flags=re.M)
+        wanted = re.compile('^' + r'(?:.*\n)*?'.join(map(re.escape, pieces)), re.M)
+        return any(wanted.search(text) for text in self.texts[block.kind])
 
 
 def files() -> Files:
@@ -254,7 +219,7 @@ def compare() -> Found:
     there = files()
     for page in (page for pattern in PAGES for page in sorted(ROOT.glob(pattern))):
         name = page.relative_to(ROOT).as_posix()
-        for block in blocks(name, page.read_text()):
+        for block in blocks(page.read_text()):
             if block.kind != 'console':
                 yield f'{name}:{block.line}', there.has(block)
     yield 'README.md: the stored run', has_stored_run()
@@ -290,7 +255,7 @@ def run(program: pathlib.Path, command: str, status: int) -> tuple[str, int]:
 def sessions(program: pathlib.Path, named: Iterable[tuple[str, str]]) -> Found:
     """Each command of the sessions of the pages, with whether it prints what the page shows."""
     for name, text in named:
-        for block in blocks(name, text):
+        for block in blocks(text):
             status = 0
             for number, command, lines in steps(block) if block.kind == 'console' else ():
                 printed, status = run(program, command, status)

@@ -8,30 +8,12 @@ exception: `x.is_multiple_of(&y)` of unsigned numbers, which std has since 1.87,
 printed, with the reason."""
 import re
 from pathlib import Path
+from string import Template
 
 from tools.erase.source import Source
 from tools import write
 
-MANIFEST = '''\
-[package]
-name = "upstream"
-version = "0.0.0"
-edition = "{edition}"
-
-[dependencies]
-num-integer = {{ package = "cellarcove", path = "{crate}" }}
-num-traits = {{ version = "0.2", default-features = false }}
-
-[lints.rust]
-warnings = "allow"
-'''
-HEAD = '''\
-extern crate core;
-extern crate num_integer;
-extern crate num_traits as traits;
-
-use num_integer::*;
-'''
+TEMPLATES = Path(__file__).parent / 'templates'
 # Items that are left out, each with the reason.
 LEFT_OUT = {'test_roots!(i128,u128);': '13 tests, since there are no roots of 128 bits'}
 
@@ -81,7 +63,7 @@ def write_paths(source: Source) -> None:
 def make(words: list[str]) -> bool:
     upstream, crate, out = map(Path, words)
     edition = re.search(r'^edition = "(\d+)"', (upstream / 'Cargo.toml').read_text(), re.M)
-    made = {'Cargo.toml': MANIFEST.format(edition=edition[1] if edition else '2015', crate=crate)}
+    made = {'Cargo.toml': Template((TEMPLATES / 'upstream.toml').read_text()).substitute(edition=edition[1] if edition else '2015', crate=crate)}
     for name in ('src/lib.rs', 'tests/average.rs', 'tests/roots.rs'):
         source = Source(upstream / name, (upstream / name).read_text())
         drop_attributes(source, 'has_i128')
@@ -90,5 +72,6 @@ def make(words: list[str]) -> bool:
             keep_tests(source)
             drop_attributes(source, 'test')
             write_paths(source)
-        made[name] = (HEAD if name == 'src/lib.rs' else '') + ''.join(source.texts)
+        head = (TEMPLATES / 'upstream_head.rs').read_text() if name == 'src/lib.rs' else ''
+        made[name] = head + ''.join(source.texts)
     return write(out, made)

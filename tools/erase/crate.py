@@ -21,14 +21,13 @@ from tools import ROOT as REPOSITORY, write as write_files
 from tools.erase import callers, documentation
 from tools.erase.additions import Additions
 from tools.erase.bounds import Bounds
+from tools.erase.deletion import GHOST_TRAITS, Deletion
 from tools.erase.library import AT_ROOT, CRATES, ROOT, WITHIN, Module, RustLibrary
 from tools.erase.prose import within_columns
 from tools.erase.source import Item, Unknown
 
 BY_HAND = REPOSITORY / 'rust' / 'by_hand'
 
-GHOST_TRAITS = {'Integral', 'FixedWidth', 'Model'}      # traits of contracts alone: no operation of their own
-DROPPED = {'tactic', 'cycle'}                           # attributes of proofs
 KEPT = {'allow', 'cfg_attr', 'cold', 'default', 'deprecated', 'derive', 'doc', 'inline', 'must_use', 'non_exhaustive'}
 MACROS = {'matches', 'unreachable', 'write'}
 RATTLE = {'ghost', 'requires', 'ensures', 'final', 'prove', 'Drop'}
@@ -38,57 +37,23 @@ LOOPS = ('while', 'for', 'loop', '{')
 APART = {('integer_core', 'native', 'Native'): 'Magnitudes'}
 
 
-class Eraser:
+class Eraser(Deletion):
     """A file of a crate of the library."""
     root = 'crate'                              # how its code names the root of the Rust crate
 
     def __init__(self, module: Module, library: RustLibrary, page: documentation.Page) -> None:
-        self.module, self.library, self.page = module, library, page
-        self.source, self.crate, self.texts = module.source, module.crate, module.source.texts
-        self.kind, self.at, self.refuse = self.source.kind, self.source.at, self.source.refuse
-        self.drop, self.drop_from_list, self.put_before = self.source.drop, self.source.drop_from_list, self.source.put_before
+        super().__init__(module.source)
+        self.module, self.library, self.page, self.crate = module, library, page, module.crate
         self.words = {module.source.at(k) for k in range(len(module.source.code))}
-        self.fn_clauses = set[int]()
-
-    def write(self, k: int, text: str) -> None:
-        self.texts[self.source.code[k]] = text
-
-    # ---- what goes
-
-    def drop_item(self, first: int, last: int) -> None:
-        """Drops an item, and the lines of comments right above it."""
-        self.drop(first, last)
-        tokens, i = self.source.tokens, self.source.code[first] - 1
-        while i > 1 and tokens[i].text.count('\n') == 1 and tokens[i - 1].kind == 'line' and '\n' in tokens[i - 2].text:
-            self.texts[i] = self.texts[i - 1] = ''
-            i -= 2
-
-    def drop_line(self, first: int, last: int) -> None:
-        """Drops what has a line of its own, with the end of the line."""
-        self.drop(first, last)
-        after = self.source.code[last] + 1
-        self.texts[after] = self.texts[after].replace('\n', '', 1)
 
     # ---- items
 
-    def items(self, items: Iterable[Item], owner: Item | None = None) -> None:
-        for item in items:
-            self.item(item, owner)
-
     def item(self, item: Item, owner: Item | None) -> None:
-        if item.kind == 'ghost' or item.of_trait in GHOST_TRAITS or self.is_test(item):
-            return self.drop_item(item.first, item.last)
-        if item.kind in ('macro', 'macro_rules', 'extern'):
-            self.refuse(item.word, f'an item `{item.kind}`')
-        if item.kind == 'attribute':
-            if item.name not in DROPPED:
-                self.refuse(item.first, f'the attribute `{item.name}`')
-            return self.drop_line(item.first, item.last)
-        for first, last in item.attributes:
-            self.attribute(first, last)
-        for k in range(item.first, item.word):
-            if self.at(k) == 'final':
-                self.drop(k, k)
+        super().item(item, owner)
+        if item.kind == 'trait' and self.key(item) in APART:
+            self.put_apart(item)
+
+    def dress(self, item: Item, owner: Item | None) -> None:
         if self.only_returns(item, owner):
             self.put_before(item.first, '#[must_use]\n')
         if item.kind == 'impl' and item.of_trait == 'Error':
@@ -96,26 +61,13 @@ class Eraser:
         if item.kind == 'mod' and item.public and not self.library.is_open(self.library.modules[self.crate, (*self.module.path, item.name)]):
             self.write(item.word - 1, 'pub(crate)')
         documentation.add_sections(self, item, owner)
-        if item.kind == 'use':
-            return self.use(item)
         if item.kind == 'struct':
             self.struct(item)
         if item.kind == 'fn':
-            self.fn_clauses |= {clause.first for clause in item.clauses}
             self.parameters(item)
-        if item.kind in ('trait', 'impl', 'mod') and item.open:
-            self.walk(item.word, item.open)
-            self.items(item.items, item)
-            if item.kind == 'trait' and self.key(item) in APART:
-                self.put_apart(item)
-            return None
-        return self.walk(item.word, item.last)
 
     def key(self, item: Item) -> tuple[str, str, str]:
         return self.crate, '/'.join(self.module.path), item.name
-
-    def is_test(self, item: Item) -> bool:
-        return any(self.at(first + 2) == 'cfg' and self.at(first + 4) == 'test' for first, _ in item.attributes)
 
     def put_apart(self, item: Item) -> None:
         """Ends a trait before its functions, and begins the trait that has them."""
@@ -153,20 +105,11 @@ class Eraser:
         return bool(returned) and not returned.startswith('Result<') and not changes and 'must_use' not in names
 
     def attribute(self, first: int, last: int) -> None:
-        name = self.at(first + 2)
-        if name in DROPPED:
-            self.drop_line(first, last)
-        elif [self.at(k) for k in range(first + 2, last)] == ['rattlefmt', ':', ':', 'skip']:
+        if [self.at(k) for k in range(first + 2, last)] == ['rattlefmt', ':', ':', 'skip']:
             self.write(first + 2, 'rustfmt')
-        elif name not in KEPT:
-            self.refuse(first, f'the attribute `{name}`')
-        elif name == 'derive':
-            names = [k for k in range(first + 4, last) if self.kind(k) == 'word']
-            if [self.at(k) for k in names] == ['Drop']:
-                return self.drop_line(first, last)
-            for k in names:
-                if self.at(k) == 'Drop':
-                    self.drop_from_list(k)
+        elif self.at(first + 2) not in KEPT | self.dropped:
+            self.refuse(first, f'the attribute `{self.at(first + 2)}`')
+        super().attribute(first, last)
 
     def use(self, item: Item) -> None:
         """A use, without the ghost traits. An export of a module that is private in Rust is one within the crate."""
@@ -203,12 +146,10 @@ class Eraser:
         return any((crate, (name,)) in self.library.modules for crate in AT_ROOT - {self.crate})
 
     def struct(self, item: Item) -> None:
-        """A struct without its ghost fields. Where a public one has an invariant, no other crate may change its fields."""
-        ghosts = [field for field in item.fields if field.ghost]
+        """Where a public struct has an invariant, no other crate may change its fields."""
+        has_invariant = any(field.ghost for field in item.fields)
         for field in item.fields:
-            if field.ghost:
-                self.drop_item(field.first, field.last + (self.at(field.last + 1) == ','))
-            elif field.public and ghosts and self.library.place_of(self.module, item) is not None:
+            if field.public and not field.ghost and has_invariant and self.library.place_of(self.module, item) is not None:
                 self.write(field.place - 1, 'pub(crate)' if self.crate in AT_ROOT else f'pub(in crate::{self.crate})')
 
     def parameters(self, item: Item) -> None:
@@ -222,52 +163,18 @@ class Eraser:
 
     # ---- code
 
-    def walk(self, k: int, last: int) -> None:
-        while k <= last:
-            k = self.step(k)
-
-    def step(self, k: int) -> int:
-        """Erases what begins at `k`, and returns the place to go on from."""
-        word, source = self.at(k), self.source
-        if not self.texts[source.code[k]]:
-            return k + 1
-        if word == '#' and self.at(k + 1) == '[':
-            last = source.close(k + 1)
-            self.attribute(k, last)
-            return last + 1
-        if source.kind(k) == 'label':
+    def word(self, k: int) -> None:
+        if self.kind(k) == 'label':
             self.label(k)
-        if source.kind(k) != 'word':
-            return k + 1
-        if word in ('requires', 'ensures') or k in self.fn_clauses:
-            clause = source.clause(k)
-            self.drop(clause.first, clause.last)
-            return clause.last + 1
-        if word == 'use':
-            item = source.item(k)
-            self.use(item)
-            return item.last + 1
-        if self.is_macro(k) and word not in MACROS:
-            self.refuse(k, f'the macro `{word}!`')
-        if self.at(k - 1) == 'fn' and self.at(k + 1) == '<' and self.is_of_writer(k + 1):
-            self.drop(k + 1, source.angle(k + 1) - 1)
-        elif word == 'Formatter' and self.at(k + 1) == '<':
-            self.write(k + 2, "'_")
-        elif word in GHOST_TRAITS:
-            self.drop_from_list(k)
-        else:
+        if self.is_macro(k) and self.at(k) not in MACROS:
+            self.refuse(k, f'the macro `{self.at(k)}!`')
+        super().word(k)
+        if self.kind(k) == 'word' and self.texts[self.source.code[k]] == self.at(k):
             self.path(k)
-        return k + 1
-
-    def is_of_writer(self, k: int) -> bool:
-        """Whether the only type parameter is a writer, which Rust's `Formatter` does not name."""
-        opening = self.source.angle(k)
-        taken = {self.at(j) for j in range(opening, self.source.close(opening))}
-        return 'Formatter' in taken and ''.join(self.at(j) for j in range(k + 2, opening - 1)) == ':fmt::Write'
 
     def is_macro(self, k: int) -> bool:
         mark = self.source.code[k] + 1
-        return self.at(k + 1) == '!' and self.source.code[k + 1] == mark and self.at(k + 2) in ('(', '[', '{')
+        return self.kind(k) == 'word' and self.at(k + 1) == '!' and self.source.code[k + 1] == mark and self.at(k + 2) in ('(', '[', '{')
 
     def label(self, k: int) -> None:
         """Drops the label of a loop that nothing in it names."""

@@ -201,32 +201,26 @@ class Source:
 
     def imports(self, item: Item) -> list[tuple[tuple[str, ...], str]]:
         """The paths that a `use` imports, each with the name that it gives."""
-        found: list[tuple[tuple[str, ...], str]] = []
-        prefixes: list[list[str]] = []
-        path: list[str] = []
-        k = item.word + 1
-        while k <= item.last:
-            word = self.at(k)
-            if word == '{':
-                prefixes.append(list(path))
-            elif word in (',', '}', ';'):
-                if path and path != (prefixes[-1] if prefixes else []):
-                    found.append((tuple(path), path[-1]))
-                path = list(prefixes[-1]) if prefixes else []
-                if word == '}':
-                    prefixes.pop()
-                    path = []
-            elif word == 'as':
-                found.append((tuple(path), self.at(k + 1)))
-                path, k = list(prefixes[-1]) if prefixes else [], k + 1
-            elif word == 'self' and path:
-                found.append((tuple(path), path[-1]))
-            elif self.kind(k) == 'word':
-                path.append(word)
-            elif word != ':':
-                self.refuse(k, f'`{word}` in a `use`')
-            k += 1
-        return found
+        return list(self.imports_below((), item.word + 1, item.last))
+
+    def imports_below(self, above: tuple[str, ...], k: int, last: int) -> Iterator[tuple[tuple[str, ...], str]]:
+        """The same of a list from `k` to `last`, below a path."""
+        while k < last:
+            path, stop = above, self.next_field(k, last)
+            for j in range(k, stop):
+                if self.at(j) == '{':
+                    yield from self.imports_below(path, j + 1, self.close(j))
+                    break
+                if self.at(j) == 'as':
+                    yield path, self.at(j + 1)
+                    break
+                if self.kind(j) == 'word':
+                    path += (self.at(j),) * (self.at(j) != 'self' or not path)
+                elif self.at(j) != ':':
+                    self.refuse(j, f'`{self.at(j)}` in a `use`')
+            else:
+                yield path, path[-1]
+            k = stop + 1
 
     # ---- items
 

@@ -14,6 +14,7 @@ proved=$PWD/crates/cellarcove_c/out/libcellarcove_c.a
 libraries=${1:-}
 version=$(sed -nE 's/^version = "(.*)"$/\1/p' rust/Cargo.toml)
 archive=$work/by_rattle/libcellarcove_c.a # the one that is looked at
+tests=$PWD/bindings/python/tests
 languages=0
 
 # has PROGRAM LANGUAGE: the program is on the machine, or a line says that the language is skipped.
@@ -21,11 +22,12 @@ has() {
     command -v "$1" >/dev/null || { echo "$2: skipped, since there is no $1"; return 1; }
 }
 
-# over_proved: builds the archive over the libraries that `rt ci` has left.
-over_proved() { mkdir -p crates/cellarcove_c/out && calls_over_proved "$proved"; }
-
 build() {
-    { [ "$libraries" = --proved ] && over_proved || (cd crates/cellarcove_c && rt lib); } && bindings/build --rattle "$work/by_rattle"
+    if [ "$libraries" = --proved ]; then
+        mkdir -p crates/cellarcove_c/out && calls_over_proved "$proved"
+    else
+        (cd crates/cellarcove_c && rt lib)
+    fi && bindings/build --rattle "$work/by_rattle"
 }
 
 calls() { tools/cellarcove make symbols; }
@@ -138,17 +140,19 @@ found_by_cmake() {
         cmake --build "$work/project/made" >/dev/null && "$work/project/made/of_cellarcove" && "$work/project/made/of_shared"
 }
 
-makes_a_wheel() {
-    rm -rf "$work/wheel"
-    CELLARCOVE_ARCHIVE=$archive python3 -m pip wheel --quiet --disable-pip-version-check --no-build-isolation --no-deps --no-index \
-        --wheel-dir "$work/wheel" bindings/python
-}
+# What pip needs the net for, it leaves out.
+offline=(--quiet --disable-pip-version-check --no-build-isolation --no-deps --no-index)
+
+# wheel_of ARCHIVE FOLDER SOURCES: pip makes a wheel of the sources and the archive, or of one that they make, in a folder.
+wheel_of() { rm -rf "$2" && CELLARCOVE_ARCHIVE=$1 python3 -m pip wheel "${offline[@]}" --wheel-dir "$2" "$3"; }
+
+makes_a_wheel() { wheel_of "$archive" "$work/wheel" bindings/python; }
 
 # The wheel, unpacked, runs in an empty folder, with a Python.
 passes_its_tests() {
     rm -rf "$work/site" "$work/empty_folder"
     python3 -m zipfile -e "$work"/wheel/*.whl "$work/site" && mkdir "$work/empty_folder" &&
-        with_package "$PWD/bindings/python/tests/test_cellarcove.py"
+        with_package "$tests/test_cellarcove.py"
 }
 
 # with_package SCRIPT WORD..: the script runs with the package of the wheel, in an empty folder.
@@ -171,8 +175,7 @@ installs_editable() {
     local tree=$work/editable
     rm -rf "$tree" && mkdir -p "$tree/bindings" && cp LICENSE-* "$tree" && cp -r bindings/c bindings/python "$tree/bindings" &&
         python3 -m venv --without-pip "$tree/environment" &&
-        CELLARCOVE_ARCHIVE=$archive python3 -m pip --python "$tree/environment/bin/python" install --quiet --disable-pip-version-check \
-            --no-build-isolation --no-deps --no-index --editable "$tree/bindings/python" &&
+        CELLARCOVE_ARCHIVE=$archive python3 -m pip --python "$tree/environment/bin/python" install "${offline[@]}" --editable "$tree/bindings/python" &&
         (cd "$work/empty_folder" && "$tree/environment/bin/python" -c "
 import importlib.metadata, pathlib, cellarcove
 assert pathlib.Path(cellarcove.__file__).is_relative_to('$tree/bindings/python') and cellarcove.gcd(12, 18) == 6
@@ -189,10 +192,9 @@ passes_with_sanitizers() {
 
 # A source distribution has all that a wheel is built of by cargo, and its names are those of the package.
 makes_a_wheel_of_the_sources() {
-    rm -rf "$work/sources" "$work/wheel_of_sources" && mkdir "$work/sources" &&
+    rm -rf "$work/sources" && mkdir "$work/sources" &&
         (cd bindings/python && PYTHONDONTWRITEBYTECODE=1 python3 -c "import cellarcove_build; cellarcove_build.build_sdist('$work/sources')") &&
-        CELLARCOVE_ARCHIVE='' python3 -m pip wheel --quiet --disable-pip-version-check --no-build-isolation --no-deps --no-index \
-            --wheel-dir "$work/wheel_of_sources" "$work"/sources/*.tar.gz && compgen -G "$work/wheel_of_sources/*.whl"
+        wheel_of '' "$work/wheel_of_sources" "$work"/sources/*.tar.gz && compgen -G "$work/wheel_of_sources/*.whl"
 }
 
 # The package, and a caller of numbers and of arrays, have the types of the stubs.
@@ -241,17 +243,13 @@ looks_at() {
 
 # python_calls MINUTES: the wheel, its tests, and so many minutes of random calls.
 python_calls() {
-    if has python3 Python && has cc Python; then
-        if python3 -m pip --version >/dev/null 2>&1; then
-            languages=$((languages + 1))
-            check 'the wheel' makes_a_wheel
-            check 'Python' passes_its_tests
-            check 'the files and the tags of the wheel' with_package "$PWD/bindings/python/tests/test_wheel.py" "$work"/wheel/*.whl
-            counted 'random calls' fuzz 1 "$1"
-        else
-            echo 'Python: skipped, since there is no pip'
-        fi
-    fi
+    has python3 Python && has cc Python || return
+    python3 -m pip --version >/dev/null 2>&1 || { echo 'Python: skipped, since there is no pip'; return; }
+    languages=$((languages + 1))
+    check 'the wheel' makes_a_wheel
+    check 'Python' passes_its_tests
+    check 'the files and the tags of the wheel' with_package "$tests/test_wheel.py" "$work"/wheel/*.whl
+    counted 'random calls' fuzz 1 "$1"
 }
 
 if [ "$libraries" != --cargo ]; then
@@ -276,15 +274,16 @@ if builds_by_cargo; then
 fi
 if has cc C; then
     check 'a call in the place of another' other_call_is_found
-    check 'the example of the page' page_holds bindings/README.md c cc -std=c11
-    check 'the example of the cookbook' page_holds docs/COOKBOOK.md c cc -std=c11
+    for page in bindings/README.md docs/COOKBOOK.md; do
+        check "the example of $page" page_holds "$page" c cc -std=c11
+    done
     check 'the installed library' installs
 fi
 c_with clang
 cpp_with g++
 cpp_with clang++
 if has python3 Python && has cc Python && [ -d "$work/site" ]; then
-    counted "CPython's own tests" with_package "$PWD/bindings/python/tests/cpython_tests.py"
+    counted "CPython's own tests" with_package "$tests/cpython_tests.py"
     if python3 -m venv --help >/dev/null 2>&1 && python3 -m pip --python "$(command -v python3)" --version >/dev/null 2>&1; then
         check 'an editable install' installs_editable
     fi

@@ -14,7 +14,13 @@ originals=(num-integer num-traits serde serde_json)
 dependents=(num-bigint num-rational bigdecimal num num-iter chrono)
 export CARGO_TARGET_DIR=${CARGO_TARGET_DIR:-$work/target}
 # Nothing is built twice or debugged, so cargo writes less.
-export CARGO_INCREMENTAL=0 CARGO_PROFILE_DEV_DEBUG=0
+export CARGO_INCREMENTAL=0 CARGO_PROFILE_DEV_DEBUG=0 CARGO_NET_OFFLINE=true
+
+# at FOLDER COMMAND..: runs it in a folder of the copies.
+at() { (cd "$work/$1" && "${@:2}"); }
+
+# strictly FOLDER COMMAND..: the same. Each warning is an error.
+strictly() { RUSTFLAGS=-Dwarnings RUSTDOCFLAGS=-Dwarnings at "$@"; }
 
 # check_tests NAME COMMAND..: the command succeeds and runs tests. The line has their number.
 check_tests() {
@@ -33,28 +39,22 @@ is_made_anew() {
         tools/cellarcove make exports "$work/made_exports" && diff -r "$work/made_exports/src" rust/c/src
 }
 
-# has_packages NAME..: the sources of these crates are in the registry.
+# has_packages NAME..: the sources of these crates are in the registry. If not, a line says so, which is a failure in the gate.
 has_packages() {
     local name
     for name in "$@"; do
-        compgen -G "$registry/$name-[0-9]*" >/dev/null || return 1
+        compgen -G "$registry/$name-[0-9]*" >/dev/null && continue
+        echo "there is no package of $name: what needs it is not checked"
+        [ -z "${CI:-}" ] || failed=$((failed + 1))
+        return 1
     done
 }
-
-# absent WORD..: says what is not checked. In the gate it is a failure.
-absent() {
-    echo "$*"
-    [ -z "${CI:-}" ] || failed=$((failed + 1))
-}
-
-# without_warnings COMMAND..: runs it in the copy of rust/. Each warning is an error.
-without_warnings() { (cd "$work/rust" && RUSTFLAGS=-Dwarnings RUSTDOCFLAGS=-Dwarnings "$@"); }
 
 # The examples of the documentation, in a copy of edition 2024, which builds them as one program.
 documented_examples() {
     cp -r "$work/rust" "$work/documented"
     sed -i 's/^edition = .*/edition = "2024"/; /^rust-version = /d' "$work/documented/Cargo.toml"
-    (cd "$work/documented" && cargo test --offline --all-features --doc)
+    at documented cargo test --all-features --doc
 }
 
 # A package that depends on this crate alone has a type of its own.
@@ -64,13 +64,13 @@ own_type() {
         >"$work/own/Cargo.toml"
     touch "$work/own/src/lib.rs"
     cp rust/tests/boxed_type.rs "$work/own/tests"
-    (cd "$work/own" && cargo test --offline --test boxed_type)
+    at own cargo test --test boxed_type
 }
 
 # The package has the texts of both licences, as the repository has them.
 has_licences() {
     local name
-    (cd "$work/rust" && cargo package --offline --allow-dirty --list) >"$work/list" || return 1
+    at rust cargo package --allow-dirty --list >"$work/list" || return 1
     for name in LICENSE-*; do
         { cmp "$name" "rust/$name" && grep -x "$name" "$work/list"; } || { echo "the package has no $name" && return 1; }
     done
@@ -78,26 +78,16 @@ has_licences() {
 
 # The package is made and built, and tests of it pass where it is unpacked.
 package() {
-    without_warnings cargo package --offline --allow-dirty || return 1
-    mkdir "$work/unpacked"
-    tar -xzf "$CARGO_TARGET_DIR"/package/cellarcove-*.crate -C "$work/unpacked" --strip-components 1 || return 1
-    (cd "$work/unpacked" && cargo test --offline --test own_type --test modules)
+    strictly rust cargo package --allow-dirty && mkdir "$work/unpacked" &&
+        tar -xzf "$CARGO_TARGET_DIR"/package/cellarcove-*.crate -C "$work/unpacked" --strip-components 1 &&
+        at unpacked cargo test --test own_type --test modules
 }
-
-# num_integer WORD..: builds the package num-integer with the features that the words say.
-num_integer() { (cd "$work/rust/num-integer" && RUSTFLAGS=-Dwarnings cargo build --offline "$@"); }
-
-# exports COMMAND..: runs it in the package of exports for C. Each warning is an error. tools/gate/check_bindings.sh calls them.
-exports() { (cd "$work/rust/c" && RUSTFLAGS=-Dwarnings "$@"); }
 
 # The package num-integer of rust/ is the only one of that name in the tree.
 is_replaced() {
-    (cd "$work/tree" && cargo tree --offline --workspace -i num-integer) >"$work/list" &&
+    at tree cargo tree --workspace -i num-integer >"$work/list" &&
         head -n 1 "$work/list" | grep -F "($work/rust/num-integer)"
 }
-
-# dependent_tests NAME WORD..: runs the tests of a package in the tree that the words tell cargo.
-dependent_tests() { (cd "$work/tree" && cargo test --offline -j "${RT_JOBS:-$(nproc)}" -p "$@"); }
 
 check_dependents() {
     local name words begin=$SECONDS
@@ -108,13 +98,10 @@ check_dependents() {
     for name in "${dependents[@]}"; do
         words=()
         [ "$name" != chrono ] || words=(--lib --no-default-features --features 'clock std')
-        check_tests "those of $name" dependent_tests "$name" "${words[@]}"
+        check_tests "those of $name" at tree cargo test -j "${RT_JOBS:-$(nproc)}" -p "$name" "${words[@]}"
     done
     echo "the packages above took $((SECONDS - begin)) seconds"
 }
-
-# upstream_tests WORD..: runs the tests of num-integer that the words tell cargo.
-upstream_tests() { (cd "$work/upstream" && cargo test --offline "$@"); }
 
 # The lines of a list: type, call, number of inputs and checksum.
 sums() {
@@ -122,12 +109,8 @@ sums() {
         awk '{ print $1, $2, $3 + $4, $5 }'
 }
 
-front_page() {
-    (cd "$work/compare" && cargo test --offline --test front_page "$@")
-}
-
 checksums() {
-    (cd "$work/compare" && cargo run --release --offline --features cellarcove >"$work/list") || return 1
+    at compare cargo run --release --features cellarcove >"$work/list" || return 1
     [ "$(sums "$work/list" | wc -l)" -gt 0 ] && diff <(sums crates/replay/src/tests/list.rt) <(sums "$work/list")
 }
 
@@ -144,9 +127,9 @@ if has_packages "${originals[@]}"; then
         >"$work/.cargo/config.toml"
     cp -r rust compare "$work"
     rm -rf "$work"/{rust,rust/num-integer,rust/c,compare}/{target,Cargo.lock}
-    check 'the crate is built' without_warnings cargo build --offline --all-targets --all-features
-    check_tests 'its tests' without_warnings cargo test --offline --all-features --tests
-    check_tests 'its tests in release' without_warnings cargo test --offline --all-features --release --tests
+    check 'the crate is built' strictly rust cargo build --all-targets --all-features
+    check_tests 'its tests' strictly rust cargo test --all-features --tests
+    check_tests 'its tests in release' strictly rust cargo test --all-features --release --tests
     check_tests 'the examples of its documentation and its page' documented_examples
     check 'the example programs print what their heads show' tools/cellarcove check examples "$CARGO_TARGET_DIR/debug/examples"
     # a few of each kind; tools/gate/release.sh takes out all
@@ -154,32 +137,28 @@ if has_packages "${originals[@]}"; then
     check_tests 'a type that is not Copy, of a package that depends on this crate alone' own_type
     check 'the package has the texts of both licences' has_licences
     check_tests 'the package is made, and some of its tests where it is unpacked' package
-    check 'the package num-integer without features' num_integer --no-default-features
-    check 'the package num-integer with all features' num_integer --all-features
-    check 'the exports for C' exports cargo build --offline --release
-    check 'its documentation' without_warnings cargo doc --offline --no-deps --all-features
+    check 'the package num-integer without features' strictly rust/num-integer cargo build --no-default-features
+    check 'the package num-integer with all features' strictly rust/num-integer cargo build --all-features
+    # tools/gate/check_bindings.sh calls them
+    check 'the exports for C' strictly rust/c cargo build --release
+    check 'its documentation' strictly rust cargo doc --no-deps --all-features
     check 'its links to contracts and to their words' tools/cellarcove check rust_docs --links "$CARGO_TARGET_DIR/doc/cellarcove"
     if has cargo-clippy; then
-        check 'clippy' without_warnings cargo clippy --offline --all-targets --all-features -- -D warnings
-        check 'clippy on the exports' exports cargo clippy --offline -- -D warnings
+        check 'clippy' strictly rust cargo clippy --all-targets --all-features -- -D warnings
+        check 'clippy on the exports' strictly rust/c cargo clippy -- -D warnings
     fi
     upstream=$(compgen -G "$registry/num-integer-*" | tail -n 1)
     check "the tests of ${upstream##*/} are taken" \
         tools/cellarcove make upstream "$upstream" "$work/rust" "$work/upstream"
     cat "$work/log"
-    check_tests 'those of its library' upstream_tests --lib
-    check_tests 'those of averages' upstream_tests --test average
-    check_tests 'those of roots' upstream_tests --test roots
-    check_tests 'what num-integer returns on the front page' front_page
-    check_tests 'and without overflow checks' front_page --release --config profile.release.overflow-checks=false
+    check_tests 'those of its library' at upstream cargo test --lib
+    check_tests 'those of averages' at upstream cargo test --test average
+    check_tests 'those of roots' at upstream cargo test --test roots
+    check_tests 'what num-integer returns on the front page' at compare cargo test --test front_page
+    check_tests 'and without overflow checks' \
+        at compare cargo test --test front_page --release --config profile.release.overflow-checks=false
     check "the checksums of compare, $(sums crates/replay/src/tests/list.rt | wc -l) lines" checksums
-    if has_packages "${dependents[@]}"; then
-        check_dependents
-    else
-        absent "no packages of ${dependents[*]}: their tests are not run"
-    fi
-else
-    absent "no packages of ${originals[*]}: only the sources are compared"
+    ! has_packages "${dependents[@]}" || check_dependents
 fi
 
 finish

@@ -3,15 +3,14 @@
 A page has each public item that a user of the crate can import, by the path of its import, with its doc comment, its
 signature and its clauses, without its body. Clauses that only say that numbers lie in their types are one line. Then come
 each definition of `specs/` that a public clause or such a definition cites, the laws, and the lemmas of
-`proofs/ForCallers.antt`, in the groups of that file. A word that a clause cites has a link. The index has each function, and
-`imports.md` the module of each word. A form that is not known is
-rejected by file and line."""
+`proofs/ForCallers.antt`, in the groups of that file. A word that a clause cites has a link. The index has each function. A form that is
+not known is rejected by file and line."""
 import itertools
 import re
 import textwrap
 from collections.abc import Iterator
 
-from tools.erase.words import Definition, Specs, cited, imported
+from tools.erase.words import Definition, Specs
 from tools.erase.library import Library, Module, Place
 from tools.erase.prose import anchor, wrapped
 from tools.erase.source import Item, Source, Unknown
@@ -26,13 +25,7 @@ NAMES = ('theorems', 'theorems_by_subject', 'callers', 'integer_core', 'integer_
 BELOW = {'integer_core': 'num_integer', 'integer_roots': 'num_integer'}
 BY_FILE = {'cellarcove_c', 'theorems', 'theorems_by_subject', 'callers'}   # nobody imports them: their public items are those of their files
 FIRST = (('headline',), ('laws',))              # the files of `theorems` with which its page begins
-CALLERS = ('theorems', 'theorems_by_subject', 'callers')   # what their clauses and proofs import of the toolchain is on the page of imports
-PROGRAM = ('intcalc_core', 'intcalc')           # on the page of files alone
 IN_RANGE = 'Clauses that only say that arguments and results are in the range of their types are left out.'
-IMPORTS = ('The module of each word: import it in a clause by `ghost use MODULE.{WORD};`, and in a proof by `use MODULE.{WORD}`. '
-           'A module of `proofs` is for proofs alone. '
-           'The words are the definitions of the libraries, the rulesets, and what `crates/theorems`, '
-           '`crates/theorems_by_subject` and `crates/callers` import of the toolchain. `→`, `×`, `¬`, `⊥` and the tactics need no import. `rt check --fix-imports` adds missing imports.')
 INDEX = ('By name. The exports for C are on [their page](cellarcove_c.md), the theorems on those of [`theorems`](theorems.md) '
          'and [`theorems_by_subject`](theorems_by_subject.md), and functions that show how calls are written on [that of `callers`](callers.md).')
 SHOWN = ('fn', 'struct', 'enum', 'trait', 'const', 'type')
@@ -163,13 +156,11 @@ class Reference:
     def __init__(self) -> None:
         names = [name for name in NAMES if (CRATES / name / 'src').is_dir()]
         self.specs, library = Specs(CRATES, names), Library(CRATES, names)
-        self.program = Library(CRATES, [name for name in PROGRAM if (CRATES / name / 'src').is_dir()])
         self.crates = {name: Crate(library, name) for name in names}
         self.pages = {name: Page(f'`{name}`') for name in self.crates}
         self.anchors: dict[Key, str] = {}
         self.waiting: list[tuple[str, int, list[Definition]]] = []
         self.calls: list[tuple[str, str, str, str, str]] = []
-        self.rulesets: list[tuple[str, str, str]] = []
 
     # ---- words
 
@@ -192,7 +183,8 @@ class Reference:
         page.add(*crate.modules[0].source.head(), '', IN_RANGE, '')
         if crate.name in BELOW:
             upper = BELOW[crate.name]
-            page.add(f'Its public items are those of [`{upper}`]({upper}.md). This page has its definitions and lemmas.', '')
+            page.add(f'Its public items are those of [`{upper}`]({upper}.md). This page has its definitions and lemmas. A crate over `{upper}`',
+                     f'imports the definitions from `Rattle.{upper}.specs`.', '')
         for place, shown in crate.sections():
             if crate.name in BY_FILE:
                 page.heading(2, f"`{'/'.join(place)}.rt`" if place else 'The root')
@@ -289,9 +281,7 @@ class Reference:
                 for name in (name.strip() for name in names.split(',')):
                     if name not in found:
                         raise Unknown(f'{file}: {path} has no `{name}` that is known')
-                    anchor = page.word(4, name, *found[name])
-                    if found[name][1].startswith('ruleset '):
-                        self.rulesets.append((crate, name, anchor))
+                    page.word(4, name, *found[name])
             for name, lemma in lemmas(text).items():
                 page.word(4, name, *lemma)
 
@@ -305,39 +295,8 @@ class Reference:
                 add(name)
         self.fill_in()
         pages = {f'{name}.md': '\n'.join(page.lines) for name, page in self.pages.items()}
-        pages |= {'README.md': self.front(), 'index.md': self.index(), 'modules.md': self.modules(), 'imports.md': self.imports()}
+        pages |= {'README.md': self.front(), 'index.md': self.index()}
         return {name: re.sub(r'\n{3,}', '\n\n', text).rstrip('\n') + '\n' for name, text in pages.items()}
-
-    def modules(self) -> str:
-        lines = ['# Modules', '', 'Each file of a crate, by the first sentence of its head.', '']
-        shown = list(self.crates.values()) + [Crate(self.program, name) for name in self.program.crates]
-        for crate in sorted(shown, key=lambda crate: (NAMES + PROGRAM).index(crate.name)):
-            lines += [f'## `{crate.name}`', '', '| file | what it has |', '|---|---|']
-            lines += [f"| `{'/'.join(module.path) or module.source.path.stem}.rt` | {first_sentence(module.source.head())} |"
-                      for module in crate.modules]
-            lines.append('')
-        return '\n'.join(lines)
-
-    def imports(self) -> str:
-        """The page that has the module of each definition, and of each word of the toolchain that a caller imports."""
-        rows = {(name, f'Rattle.{self.upper(crate, file)}.specs.{file}', f'[`{name}`]({crate}.md#{self.anchors[crate, file, name]})')
-                for crate, file, name in self.specs.cited if file != 'Laws' and crate not in BY_FILE}
-        rows |= {(name, f'Rattle.{crate}.proofs.ForCallers', f'[`{name}`]({crate}.md#{anchor})')
-                 for crate, name, anchor in self.rulesets}
-        toolchain: dict[str, str] = {}
-        for path in (file for name in CALLERS for kind in ('src/**/*.rt', 'proofs/**/*.antt') for file in (CRATES / name).glob(kind)):
-            for name, (crate, module) in imported(path.read_text()).items():
-                if crate == 'std' and ' as ' not in name:
-                    toolchain[name] = min(toolchain.get(name, module), module, key=nearest)
-        rows |= {(name, f'Rattle.std.{module}', f'`{name}`') for name, module in toolchain.items()}
-        lines = [f'| {shown} | `{module}` |' for name, module, shown in
-                 sorted(rows, key=lambda row: (row[0][0] != '◌', row[0].lower(), row))]
-        return '\n'.join(['# Imports', '', *wrapped(IMPORTS, 110), '', '| word | module |', '|---|---|', *lines])
-
-    def upper(self, crate: str, file: str) -> str:
-        """The crate from which a caller imports a file of definitions."""
-        lib = CRATES / BELOW.get(crate, crate) / 'specs' / 'Lib.antt'
-        return BELOW[crate] if f'Rattle.{crate}.specs.{file}\n' in lib.read_text() else crate
 
     def index(self) -> str:
         rows = [f'| [`{title}`]({link}) | `{path}` | {said} |' for _, title, path, link, said in sorted(self.calls)
@@ -350,13 +309,8 @@ class Reference:
         return '\n'.join(['# Reference', '', 'Made of the sources by `tools/cellarcove make reference`. Nobody edits these pages.', '',
                           '[All functions](index.md), by name. [How to read a contract](../CONTRACTS.md), in five minutes.', '',
                           '| crate | what it is |', '|---|---|', rows, '',
-                          '[imports.md](imports.md) has the module of each word. [modules.md](modules.md) lists the files of each crate.', '', '# How to read a clause', '',
+                          '# How to read a clause', '',
                           *TOOLCHAIN.read_text().split('\n')[1:]])
-
-
-def nearest(module: str) -> tuple[bool, bool, str]:
-    """The order of the modules that have a word of the toolchain: first that of most words, and last those for proofs alone."""
-    return module != 'specs.Prelude', module.startswith('proofs.'), module
 
 
 def sentence(comment: str) -> str:

@@ -1,6 +1,7 @@
-"""Samples: libraries of which some files have a text, and what the scripts make of them."""
+"""Samples: libraries of which some files have a text, what the scripts make of them, and the lists of golden/."""
 from __future__ import annotations
 
+import re
 import subprocess
 import tempfile
 from collections.abc import Mapping
@@ -12,6 +13,15 @@ from tools.erase.crate import Eraser
 from tools.erase.exports import CRATE, Exports
 from tools.erase.bounds import Bounds
 from tools.erase.documentation import Page
+
+GOLDEN = Path(__file__).resolve().parent / 'golden'
+
+
+def cases(name: str) -> list[tuple[str, str]]:
+    """The heads of a list of golden/, each with the text that stands below it, indented by four."""
+    blocks = re.split(r'\n+(?=\S)', (GOLDEN / f'{name}.txt').read_text())
+    parts = (block.partition('\n') for block in blocks if not block.startswith('#'))
+    return [(head, re.sub('^    ', '', text, flags=re.M).rstrip('\n') + '\n') for head, _, text in parts]
 
 
 def erased(crate: str, texts: Mapping[str, str]) -> tuple[str, Page]:

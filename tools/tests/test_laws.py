@@ -5,74 +5,9 @@ import pytest
 
 from tools import write
 from tools.checks import laws
+from tools.tests import samples
 
-# A repository in which each law stands in a clause.
-SAMPLE = {
-    'crates.txt': '# the crates\nsample: std\ntheorems: sample\ncellarcove_c: sample\nsample_tests: sample\n',
-    'crates/sample/src/lib.rt': '//! Sample.\n',
-    'crates/sample/specs/Laws.antt': '''\
--- The laws.
-
--- one is one
-abbrev pub OneIsOne : Type 0
-OneIsOne = IsSame 1
-
-abbrev pub IsSame : ℕ → Type 0
-IsSame n = n ≡ n
-
--- a law of each property
-abbrev pub LawOfEach : {X : Type 0} → (X → ℤ) → Type 0
-LawOfEach value = (x : ℤ) → x ≡ x
-''',
-    'crates/other/specs/Laws.antt': '''\
--- A law by the name of another.
-abbrev pub OneIsOne : Type 0
-OneIsOne = 1 ≡ 1
-''',
-    'crates/theorems/src/laws.rt': '''\
-//! The laws.
-ghost use Rattle.sample.specs.Laws.{OneIsOne, LawOfEach};
-ghost use Rattle.other.specs.Laws as others;
-
-struct Holder;
-
-impl Holder {
-    pub fn law<T: Integer>(&self)
-        ensures law_of_each { LawOfEach T.value }
-    {
-    }
-}
-
-pub fn laws()
-    ensures one_is_one { OneIsOne }
-    ensures one_is_one_of_others { others.OneIsOne }
-{
-}
-''',
-    'crates/sample_tests/src/lib.rt': '''\
-//! A caller that says a law again.
-ghost use Rattle.sample.specs.Laws.{OneIsOne};
-
-pub fn laws()
-    ensures one_is_one { OneIsOne }
-{
-}
-''',
-    'crates/cellarcove_c/specs/Laws.antt': '''\
--- A law of the exports.
-abbrev pub StatusIsOnly : Type 0
-StatusIsOnly = 1 ≡ 1
-''',
-    'crates/cellarcove_c/src/from_contracts.rt': '''\
-//! The laws of the exports.
-ghost use Rattle.cellarcove_c.specs.Laws.{StatusIsOnly};
-
-fn laws()
-    ensures status_is_only { StatusIsOnly }
-{
-}
-''',
-}
+SAMPLE = dict(samples.cases('laws'))             # a repository in which each law stands in a clause
 LAWS, THERE = 'crates/sample/specs/Laws.antt', 'crates/theorems/src/laws.rt'
 OTHER, EXPORTS = 'crates/other/specs/Laws.antt', 'crates/cellarcove_c/specs/Laws.antt'
 # A slip, its file, an old text and a new one, and the definition that then stands in no clause, with its file.

@@ -1,6 +1,8 @@
 """A slip in the sources changes what is made of them."""
+import contextlib
 import re
 import shutil
+from collections import Counter
 from pathlib import Path
 
 import pytest
@@ -8,57 +10,58 @@ import pytest
 from tools import ROOT, as_made, write
 from tools.bindings import exports, files, python
 from tools.pages import reference
-
-# A file of cellarcove_c, an old text and a new one: a type, a result, the order of fields, a name, a status, a comment.
-EXPORTS = [
-    ('roots.rt', 'cellarcove_sqrt_u64(x: u64)', 'cellarcove_sqrt_u64(x: u32)'),
-    ('operators.rt', 'cellarcove_checked_sum_i64(a: i64, b: i64) -> I64Answer', 'cellarcove_checked_sum_i64(a: i64, b: i64) -> U64Answer'),
-    ('fractions.rt', '    pub num: i64,\n    pub den: i64,', '    pub den: i64,\n    pub num: i64,'),
-    ('weekdays.rt', 'fn cellarcove_weekday(', 'fn cellarcove_day_of_week('),
-    ('answers.rt', 'BAD_MODULUS: u32 = 5', 'BAD_MODULUS: u32 = 7'),
-    ('division.rt', 'if `y` is 0', 'if `x` is 0'),
-]
-# A page of the reference, a file of crates, an old text and a new one.
-PAGES = [
-    ('ratio64.md', 'ratio64/src/fraction.rt', 'IfErr result (λ _. den ≤ℤ pos 0)', 'IfErr result (λ _. den <ℤ pos 0)'),
-    ('integer_core.md', 'integer_core/specs/Divisors.antt', 'pub divides_left : Divides g a', 'pub divides_left : Divides a g'),
-    ('num_integer.md', 'integer_core/proofs/Coprimes.antt', 'pub natural_gcd_positive : {n m d : ℕ} → 0 < m',
-     'pub natural_gcd_positive : {n m d : ℕ} → 0 < n'),
-    ('calendar.md', 'calendar/src/feasts.rt', '/// Returns', '/// Computes'),
-    ('theorems_by_subject.md', 'theorems_by_subject/src/dates.rt', 'ensures { result ≡ Some day }', 'ensures { result ≡ None }'),
-    ('callers.md', 'callers/src/plain.rt', 'IsQuotient IsFloored n d result', 'IsQuotient IsFloored d n result'),
-]
+from tools.tests import samples
 
 
-def change(file: Path, old: str, new: str) -> None:
-    text = file.read_text()
+# Calls whose comment has the numbers of an example in another order than Python.
+OTHER_ORDER = {'is_power', 'iso_week'}
+
+
+def change(file: Path, slip: str) -> None:
+    """Puts a new text in the place of an old one: the two stand above and below a line."""
+    text, (old, new) = file.read_text(), slip.rstrip('\n').split('\n----\n')
     assert old in text
     file.write_text(text.replace(old, new, 1))
 
 
-@pytest.mark.parametrize('name, old, new', EXPORTS)
-def test_exports(tmp_path: Path, monkeypatch: pytest.MonkeyPatch, name: str, old: str, new: str) -> None:
+@pytest.mark.parametrize('name, slip', samples.cases('exports'))
+def test_exports(tmp_path: Path, monkeypatch: pytest.MonkeyPatch, name: str, slip: str) -> None:
     before = files.made()
     monkeypatch.setattr(exports, 'SOURCES', shutil.copytree(exports.SOURCES, tmp_path / 'src'))
-    change(tmp_path / 'src' / name, old, new)
+    change(tmp_path / 'src' / name, slip)
     exports.EXPORTS.cache_clear()
-    after = files.made()
+    after = dict[str, str]()
+    with contextlib.suppress(AssertionError):       # a call of another name has no example
+        after = files.made()
     monkeypatch.undo()
     exports.EXPORTS.cache_clear()
     assert before != after
 
 
-def test_examples_of_python() -> None:
-    """Each example of a comment is one that the tests of the package run, and no sentence has another one."""
-    for name, forms in python.public_calls():
-        words, mark, _ = python.docstring(name, forms).partition('>>> ')
-        assert mark and not re.search(r'\b(?:That|Those) (?:of|for) [-\d]|\b(?:For|From) [-\d]', words), name
+def numbers(text: str) -> list[int]:
+    """The numbers of a text, of which those of a date have no sign."""
+    return [int(number) for number in re.findall(r'(?<![\w.])-?\d+', re.sub(r'(?<=\d)-', ' ', text))]
 
 
-def test_comment_without_its_example() -> None:
-    forms = [form._replace(doc='Returns the quotient.') for form in dict(python.public_calls())['div_floor']]
-    with pytest.raises(AssertionError, match='div_floor: the comment has no example'):
-        python.docstring('div_floor', forms)
+def is_within(some: list[int], all_of_them: list[int]) -> bool:
+    """Whether these numbers are among those, in the same order."""
+    others = iter(all_of_them)
+    return all(number in others for number in some)
+
+
+@pytest.mark.parametrize('name, forms', python.public_calls())
+def test_examples_of_python(name: str, forms: list[exports.Call]) -> None:
+    """Each example of a comment is one that the tests of the package run."""
+    prose, sentences = python.split(forms[0].doc)
+    assert not re.search(r'\b(?:[Tt]hat|Those) (?:of|for) [-\d]|\b(?:For|From) [-\d]', prose)
+    said = numbers(' '.join(sentences))
+    shown = numbers(' '.join(part for row in python.examples(name) for part in row))
+    assert is_within(said, shown) or name in OTHER_ORDER and not Counter(said) - Counter(shown)
+
+
+def test_call_without_an_example() -> None:
+    with pytest.raises(AssertionError, match='div_flo: the last part of rows.txt has no example'):
+        python.examples('div_flo')
 
 
 def test_reference(tmp_path: Path, monkeypatch: pytest.MonkeyPatch) -> None:
@@ -66,11 +69,12 @@ def test_reference(tmp_path: Path, monkeypatch: pytest.MonkeyPatch) -> None:
     shutil.copytree(ROOT / 'crates', crates, ignore=shutil.ignore_patterns('out'))
     monkeypatch.setattr(reference, 'CRATES', crates)
     assert reference.Reference().made() == before
-    for _, name, old, new in PAGES:
-        change(crates / name, old, new)
+    slips = [(*head.split(', '), slip) for head, slip in samples.cases('reference')]
+    for _, name, slip in slips:
+        change(crates / name, slip)
     after = reference.Reference().made()
     changed = {page for page in before if before[page] != after[page]}
-    assert changed >= {page for page, *_ in PAGES}
+    assert changed >= {page for page, *_ in slips}
 
 
 def test_as_made(tmp_path: Path) -> None:

@@ -4,34 +4,10 @@ from pathlib import Path
 import pytest
 
 from tools.checks import pages
+from tools.tests import samples
 
 RUST = 'pub fn half(x: u64) -> u64\n    requires { 0 < x }\n{\n    use std::cmp::{max, min};\n    x / 2\n}\n'
 PROOF = 'pub half : ℕ → ℕ\nhalf n = n / 2\n'
-CODE = """    /// panic!("of a comment")
-    #[cfg_attr(x, note = "of [`T`] at compile time")]
-    assert!(x < 1 && y.is_some(), "the first");
-    let z = x.checked_add(1).expect("the second"); f.pad("the third"); panic!("{reason}");
-    assert!(
-        x < 2,
-        "the fourth"
-    );
-    operator!(Add checked_add "the fifth" "Panics if it does not fit."); Reason("`n` is the sixth");
-    f.write_str("a date, as \\"2024-02-29\\""); f.pad("serde"); f.pad("a line\\n of more");
-"""
-ERRORS = """| "the first", "the second" | see `it` |
-| `a date, as "2024-02-29"` | of "serde" |
-| 2 | `CELLARCOVE_NOT_FITTING` | it does not fit |
-
-## Exceptions, in Python
-
-| `Refused` | `ValueError` | why |
-| `NotFitting` | `Refused`, `OverflowError` | why |
-| `TypeError` | | why |
-"""
-HEADER = 'enum {\n    /* it fits */\n    CELLARCOVE_ANSWER = 0,\n    CELLARCOVE_NOT_FITTING = 2\n};\n'
-PACKAGE = ('class Refused(ValueError):\nclass NotFitting(Refused, OverflowError):\nclass Parts(NamedTuple):\n'
-           '    raise OverflowError(f"{year}")\n')
-DRIVER = 'PyErr_Format(PyExc_TypeError, "no"); PyErr_SetString(PyExc_KeyError, "k"); PyErr_NoMemory(); a = PyObject_GetAttr(b, c);\n'
 CLASSES = {'Refused ValueError', 'NotFitting Refused, OverflowError'}
 
 
@@ -44,7 +20,7 @@ CLASSES = {'Refused ValueError', 'NotFitting Refused, OverflowError'}
 ])
 def test_blocks(kind: str, text: str, quoted: list[bool]) -> None:
     files = pages.Files([RUST], [PROOF], 'half: std\n')
-    assert [files.has(block) for block in pages.blocks('sample', f'```{kind}\n{text}\n```\n')] == quoted
+    assert [files.has(block) for block in pages.blocks(f'```{kind}\n{text}\n```\n')] == quoted
 
 
 @pytest.mark.parametrize('text, passed', [
@@ -79,11 +55,12 @@ def test_names(text: str, absent: list[str]) -> None:
 
 
 def test_errors() -> None:
-    assert pages.messages_in(CODE) == {'the first', 'the second', 'the third', 'the fourth', 'the fifth', '`n` is the sixth',
+    golden = dict(samples.cases('errors'))
+    assert pages.messages_in(golden['code']) == {'the first', 'the second', 'the third', 'the fourth', 'the fifth', '`n` is the sixth',
                                        'a date, as "2024-02-29"'}
-    assert pages.messages_on(ERRORS) == {'the first', 'the second', 'a date, as "2024-02-29"'}
-    assert pages.statuses_in(HEADER) == {'0 CELLARCOVE_ANSWER', '2 CELLARCOVE_NOT_FITTING'}
-    assert pages.statuses_on(ERRORS) == {'2 CELLARCOVE_NOT_FITTING'}
-    assert pages.exceptions_in(PACKAGE, DRIVER) == CLASSES | {'OverflowError ', 'TypeError ', 'MemoryError ', 'AttributeError '}
-    assert pages.exceptions_on(ERRORS) == CLASSES | {'TypeError '}
+    assert pages.messages_on(golden['page']) == {'the first', 'the second', 'a date, as "2024-02-29"'}
+    assert pages.statuses_in(golden['header']) == {'0 CELLARCOVE_ANSWER', '2 CELLARCOVE_NOT_FITTING'}
+    assert pages.statuses_on(golden['page']) == {'2 CELLARCOVE_NOT_FITTING'}
+    assert pages.exceptions_in(golden['package'], golden['driver']) == CLASSES | {'OverflowError ', 'TypeError ', 'MemoryError ', 'AttributeError '}
+    assert pages.exceptions_on(golden['page']) == CLASSES | {'TypeError '}
     assert [passed for _, passed in pages.compared({'a', 'b'}, {'b', 'c'})] == [False, True, False]

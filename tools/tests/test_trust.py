@@ -2,21 +2,9 @@
 import pytest
 
 from tools.checks import trust
+from tools.tests import samples
 
-LOG = '''== low
-logic=proved functions=2 sum=1
-rt: low proved
-== cellarcove_c
-axioms libc: none reached of the 7 declared
-axioms std: none reached of the 2 declared
-logic=proved functions=3 sum=1
-== intcalc
-axioms libc: libc::a, libc::b, libc::c, ... (5 of the 7 declared)
-axioms std: none reached of the 2 declared
-logic=proved functions=3 axioms=5 sum=1
-'''
-SAID = ('No crate has an axiom of its own. Below them libc and std\nstate the contracts of 9 functions in C: `cellarcove_c` reaches none, '
-        'and `intcalc` reaches 5.')
+SAID, LOG = (text for _, text in samples.cases('trust'))
 
 
 @pytest.mark.parametrize('old, new, has, lacks', [

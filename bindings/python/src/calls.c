@@ -89,14 +89,14 @@ static PyObject *py_choice_of_rank(PyObject *module, PyObject *const *args, Py_s
     if (unsigned_numbers("choice_of_rank", args, given, 3, numbers) != 0) {
         return NULL;
     }
-    uint32_t status = is_below_binomial(numbers[0].u, numbers[1].u, numbers[2].u) ? CELLARCOVE_ANSWER : CELLARCOVE_OUTSIDE;
-    if (status != CELLARCOVE_ANSWER) {
-        return refused(status, false);
+    if (!is_below_binomial(numbers[0].u, numbers[1].u, numbers[2].u)) {
+        return refused(CELLARCOVE_OUTSIDE, false);
     }
     uint64_t *written = room_for(numbers[2].u);
     if (written == NULL) {
         return NULL;
     }
+    uint32_t status;
     Py_BEGIN_ALLOW_THREADS
     status = cellarcove_choice_of_rank_u64(numbers[0].u, numbers[1].u, written, (size_t)numbers[2].u);
     Py_END_ALLOW_THREADS
@@ -4700,7 +4700,8 @@ static PyMethodDef methods[] = {
     "fraction_cmp($module, /, a, b, *, out=None)\n"
     "--\n"
     "\n"
-    "-1, 0 or 1 if `a` is less than, equal to or greater than `b`.\n"
+    "The order of two fractions: -1, 0 or 1 if `a` is less than, equal to or greater than\n"
+    "`b`.\n"
     "\n"
     "Raises `DivisionByZero` if a denominator is 0. Raises `NotFitting` if a part of an\n"
     "argument, reduced, does not fit.\n"

@@ -265,21 +265,11 @@ class Names(unittest.TestCase):
 
     def test_docstrings(self):
         """Each call says what it does, with examples, which are run."""
-        runner, parser = doctest.DocTestRunner(verbose=False), doctest.DocTestParser()
-        for name in cellarcove.__all__:
-            found = getattr(cellarcove, name)
-            self.assertTrue(found.__doc__, name)
-            if not callable(found):
-                continue
-            members = [found, *vars(found).values()] if isinstance(found, type) and issubclass(found, Date) else [found]
-            texts = [text for text in (getattr(member, '__doc__', None) for member in members) if text]
-            tests = [parser.get_doctest(text, vars(cellarcove).copy(), name, None, 0) for text in texts]
-            if not isinstance(found, type):
-                self.assertTrue(all(test.examples for test in tests), name)
-            for test in tests:
-                said = []
-                self.assertEqual(runner.run(test, out=said.append).failed, 0, ''.join(said))
-        self.assertGreater(runner.tries, 60)
+        found = {test.name.rpartition('.')[2] for test in doctest.DocTestFinder().find(cellarcove._calls) if test.examples}
+        self.assertEqual(found, set(cellarcove._calls.__all__))
+        self.assertTrue(all(getattr(cellarcove, name).__doc__ for name in cellarcove.__all__))
+        for module in (cellarcove._calls, cellarcove):
+            self.assertEqual(doctest.testmod(module, globs=vars(cellarcove).copy()).failed, 0)
 
     def test_any_argument(self):
         """An argument of any type is an error of Python, and never a crash."""
