@@ -124,6 +124,60 @@ typedef struct {
     uint64_t lcm;
 } cellarcove_u64_gcd_lcm;
 
+/** Two numbers. */
+typedef struct {
+    int64_t first;
+    int64_t second;
+} cellarcove_i64_pair;
+
+/** Two numbers. */
+typedef struct {
+    uint64_t first;
+    uint64_t second;
+} cellarcove_u64_pair;
+
+/** A status, and a square root with what is left. */
+typedef struct {
+    uint32_t status;
+    int64_t root;
+    int64_t rest;
+} cellarcove_i64_root;
+
+/** A status, and a square root with what is left. */
+typedef struct {
+    uint32_t status;
+    uint64_t root;
+    uint64_t rest;
+} cellarcove_u64_root;
+
+/** A status, and a page with a place on it. */
+typedef struct {
+    uint32_t status;
+    int64_t page;
+    int64_t place;
+} cellarcove_i64_place;
+
+/** A status, and a page with a place on it. */
+typedef struct {
+    uint32_t status;
+    uint64_t page;
+    uint64_t place;
+} cellarcove_u64_place;
+
+/** A status, and the first item of a range with its end, which is one past the last item. */
+typedef struct {
+    uint32_t status;
+    int64_t first;
+    int64_t end;
+} cellarcove_i64_range;
+
+/** A status, and the first item of a range with its end, which is one past the last item. */
+typedef struct {
+    uint32_t status;
+    uint64_t first;
+    uint64_t end;
+} cellarcove_u64_range;
+
 /** A status, and solutions: the first that is not negative, and the step from each to the next. */
 typedef struct {
     uint32_t status;
@@ -208,7 +262,7 @@ CELLARCOVE_CONST cellarcove_i64_answer cellarcove_checked_product_i64(int64_t a,
 /** a * b. For 2 and 3 it is 6. CELLARCOVE_NOT_FITTING if the product does not fit. */
 CELLARCOVE_CONST cellarcove_u64_answer cellarcove_checked_product_u64(uint64_t a, uint64_t b);
 
-/* ---- Division, rounded toward 0, down or up ---- */
+/* ---- Division, rounded toward 0, down, up or to the nearest integer ---- */
 
 /** The quotient rounded toward 0, and its remainder, as / and % of C. Those of -8 by 3 are -2 and -2.
  *  CELLARCOVE_OUTSIDE if y is 0. CELLARCOVE_NOT_FITTING if the quotient does not fit. */
@@ -230,6 +284,21 @@ CELLARCOVE_CONST cellarcove_i64_answer cellarcove_div_ceil_i64(int64_t x, int64_
 
 /** The quotient rounded up. That of 8 by 3 is 3. CELLARCOVE_OUTSIDE if y is 0. */
 CELLARCOVE_CONST cellarcove_u64_answer cellarcove_div_ceil_u64(uint64_t x, uint64_t y);
+
+/** The quotient rounded to the nearest integer, and a half away from 0. That of -5 by 2 is -3. CELLARCOVE_OUTSIDE
+ *  if y is 0. CELLARCOVE_NOT_FITTING if the quotient does not fit. */
+CELLARCOVE_CONST cellarcove_i64_answer cellarcove_div_round_i64(int64_t x, int64_t y);
+
+/** The quotient rounded to the nearest integer, and a half up. That of 5 by 2 is 3. CELLARCOVE_OUTSIDE if y is 0. */
+CELLARCOVE_CONST cellarcove_u64_answer cellarcove_div_round_u64(uint64_t x, uint64_t y);
+
+/** The quotient rounded to the nearest integer, and a half to the even one. That of -5 by 2 is -2.
+ *  CELLARCOVE_OUTSIDE if y is 0. CELLARCOVE_NOT_FITTING if the quotient does not fit. */
+CELLARCOVE_CONST cellarcove_i64_answer cellarcove_div_round_even_i64(int64_t x, int64_t y);
+
+/** The quotient rounded to the nearest integer, and a half to the even one. That of 5 by 2 is 2.
+ *  CELLARCOVE_OUTSIDE if y is 0. */
+CELLARCOVE_CONST cellarcove_u64_answer cellarcove_div_round_even_u64(uint64_t x, uint64_t y);
 
 /** The remainder of the quotient rounded down, which is 0 or has the sign of y. That of -8 by 3 is 1. It always
  *  fits. CELLARCOVE_OUTSIDE if y is 0. */
@@ -304,6 +373,20 @@ CELLARCOVE_CONST cellarcove_u64_gcd_lcm cellarcove_gcd_lcm_u64(uint64_t x, uint6
  *  if the divisor is 2^63. */
 CELLARCOVE_CONST cellarcove_i64_bezout cellarcove_extended_gcd_i64(int64_t x, int64_t y);
 
+/* ---- Coprime numbers, and pairs divided by their greatest common divisor ---- */
+
+/** Whether the greatest common divisor of the numbers is 1. 8 and 15 are coprime, and 8 and 6 are not. */
+CELLARCOVE_CONST bool cellarcove_is_coprime_i64(int64_t x, int64_t y);
+
+/** Whether the greatest common divisor of the numbers is 1. 8 and 15 are coprime, and 8 and 6 are not. */
+CELLARCOVE_CONST bool cellarcove_is_coprime_u64(uint64_t x, uint64_t y);
+
+/** Both numbers divided by their greatest common divisor, with their signs. Those of -6 and 4 are -3 and 2. */
+CELLARCOVE_CONST cellarcove_i64_pair cellarcove_reduced_i64(int64_t x, int64_t y);
+
+/** Both numbers divided by their greatest common divisor. Those of 1920 and 1080 are 16 and 9. */
+CELLARCOVE_CONST cellarcove_u64_pair cellarcove_reduced_u64(uint64_t x, uint64_t y);
+
 /* ---- Common divisors and multiples of lists ---- */
 
 /** The greatest common divisor of the numbers, which is not negative. That of -12, 18 and 8 is 2, and that of no
@@ -360,7 +443,7 @@ CELLARCOVE_CONST cellarcove_i64_answer cellarcove_nth_root_i64(int64_t x, uint32
 /** The root of a degree, rounded down. That of 9 of degree 3 is 2. CELLARCOVE_OUTSIDE if degree is 0. */
 CELLARCOVE_CONST cellarcove_u64_answer cellarcove_nth_root_u64(uint64_t x, uint32_t degree);
 
-/* ---- Tests of squares and of other powers of integers ---- */
+/* ---- Tests of squares and of other powers of integers, square roots with what is left, and logarithms ---- */
 
 /** Whether x is the square of an integer. 144 is one, and -144 is not. */
 CELLARCOVE_CONST bool cellarcove_is_square_i64(int64_t x);
@@ -379,6 +462,22 @@ CELLARCOVE_CONST bool cellarcove_is_power_u64(uint64_t x, uint32_t degree);
 /** Whether x is a square, a cube or a higher power of an integer. 128 is one, and 72 is not. */
 CELLARCOVE_CONST bool cellarcove_is_perfect_power_u64(uint64_t x);
 
+/** The square root rounded down, and what is left: x minus the square of the root. Those of 99 are 9 and 18.
+ *  CELLARCOVE_OUTSIDE if x is negative. */
+CELLARCOVE_CONST cellarcove_i64_root cellarcove_sqrt_rem_i64(int64_t x);
+
+/** The square root rounded down, and what is left: x minus the square of the root. Both always fit. Those of 99
+ *  are 9 and 18. The status is always CELLARCOVE_ANSWER. */
+CELLARCOVE_CONST cellarcove_u64_root cellarcove_sqrt_rem_u64(uint64_t x);
+
+/** The logarithm rounded down: the largest degree of a power of base that is at most x. For 1000 and 10 it is 3.
+ *  CELLARCOVE_OUTSIDE if x is not positive or base is below 2. */
+CELLARCOVE_CONST cellarcove_u64_answer cellarcove_ilog_i64(int64_t x, int64_t base);
+
+/** The logarithm rounded down: the largest degree of a power of base that is at most x. For 1000 and 10 it is 3.
+ *  CELLARCOVE_OUTSIDE if x is 0 or base is below 2. */
+CELLARCOVE_CONST cellarcove_u64_answer cellarcove_ilog_u64(uint64_t x, uint64_t base);
+
 /* ---- Binomial and multinomial coefficients ---- */
 
 /** How many ways there are to choose k of n, the binomial coefficient. That of 11 and 3 is 165, and that of 3 and
@@ -393,6 +492,25 @@ CELLARCOVE_CONST cellarcove_u64_answer cellarcove_binomial_u64(uint64_t n, uint6
  *  is 30, and that of no counts is 1. counts points to counts_len numbers, aligned, which do not change during the
  *  call; it may be null if counts_len is 0. CELLARCOVE_NOT_FITTING if the coefficient does not fit. */
 CELLARCOVE_PURE cellarcove_u64_answer cellarcove_multinomial_u64(const uint64_t *counts, size_t counts_len);
+
+/* ---- Factorials and falling factorials: in how many ways some things stand in a row ---- */
+
+/** The factorial of n, the product of the numbers from 1 to n. That of 5 is 120. CELLARCOVE_OUTSIDE if n is
+ *  negative. CELLARCOVE_NOT_FITTING if the factorial does not fit. */
+CELLARCOVE_CONST cellarcove_i64_answer cellarcove_factorial_i64(int64_t n);
+
+/** The factorial of n, the product of the numbers from 1 to n. That of 5 is 120. CELLARCOVE_NOT_FITTING if the
+ *  factorial does not fit. */
+CELLARCOVE_CONST cellarcove_u64_answer cellarcove_factorial_u64(uint64_t n);
+
+/** The falling factorial, the product of k factors, of which the first is n and each is 1 less than the one
+ *  before. That of 8 and 3 is 336, and that of 2 and 3 is 0. CELLARCOVE_OUTSIDE if a number is negative.
+ *  CELLARCOVE_NOT_FITTING if the product does not fit. */
+CELLARCOVE_CONST cellarcove_i64_answer cellarcove_falling_i64(int64_t n, int64_t k);
+
+/** The falling factorial, the product of k factors, of which the first is n and each is 1 less than the one
+ *  before. That of 8 and 3 is 336, and that of 2 and 3 is 0. CELLARCOVE_NOT_FITTING if the product does not fit. */
+CELLARCOVE_CONST cellarcove_u64_answer cellarcove_falling_u64(uint64_t n, uint64_t k);
 
 /* ---- Choices of numbers, and their ranks ---- */
 
@@ -410,7 +528,112 @@ CELLARCOVE_PURE cellarcove_u64_answer cellarcove_rank_u64(const uint64_t *choice
 CELLARCOVE_WRITES uint32_t cellarcove_choice_of_rank_u64(uint64_t rank, uint64_t n, uint64_t *choice, size_t
     choice_len);
 
+/* ---- An amount divided in proportion to weights ---- */
+
+/** Writes the shares of the amount in proportion to the weights, and returns the status. Together the shares are
+ *  the amount. The first shares together are their exact share rounded up; those of a negative amount are the
+ *  shares of its magnitude with its sign. For -100 and the weights 1, 1 and 1 they are -34, -33 and -33. If the
+ *  status is not 0, parts stays as it is. weights points to weights_len numbers, aligned, which do not change
+ *  during the call; it may be null if weights_len is 0. parts points to parts_len numbers, aligned, which nothing
+ *  else reads or writes during the call; it may be null if parts_len is 0. CELLARCOVE_OUTSIDE if there is not one
+ *  part for each weight, or if the weights are all 0. */
+CELLARCOVE_WRITES uint32_t cellarcove_shares_i64(int64_t amount, const uint64_t *weights, size_t weights_len,
+    int64_t *parts, size_t parts_len);
+
+/** Writes the shares of the amount in proportion to the weights, and returns the status. Together the shares are
+ *  the amount, and the first shares together are their exact share rounded up. For 100 and the weights 1, 1 and 1
+ *  they are 34, 33 and 33. If the status is not 0, parts stays as it is. weights points to weights_len numbers,
+ *  aligned, which do not change during the call; it may be null if weights_len is 0. parts points to parts_len
+ *  numbers, aligned, which nothing else reads or writes during the call; it may be null if parts_len is 0.
+ *  CELLARCOVE_OUTSIDE if there is not one part for each weight, or if the weights are all 0. */
+CELLARCOVE_WRITES uint32_t cellarcove_shares_u64(uint64_t amount, const uint64_t *weights, size_t weights_len,
+    uint64_t *parts, size_t parts_len);
+
+/** Writes the shares of the amount by largest remainders, and returns the status. Each is the exact share rounded
+ *  down, or 1 more for the weights with the largest remainders, and of equal ones the first, so that together they
+ *  are the amount. For 2 and the weights 1, 1 and 98 they are 0, 0 and 2. If the status is not 0, parts stays as
+ *  it is. weights points to weights_len numbers, aligned, which do not change during the call; it may be null if
+ *  weights_len is 0. parts points to parts_len numbers, aligned, which nothing else reads or writes during the
+ *  call; it may be null if parts_len is 0. CELLARCOVE_OUTSIDE if there is not one part for each weight, or if the
+ *  weights are all 0. */
+CELLARCOVE_WRITES uint32_t cellarcove_shares_by_largest_remainder_u64(uint64_t amount, const uint64_t *weights,
+    size_t weights_len, uint64_t *parts, size_t parts_len);
+
+/* ---- Items on pages of equal size, and in parts of nearly equal size. Items, pages, places and parts are
+ * counted from 0 ---- */
+
+/** The smallest number of pages that hold all items. For 10 and 4 it is 3. CELLARCOVE_OUTSIDE if page_size is not
+ *  positive. */
+CELLARCOVE_CONST cellarcove_i64_answer cellarcove_pages_i64(int64_t items, int64_t page_size);
+
+/** The smallest number of pages that hold all items. For 10 and 4 it is 3. CELLARCOVE_OUTSIDE if page_size is 0. */
+CELLARCOVE_CONST cellarcove_u64_answer cellarcove_pages_u64(uint64_t items, uint64_t page_size);
+
+/** The page of an item, and its place on the page. Those of -1 and 4 are -1 and 3. CELLARCOVE_OUTSIDE if page_size
+ *  is not positive. */
+CELLARCOVE_CONST cellarcove_i64_place cellarcove_place_of_i64(int64_t item, int64_t page_size);
+
+/** The page of an item, and its place on the page. Those of 10 and 4 are 2 and 2. CELLARCOVE_OUTSIDE if page_size
+ *  is 0. */
+CELLARCOVE_CONST cellarcove_u64_place cellarcove_place_of_u64(uint64_t item, uint64_t page_size);
+
+/** The item at a place of a page. For -1, 3 and 4 it is -1. CELLARCOVE_OUTSIDE if place is negative or not below
+ *  page_size. CELLARCOVE_NOT_FITTING if the item does not fit. */
+CELLARCOVE_CONST cellarcove_i64_answer cellarcove_item_at_i64(int64_t page, int64_t place, int64_t page_size);
+
+/** The item at a place of a page. For 2, 2 and 4 it is 10. CELLARCOVE_OUTSIDE if place is not below page_size.
+ *  CELLARCOVE_NOT_FITTING if the item does not fit. */
+CELLARCOVE_CONST cellarcove_u64_answer cellarcove_item_at_u64(uint64_t page, uint64_t place, uint64_t page_size);
+
+/** The first item of a page and its end, which is one past its last item, if there are items items. Both are items
+ *  if no item is on the page. Those of 2, 4 and 10 are 8 and 10. CELLARCOVE_OUTSIDE if page_size is not positive
+ *  or items is negative. */
+CELLARCOVE_CONST cellarcove_i64_range cellarcove_range_of_page_i64(int64_t page, int64_t page_size, int64_t items);
+
+/** The first item of a page and its end, which is one past its last item, if there are items items. Both are items
+ *  if no item is on the page. Those of 2, 4 and 10 are 8 and 10. CELLARCOVE_OUTSIDE if page_size is 0. */
+CELLARCOVE_CONST cellarcove_u64_range cellarcove_range_of_page_u64(uint64_t page, uint64_t page_size, uint64_t items);
+
+/** The first item of a part and its end, which is one past its last item, if items items are split into parts
+ *  parts. Each part is as large as the part before it, or smaller by 1. Those of 1, 3 and 10 are 4 and 7.
+ *  CELLARCOVE_OUTSIDE if part or items is negative, or part is not below parts. */
+CELLARCOVE_CONST cellarcove_i64_range cellarcove_range_of_part_i64(int64_t part, int64_t parts, int64_t items);
+
+/** The first item of a part and its end, which is one past its last item, if items items are split into parts
+ *  parts. Each part is as large as the part before it, or smaller by 1. Those of 1, 3 and 10 are 4 and 7.
+ *  CELLARCOVE_OUTSIDE if part is not below parts. */
+CELLARCOVE_CONST cellarcove_u64_range cellarcove_range_of_part_u64(uint64_t part, uint64_t parts, uint64_t items);
+
+/* ---- Offsets on an alignment ---- */
+
+/** The offset rounded up to a multiple of the alignment. For 13 and 8 it is 16. CELLARCOVE_OUTSIDE if alignment is
+ *  not positive. CELLARCOVE_NOT_FITTING if the multiple does not fit. */
+CELLARCOVE_CONST cellarcove_i64_answer cellarcove_align_up_i64(int64_t offset, int64_t alignment);
+
+/** The offset rounded up to a multiple of the alignment. For 13 and 8 it is 16. CELLARCOVE_OUTSIDE if alignment is
+ *  0. CELLARCOVE_NOT_FITTING if the multiple does not fit. */
+CELLARCOVE_CONST cellarcove_u64_answer cellarcove_align_up_u64(uint64_t offset, uint64_t alignment);
+
+/** How many bytes to add to the offset to align it. For 13 and 8 it is 3. CELLARCOVE_OUTSIDE if alignment is not
+ *  positive. */
+CELLARCOVE_CONST cellarcove_i64_answer cellarcove_padding_i64(int64_t offset, int64_t alignment);
+
+/** How many bytes to add to the offset to align it. For 13 and 8 it is 3. CELLARCOVE_OUTSIDE if alignment is 0. */
+CELLARCOVE_CONST cellarcove_u64_answer cellarcove_padding_u64(uint64_t offset, uint64_t alignment);
+
 /* ---- Arithmetic modulo a number ---- */
+
+/** The residue of a modulo m, from 0 to m - 1. For -3 and 7 it is 4. CELLARCOVE_BAD_MODULUS if m is not positive. */
+CELLARCOVE_CONST cellarcove_i64_answer cellarcove_residue_i64(int64_t a, int64_t m);
+
+/** The residue of a modulo m, from 0 to m - 1. For 10 and 7 it is 3. CELLARCOVE_BAD_MODULUS if m is 0. */
+CELLARCOVE_CONST cellarcove_u64_answer cellarcove_residue_u64(uint64_t a, uint64_t m);
+
+/** -a modulo m, from 0 to m - 1. For 3 and 7 it is 4. CELLARCOVE_BAD_MODULUS if m is not positive. */
+CELLARCOVE_CONST cellarcove_i64_answer cellarcove_negation_modulo_i64(int64_t a, int64_t m);
+
+/** -a modulo m, from 0 to m - 1. For 3 and 7 it is 4. CELLARCOVE_BAD_MODULUS if m is 0. */
+CELLARCOVE_CONST cellarcove_u64_answer cellarcove_negation_modulo_u64(uint64_t a, uint64_t m);
 
 /** a + b modulo m, from 0 to m - 1. For 5, 4 and 7 it is 2. CELLARCOVE_BAD_MODULUS if m is not positive. */
 CELLARCOVE_CONST cellarcove_i64_answer cellarcove_sum_modulo_i64(int64_t a, int64_t b, int64_t m);
@@ -532,6 +755,32 @@ CELLARCOVE_PURE cellarcove_i64_answer cellarcove_next_common_solution_of_i64(int
 CELLARCOVE_PURE cellarcove_u64_answer cellarcove_next_common_solution_of_u64(uint64_t from, const
     cellarcove_u64_congruence *congruences, size_t congruences_len);
 
+/* ---- Times that recur after a period ---- */
+
+/** The first time, not before now, that is in two schedules. One has the times a, a + p, a + 2 * p and so on, and
+ *  the other those of b and q. For 10, 1, 4, 3 and 6 it is 21. CELLARCOVE_BAD_MODULUS if p or q is not positive.
+ *  CELLARCOVE_NO_SOLUTION if there is no such time. CELLARCOVE_NOT_FITTING if it does not fit. */
+CELLARCOVE_CONST cellarcove_i64_answer cellarcove_next_meeting_i64(int64_t now, int64_t a, int64_t p, int64_t b,
+    int64_t q);
+
+/** The first time, not before now, that is in two schedules. One has the times a, a + p, a + 2 * p and so on, and
+ *  the other those of b and q. For 10, 1, 4, 3 and 6 it is 21. CELLARCOVE_BAD_MODULUS if p or q is 0.
+ *  CELLARCOVE_NO_SOLUTION if there is no such time. CELLARCOVE_NOT_FITTING if it does not fit. */
+CELLARCOVE_CONST cellarcove_u64_answer cellarcove_next_meeting_u64(uint64_t now, uint64_t a, uint64_t p, uint64_t
+    b, uint64_t q);
+
+/** How many times of a schedule are in the range of numbers between from and to, and at them. The schedule has the
+ *  times first, first + period and so on. For 4, 15, 3 and 6 it is 2. CELLARCOVE_BAD_MODULUS if period is not
+ *  positive. CELLARCOVE_NOT_FITTING if the count does not fit. */
+CELLARCOVE_CONST cellarcove_i64_answer cellarcove_count_times_i64(int64_t from, int64_t to, int64_t first, int64_t
+    period);
+
+/** How many times of a schedule are in the range of numbers between from and to, and at them. The schedule has the
+ *  times first, first + period and so on. For 4, 15, 3 and 6 it is 2. CELLARCOVE_BAD_MODULUS if period is 0.
+ *  CELLARCOVE_NOT_FITTING if the count does not fit. */
+CELLARCOVE_CONST cellarcove_u64_answer cellarcove_count_times_u64(uint64_t from, uint64_t to, uint64_t first,
+    uint64_t period);
+
 /* ---- Exact fractions. A fraction that is passed is reduced first, and a part of it that does not fit then is
  * rejected. If both fractions are rejected, the status is that of the first ---- */
 
@@ -555,6 +804,27 @@ CELLARCOVE_CONST cellarcove_fraction_answer cellarcove_fraction_mul(cellarcove_f
  *  CELLARCOVE_NOT_FITTING if a part of an argument, reduced, does not fit, or a part of the result. */
 CELLARCOVE_CONST cellarcove_fraction_answer cellarcove_fraction_div(cellarcove_fraction a, cellarcove_fraction b);
 
+/** The reciprocal. That of -2/3 is -3/2. CELLARCOVE_ZERO_DENOMINATOR if the denominator is 0, and if a is 0.
+ *  CELLARCOVE_NOT_FITTING if a part of the argument, reduced, does not fit, or a part of the result. */
+CELLARCOVE_CONST cellarcove_fraction_answer cellarcove_fraction_recip(cellarcove_fraction a);
+
+/** The negation. That of -3/2 is 3/2. CELLARCOVE_ZERO_DENOMINATOR if the denominator is 0. CELLARCOVE_NOT_FITTING
+ *  if a part of the argument, reduced, does not fit, or a part of the result. */
+CELLARCOVE_CONST cellarcove_fraction_answer cellarcove_fraction_neg(cellarcove_fraction a);
+
+/** The magnitude. That of -3/2 is 3/2. CELLARCOVE_ZERO_DENOMINATOR if the denominator is 0. CELLARCOVE_NOT_FITTING
+ *  if a part of the argument, reduced, does not fit, or a part of the result. */
+CELLARCOVE_CONST cellarcove_fraction_answer cellarcove_fraction_abs(cellarcove_fraction a);
+
+/** The power, which for a negative exponent is that of the reciprocal. That of 2/3 and -2 is 9/4.
+ *  CELLARCOVE_ZERO_DENOMINATOR if the denominator is 0, and if a is 0 and the exponent is negative.
+ *  CELLARCOVE_NOT_FITTING if a part of the argument, reduced, does not fit, or a part of the result. */
+CELLARCOVE_CONST cellarcove_fraction_answer cellarcove_fraction_pow(cellarcove_fraction a, int32_t exponent);
+
+/** The fraction times n / d. That of 2/3, 9 and 4 is 3/2. CELLARCOVE_ZERO_DENOMINATOR if the denominator is 0, and
+ *  if d is 0. CELLARCOVE_NOT_FITTING if a part of the argument, reduced, does not fit, or a part of the result. */
+CELLARCOVE_CONST cellarcove_fraction_answer cellarcove_fraction_times(cellarcove_fraction a, int64_t n, int64_t d);
+
 /** -1, 0 or 1 if a is less than, equal to or greater than b. For 1/2 and 1/3 it is 1. CELLARCOVE_ZERO_DENOMINATOR
  *  if a denominator is 0. CELLARCOVE_NOT_FITTING if a part of an argument, reduced, does not fit. */
 CELLARCOVE_CONST cellarcove_order_answer cellarcove_fraction_cmp(cellarcove_fraction a, cellarcove_fraction b);
@@ -564,7 +834,7 @@ CELLARCOVE_CONST cellarcove_order_answer cellarcove_fraction_cmp(cellarcove_frac
  *  part of the reduced fraction does not fit. */
 CELLARCOVE_CONST cellarcove_fraction_answer cellarcove_fraction_limit_denominator(cellarcove_fraction a, int64_t max);
 
-/* ---- Fractions rounded to integers. A fraction that is passed is reduced first ---- */
+/* ---- Fractions rounded to integers and to parts. A fraction that is passed is reduced first ---- */
 
 /** The fraction rounded down. That of -3/2 is -2. CELLARCOVE_ZERO_DENOMINATOR if the denominator is 0.
  *  CELLARCOVE_NOT_FITTING if a part of the reduced fraction does not fit. */
@@ -573,6 +843,14 @@ CELLARCOVE_CONST cellarcove_i64_answer cellarcove_fraction_floor(cellarcove_frac
 /** The fraction rounded up. That of -3/2 is -1. CELLARCOVE_ZERO_DENOMINATOR if the denominator is 0.
  *  CELLARCOVE_NOT_FITTING if a part of the reduced fraction does not fit. */
 CELLARCOVE_CONST cellarcove_i64_answer cellarcove_fraction_ceil(cellarcove_fraction a);
+
+/** The fraction rounded toward 0. That of -3/2 is -1. CELLARCOVE_ZERO_DENOMINATOR if the denominator is 0.
+ *  CELLARCOVE_NOT_FITTING if a part of the reduced fraction does not fit. */
+CELLARCOVE_CONST cellarcove_i64_answer cellarcove_fraction_trunc(cellarcove_fraction a);
+
+/** The fraction minus itself rounded toward 0. That of -3/2 is -1/2. CELLARCOVE_ZERO_DENOMINATOR if the
+ *  denominator is 0. CELLARCOVE_NOT_FITTING if a part of the reduced fraction does not fit. */
+CELLARCOVE_CONST cellarcove_fraction_answer cellarcove_fraction_fract(cellarcove_fraction a);
 
 /** The nearest integer, and of two that are equally near the one farther from 0. That of -3/2 is -2.
  *  CELLARCOVE_ZERO_DENOMINATOR if the denominator is 0. CELLARCOVE_NOT_FITTING if a part of the reduced fraction
@@ -591,6 +869,22 @@ CELLARCOVE_CONST cellarcove_i64_answer cellarcove_fraction_ceil_times(cellarcove
  *  1/2 and -3 is -2. CELLARCOVE_ZERO_DENOMINATOR if the denominator is 0. CELLARCOVE_NOT_FITTING if a part of the
  *  reduced fraction does not fit, or the result. */
 CELLARCOVE_CONST cellarcove_i64_answer cellarcove_fraction_round_times(cellarcove_fraction a, int64_t n);
+
+/** The largest multiple of 1 / parts that is at most the fraction. That of 5/3 and 4 is 3/2. CELLARCOVE_OUTSIDE if
+ *  parts is not positive, whatever a is. CELLARCOVE_ZERO_DENOMINATOR if the denominator is 0.
+ *  CELLARCOVE_NOT_FITTING if a part of the reduced fraction does not fit, or a part of the result. */
+CELLARCOVE_CONST cellarcove_fraction_answer cellarcove_fraction_floor_to(cellarcove_fraction a, int64_t parts);
+
+/** The smallest multiple of 1 / parts that is at least the fraction. That of 5/3 and 4 is 7/4. CELLARCOVE_OUTSIDE
+ *  if parts is not positive, whatever a is. CELLARCOVE_ZERO_DENOMINATOR if the denominator is 0.
+ *  CELLARCOVE_NOT_FITTING if a part of the reduced fraction does not fit, or a part of the result. */
+CELLARCOVE_CONST cellarcove_fraction_answer cellarcove_fraction_ceil_to(cellarcove_fraction a, int64_t parts);
+
+/** The nearest multiple of 1 / parts, and of two that are equally near the one farther from 0. That of 5/3 and 100
+ *  is 167/100. CELLARCOVE_OUTSIDE if parts is not positive, whatever a is. CELLARCOVE_ZERO_DENOMINATOR if the
+ *  denominator is 0. CELLARCOVE_NOT_FITTING if a part of the reduced fraction does not fit, or a part of the
+ *  result. */
+CELLARCOVE_CONST cellarcove_fraction_answer cellarcove_fraction_round_to(cellarcove_fraction a, int64_t parts);
 
 /* ---- Dates of the proleptic Gregorian calendar, and days counted from 1970-01-01, which is day 0 ---- */
 
@@ -619,6 +913,15 @@ CELLARCOVE_CONST cellarcove_date_answer cellarcove_plus_months(cellarcove_date d
  *  CELLARCOVE_NOT_FITTING if the number does not fit. */
 CELLARCOVE_CONST cellarcove_i64_answer cellarcove_months_between(cellarcove_date from, cellarcove_date to);
 
+/** The largest number of years that leads from one date to a date not after another, negative if the other is
+ *  earlier. From 2000-02-29 to 2025-02-28 it is 25. CELLARCOVE_NO_DATE if a date does not exist.
+ *  CELLARCOVE_NOT_FITTING if the number does not fit. */
+CELLARCOVE_CONST cellarcove_i64_answer cellarcove_years_between(cellarcove_date from, cellarcove_date to);
+
+/** The date of a day of a year; 1 January is day 1. That of 2000 and 60 is 2000-02-29. CELLARCOVE_NO_DATE if the
+ *  year has no such day. */
+CELLARCOVE_CONST cellarcove_date_answer cellarcove_date_from_year_day(int64_t year, uint16_t day);
+
 /** The week of ISO 8601 that has a date, and its year. That of 2005-01-01 is week 53 of 2004. CELLARCOVE_NO_DATE
  *  if there is no such date. CELLARCOVE_NOT_FITTING if the year of the week does not fit. */
 CELLARCOVE_CONST cellarcove_iso_week_answer cellarcove_iso_week(cellarcove_date date);
@@ -635,6 +938,18 @@ CELLARCOVE_CONST cellarcove_date cellarcove_easter(int64_t year);
 
 /** The day of the week of a day, from 1 for Monday to 7 for Sunday. That of 0 is 4. */
 CELLARCOVE_CONST uint8_t cellarcove_weekday(int64_t day);
+
+/** The day of the week of a date, from 1 for Monday to 7 for Sunday. That of 2000-02-29 is 2. CELLARCOVE_NO_DATE
+ *  if there is no such date. */
+CELLARCOVE_CONST cellarcove_u64_answer cellarcove_weekday_of_date(cellarcove_date date);
+
+/** The first day that is this day of the week, from 1 for Monday to 7 for Sunday, and is not before day. For 0 and
+ *  7 it is 3. CELLARCOVE_OUTSIDE if weekday is not from 1 to 7. CELLARCOVE_NOT_FITTING if the day does not fit. */
+CELLARCOVE_CONST cellarcove_i64_answer cellarcove_first_weekday_on_or_after(int64_t day, uint8_t weekday);
+
+/** The last day that is this day of the week, from 1 for Monday to 7 for Sunday, and is not after day. For 4 and 7
+ *  it is 3. CELLARCOVE_OUTSIDE if weekday is not from 1 to 7. CELLARCOVE_NOT_FITTING if the day does not fit. */
+CELLARCOVE_CONST cellarcove_i64_answer cellarcove_last_weekday_on_or_before(int64_t day, uint8_t weekday);
 
 /** The date of the n-th day of a month that is this day of the week, from 1 for Monday to 7 for Sunday. The first
  *  one has n 1. The date for 2026, 11, 4 and 4 is 2026-11-26. CELLARCOVE_OUTSIDE if weekday is not from 1 to 7,
@@ -653,6 +968,9 @@ CELLARCOVE_CONST cellarcove_date_answer cellarcove_last_weekday_of_month(int64_t
 /** Whether the year has a 29 February. 2000 and 0 have one, and 1900 and -1 do not. */
 CELLARCOVE_CONST bool cellarcove_is_leap_year(int64_t year);
 
+/** How many days the year has: 365 or 366. 1900 has 365. */
+CELLARCOVE_CONST uint16_t cellarcove_days_in_year(int64_t year);
+
 /** How many weeks of ISO 8601 the year has: 52 or 53. 2020 has 53. */
 CELLARCOVE_CONST uint8_t cellarcove_weeks_in_year(int64_t year);
 
@@ -663,6 +981,15 @@ CELLARCOVE_CONST cellarcove_u64_answer cellarcove_days_in_month(int64_t year, ui
 /** The day of the year of a date; 1 January is 1. That of 2000-12-31 is 366. CELLARCOVE_NO_DATE if there is no
  *  such date. */
 CELLARCOVE_CONST cellarcove_u64_answer cellarcove_day_of_year(cellarcove_date date);
+
+/* ---- Fractions that are read from a text. The text is its bytes, with no zero at the end ---- */
+
+/** The fraction of a text, which is an integer or two integers with a slash between. That of 6/-4 is -3/2. text
+ *  points to text_len numbers, aligned, which do not change during the call; it may be null if text_len is 0.
+ *  CELLARCOVE_OUTSIDE if the text is none of a fraction, or an integer of it has more than 38 digits, leading
+ *  zeros aside. CELLARCOVE_ZERO_DENOMINATOR if the denominator is 0. CELLARCOVE_NOT_FITTING if a part of the
+ *  reduced fraction does not fit. */
+CELLARCOVE_PURE cellarcove_fraction_answer cellarcove_fraction_from_text(const uint8_t *text, size_t text_len);
 
 #ifdef __cplusplus
 }

@@ -42,11 +42,12 @@ enum class status : std::uint32_t {
 
 /// The words for a status.
 [[nodiscard]] inline const char *text(status reason) { return cellarcove_status_text(static_cast<std::uint32_t>(reason)); }
+inline std::ostream &operator<<(std::ostream &out, status reason) { return out << text(reason); }
 
 /// A value, or the status that says why there is none. It has the names of `std::expected`.
 template <class T> class [[nodiscard]] result {
   public:
-    constexpr result(T value) : value_(std::move(value)) {}
+    constexpr explicit result(T value) : value_(std::move(value)) {}
     constexpr explicit result(status error) : error_(error) {}
 
     [[nodiscard]] constexpr bool has_value() const { return value_.has_value(); }
@@ -90,6 +91,24 @@ template <class T> struct division {
     friend constexpr bool operator==(const division &a, const division &b) { return a.quotient == b.quotient && a.remainder == b.remainder; }
 };
 
+/// A square root, and what is left.
+template <class T> struct root_and_rest {
+    T root, rest;
+    friend constexpr bool operator==(const root_and_rest &a, const root_and_rest &b) { return a.root == b.root && a.rest == b.rest; }
+};
+
+/// A page, and a place on it.
+template <class T> struct place_on_page {
+    T page, place;
+    friend constexpr bool operator==(const place_on_page &a, const place_on_page &b) { return a.page == b.page && a.place == b.place; }
+};
+
+/// The first item of a range, and its end, which is one past the last item.
+template <class T> struct range {
+    T first, end;
+    friend constexpr bool operator==(const range &a, const range &b) { return a.first == b.first && a.end == b.end; }
+};
+
 /// A greatest common divisor and a least common multiple.
 template <class T> struct gcd_and_lcm {
     T gcd, lcm;
@@ -110,7 +129,7 @@ template <class T> struct solution_class {
 
 /// A week of ISO 8601, and its year.
 struct week_of_year {
-    std::uint8_t week;
+    int week;
     std::int64_t year;
     friend constexpr bool operator==(const week_of_year &a, const week_of_year &b) { return a.week == b.week && a.year == b.year; }
 };
@@ -251,8 +270,8 @@ class date {
     [[nodiscard]] static constexpr date from_c(cellarcove_date parts) { return date(parts.year, parts.month, parts.day_of_month); }
     [[nodiscard]] constexpr cellarcove_date to_c() const { return {year_, month_, day_of_month_}; }
     [[nodiscard]] constexpr std::int64_t year() const { return year_; }
-    [[nodiscard]] constexpr std::uint8_t month() const { return month_; }
-    [[nodiscard]] constexpr std::uint8_t day_of_month() const { return day_of_month_; }
+    [[nodiscard]] constexpr int month() const { return month_; }
+    [[nodiscard]] constexpr int day_of_month() const { return day_of_month_; }
 
   private:
     constexpr date(std::int64_t year, std::uint8_t month, std::uint8_t day_of_month) : year_(year), month_(month), day_of_month_(day_of_month) {}
@@ -329,6 +348,30 @@ template <class N0, class N1> [[nodiscard]] auto div_ceil(N0 x, N1 y) {
         return r.status == CELLARCOVE_ANSWER ? result<std::int64_t>(r.value) : result<std::int64_t>(static_cast<status>(r.status));
     } else {
         auto r = cellarcove_div_ceil_u64(static_cast<std::uint64_t>(x), static_cast<std::uint64_t>(y));
+        return r.status == CELLARCOVE_ANSWER ? result<std::uint64_t>(r.value) : result<std::uint64_t>(static_cast<status>(r.status));
+    }
+}
+
+/// The quotient rounded to the nearest integer, and a half away from 0. That of -5 by 2 is -3. status::outside if y
+/// is 0. status::not_fitting if the quotient does not fit.
+template <class N0, class N1> [[nodiscard]] auto div_round(N0 x, N1 y) {
+    if constexpr (detail::is_signed<N0, N1>()) {
+        auto r = cellarcove_div_round_i64(static_cast<std::int64_t>(x), static_cast<std::int64_t>(y));
+        return r.status == CELLARCOVE_ANSWER ? result<std::int64_t>(r.value) : result<std::int64_t>(static_cast<status>(r.status));
+    } else {
+        auto r = cellarcove_div_round_u64(static_cast<std::uint64_t>(x), static_cast<std::uint64_t>(y));
+        return r.status == CELLARCOVE_ANSWER ? result<std::uint64_t>(r.value) : result<std::uint64_t>(static_cast<status>(r.status));
+    }
+}
+
+/// The quotient rounded to the nearest integer, and a half to the even one. That of -5 by 2 is -2. status::outside if
+/// y is 0. status::not_fitting if the quotient does not fit.
+template <class N0, class N1> [[nodiscard]] auto div_round_even(N0 x, N1 y) {
+    if constexpr (detail::is_signed<N0, N1>()) {
+        auto r = cellarcove_div_round_even_i64(static_cast<std::int64_t>(x), static_cast<std::int64_t>(y));
+        return r.status == CELLARCOVE_ANSWER ? result<std::int64_t>(r.value) : result<std::int64_t>(static_cast<status>(r.status));
+    } else {
+        auto r = cellarcove_div_round_even_u64(static_cast<std::uint64_t>(x), static_cast<std::uint64_t>(y));
         return r.status == CELLARCOVE_ANSWER ? result<std::uint64_t>(r.value) : result<std::uint64_t>(static_cast<status>(r.status));
     }
 }
@@ -450,55 +493,77 @@ template <class N0, class N1> [[nodiscard]] auto gcd_lcm(N0 x, N1 y) {
     return r.status == CELLARCOVE_ANSWER ? result<bezout>(bezout{r.gcd, r.x, r.y}) : result<bezout>(static_cast<status>(r.status));
 }
 
+/// Whether the greatest common divisor of the numbers is 1. 8 and 15 are coprime, and 8 and 6 are not.
+template <class N0, class N1> [[nodiscard]] auto is_coprime(N0 x, N1 y) {
+    if constexpr (detail::is_signed<N0, N1>()) {
+        auto r = cellarcove_is_coprime_i64(static_cast<std::int64_t>(x), static_cast<std::int64_t>(y));
+        return r;
+    } else {
+        auto r = cellarcove_is_coprime_u64(static_cast<std::uint64_t>(x), static_cast<std::uint64_t>(y));
+        return r;
+    }
+}
+
+/// Both numbers divided by their greatest common divisor, with their signs. Those of -6 and 4 are -3 and 2.
+template <class N0, class N1> [[nodiscard]] auto reduced(N0 x, N1 y) {
+    if constexpr (detail::is_signed<N0, N1>()) {
+        auto r = cellarcove_reduced_i64(static_cast<std::int64_t>(x), static_cast<std::int64_t>(y));
+        return std::pair(r.first, r.second);
+    } else {
+        auto r = cellarcove_reduced_u64(static_cast<std::uint64_t>(x), static_cast<std::uint64_t>(y));
+        return std::pair(r.first, r.second);
+    }
+}
+
 /// The greatest common divisor of the numbers, which is not negative. That of -12, 18 and 8 is 2, and that of no
 /// numbers is 0. status::not_fitting if it is 2^63, as that of -2^63 and 0.
-[[nodiscard]] inline result<std::int64_t> gcd_of(const std::int64_t *numbers, detail::checked<std::size_t> length) {
-    if (auto error = detail::error_of(length); error != status::answer) {
+[[nodiscard]] inline result<std::int64_t> gcd_of(const std::int64_t *numbers, detail::checked<std::size_t> numbers_length) {
+    if (auto error = detail::error_of(numbers_length); error != status::answer) {
         return result<std::int64_t>(error);
     }
-    auto r = cellarcove_gcd_of_i64(numbers, length.value);
+    auto r = cellarcove_gcd_of_i64(numbers, numbers_length.value);
     return r.status == CELLARCOVE_ANSWER ? result<std::int64_t>(r.value) : result<std::int64_t>(static_cast<status>(r.status));
 }
 
 /// The greatest common divisor of the numbers, which always fits. That of 12, 18 and 8 is 2, and that of no numbers
 /// is 0.
-[[nodiscard]] inline result<std::uint64_t> gcd_of(const std::uint64_t *numbers, detail::checked<std::size_t> length) {
-    if (auto error = detail::error_of(length); error != status::answer) {
+[[nodiscard]] inline result<std::uint64_t> gcd_of(const std::uint64_t *numbers, detail::checked<std::size_t> numbers_length) {
+    if (auto error = detail::error_of(numbers_length); error != status::answer) {
         return result<std::uint64_t>(error);
     }
-    auto r = cellarcove_gcd_of_u64(numbers, length.value);
+    auto r = cellarcove_gcd_of_u64(numbers, numbers_length.value);
     return r.status == CELLARCOVE_ANSWER ? result<std::uint64_t>(r.value) : result<std::uint64_t>(static_cast<status>(r.status));
 }
 
 /// The same for a container of `std::int64_t` or `std::uint64_t` in one piece.
-template <class Items>
-[[nodiscard]] auto gcd_of(const Items &numbers) -> decltype(gcd_of(numbers.data(), numbers.size())) {
+template <class Items0>
+[[nodiscard]] auto gcd_of(const Items0 &numbers) -> decltype(gcd_of(numbers.data(), numbers.size())) {
     return gcd_of(numbers.data(), numbers.size());
 }
 
 /// The least common multiple of the numbers, which is not negative. That of -4, 6 and 10 is 60, that of numbers of
 /// which one is 0 is 0, and that of no numbers is 1. status::not_fitting if the multiple does not fit.
-[[nodiscard]] inline result<std::int64_t> lcm_of(const std::int64_t *numbers, detail::checked<std::size_t> length) {
-    if (auto error = detail::error_of(length); error != status::answer) {
+[[nodiscard]] inline result<std::int64_t> lcm_of(const std::int64_t *numbers, detail::checked<std::size_t> numbers_length) {
+    if (auto error = detail::error_of(numbers_length); error != status::answer) {
         return result<std::int64_t>(error);
     }
-    auto r = cellarcove_lcm_of_i64(numbers, length.value);
+    auto r = cellarcove_lcm_of_i64(numbers, numbers_length.value);
     return r.status == CELLARCOVE_ANSWER ? result<std::int64_t>(r.value) : result<std::int64_t>(static_cast<status>(r.status));
 }
 
 /// The least common multiple of the numbers. That of 4, 6 and 10 is 60, that of numbers of which one is 0 is 0, and
 /// that of no numbers is 1. status::not_fitting if the multiple does not fit.
-[[nodiscard]] inline result<std::uint64_t> lcm_of(const std::uint64_t *numbers, detail::checked<std::size_t> length) {
-    if (auto error = detail::error_of(length); error != status::answer) {
+[[nodiscard]] inline result<std::uint64_t> lcm_of(const std::uint64_t *numbers, detail::checked<std::size_t> numbers_length) {
+    if (auto error = detail::error_of(numbers_length); error != status::answer) {
         return result<std::uint64_t>(error);
     }
-    auto r = cellarcove_lcm_of_u64(numbers, length.value);
+    auto r = cellarcove_lcm_of_u64(numbers, numbers_length.value);
     return r.status == CELLARCOVE_ANSWER ? result<std::uint64_t>(r.value) : result<std::uint64_t>(static_cast<status>(r.status));
 }
 
 /// The same for a container of `std::int64_t` or `std::uint64_t` in one piece.
-template <class Items>
-[[nodiscard]] auto lcm_of(const Items &numbers) -> decltype(lcm_of(numbers.data(), numbers.size())) {
+template <class Items0>
+[[nodiscard]] auto lcm_of(const Items0 &numbers) -> decltype(lcm_of(numbers.data(), numbers.size())) {
     return lcm_of(numbers.data(), numbers.size());
 }
 
@@ -593,6 +658,30 @@ template <class N0> [[nodiscard]] auto is_power(N0 x, detail::exact<std::uint32_
     return r;
 }
 
+/// The square root rounded down, and what is left: x minus the square of the root. Those of 99 are 9 and 18.
+/// status::outside if x is negative.
+template <class N0> [[nodiscard]] auto sqrt_rem(N0 x) {
+    if constexpr (detail::is_signed<N0>()) {
+        auto r = cellarcove_sqrt_rem_i64(static_cast<std::int64_t>(x));
+        return r.status == CELLARCOVE_ANSWER ? result<root_and_rest<std::int64_t>>(root_and_rest<std::int64_t>{r.root, r.rest}) : result<root_and_rest<std::int64_t>>(static_cast<status>(r.status));
+    } else {
+        auto r = cellarcove_sqrt_rem_u64(static_cast<std::uint64_t>(x));
+        return r.status == CELLARCOVE_ANSWER ? result<root_and_rest<std::uint64_t>>(root_and_rest<std::uint64_t>{r.root, r.rest}) : result<root_and_rest<std::uint64_t>>(static_cast<status>(r.status));
+    }
+}
+
+/// The logarithm rounded down: the largest degree of a power of base that is at most x. For 1000 and 10 it is 3.
+/// status::outside if x is not positive or base is below 2.
+template <class N0, class N1> [[nodiscard]] auto ilog(N0 x, N1 base) {
+    if constexpr (detail::is_signed<N0, N1>()) {
+        auto r = cellarcove_ilog_i64(static_cast<std::int64_t>(x), static_cast<std::int64_t>(base));
+        return r.status == CELLARCOVE_ANSWER ? result<std::uint64_t>(r.value) : result<std::uint64_t>(static_cast<status>(r.status));
+    } else {
+        auto r = cellarcove_ilog_u64(static_cast<std::uint64_t>(x), static_cast<std::uint64_t>(base));
+        return r.status == CELLARCOVE_ANSWER ? result<std::uint64_t>(r.value) : result<std::uint64_t>(static_cast<status>(r.status));
+    }
+}
+
 /// How many ways there are to choose k of n, the binomial coefficient. That of 11 and 3 is 165, and that of 3 and 11
 /// is 0. status::outside if a number is negative. status::not_fitting if the coefficient does not fit.
 template <class N0, class N1> [[nodiscard]] auto binomial(N0 n, N1 k) {
@@ -607,51 +696,229 @@ template <class N0, class N1> [[nodiscard]] auto binomial(N0 n, N1 k) {
 
 /// How many ways there are to order things of several kinds, the multinomial of their counts. That of 2, 1 and 2 is
 /// 30, and that of no counts is 1. status::not_fitting if the coefficient does not fit.
-[[nodiscard]] inline result<std::uint64_t> multinomial(const std::uint64_t *counts, detail::checked<std::size_t> length) {
-    if (auto error = detail::error_of(length); error != status::answer) {
+[[nodiscard]] inline result<std::uint64_t> multinomial(const std::uint64_t *counts, detail::checked<std::size_t> counts_length) {
+    if (auto error = detail::error_of(counts_length); error != status::answer) {
         return result<std::uint64_t>(error);
     }
-    auto r = cellarcove_multinomial_u64(counts, length.value);
+    auto r = cellarcove_multinomial_u64(counts, counts_length.value);
     return r.status == CELLARCOVE_ANSWER ? result<std::uint64_t>(r.value) : result<std::uint64_t>(static_cast<status>(r.status));
 }
 
 /// The same for a container of `std::uint64_t` in one piece.
-template <class Items>
-[[nodiscard]] auto multinomial(const Items &counts) -> decltype(multinomial(counts.data(), counts.size())) {
+template <class Items0>
+[[nodiscard]] auto multinomial(const Items0 &counts) -> decltype(multinomial(counts.data(), counts.size())) {
     return multinomial(counts.data(), counts.size());
+}
+
+/// The factorial of n, the product of the numbers from 1 to n. That of 5 is 120. status::outside if n is negative.
+/// status::not_fitting if the factorial does not fit.
+template <class N0> [[nodiscard]] auto factorial(N0 n) {
+    if constexpr (detail::is_signed<N0>()) {
+        auto r = cellarcove_factorial_i64(static_cast<std::int64_t>(n));
+        return r.status == CELLARCOVE_ANSWER ? result<std::int64_t>(r.value) : result<std::int64_t>(static_cast<status>(r.status));
+    } else {
+        auto r = cellarcove_factorial_u64(static_cast<std::uint64_t>(n));
+        return r.status == CELLARCOVE_ANSWER ? result<std::uint64_t>(r.value) : result<std::uint64_t>(static_cast<status>(r.status));
+    }
+}
+
+/// The falling factorial, the product of k factors, of which the first is n and each is 1 less than the one before.
+/// That of 8 and 3 is 336, and that of 2 and 3 is 0. status::outside if a number is negative. status::not_fitting if
+/// the product does not fit.
+template <class N0, class N1> [[nodiscard]] auto falling(N0 n, N1 k) {
+    if constexpr (detail::is_signed<N0, N1>()) {
+        auto r = cellarcove_falling_i64(static_cast<std::int64_t>(n), static_cast<std::int64_t>(k));
+        return r.status == CELLARCOVE_ANSWER ? result<std::int64_t>(r.value) : result<std::int64_t>(static_cast<status>(r.status));
+    } else {
+        auto r = cellarcove_falling_u64(static_cast<std::uint64_t>(n), static_cast<std::uint64_t>(k));
+        return r.status == CELLARCOVE_ANSWER ? result<std::uint64_t>(r.value) : result<std::uint64_t>(static_cast<status>(r.status));
+    }
 }
 
 /// The rank of a choice of numbers below n: how many choices of as many numbers come before it. They are ordered by
 /// their last number, then by the one before it, and so on. For 0, 2 and 3, and 5, it is 2. status::outside if the
 /// numbers do not increase or are not all below n. status::not_fitting if the rank does not fit.
-[[nodiscard]] inline result<std::uint64_t> rank(const std::uint64_t *choice, detail::checked<std::size_t> length, detail::checked<std::uint64_t> n) {
-    if (auto error = detail::error_of(length, n); error != status::answer) {
+[[nodiscard]] inline result<std::uint64_t> rank(const std::uint64_t *choice, detail::checked<std::size_t> choice_length, detail::checked<std::uint64_t> n) {
+    if (auto error = detail::error_of(choice_length, n); error != status::answer) {
         return result<std::uint64_t>(error);
     }
-    auto r = cellarcove_rank_u64(choice, length.value, n.value);
+    auto r = cellarcove_rank_u64(choice, choice_length.value, n.value);
     return r.status == CELLARCOVE_ANSWER ? result<std::uint64_t>(r.value) : result<std::uint64_t>(static_cast<status>(r.status));
 }
 
 /// The same for a container of `std::uint64_t` in one piece.
-template <class Items>
-[[nodiscard]] auto rank(const Items &choice, detail::checked<std::uint64_t> n) -> decltype(rank(choice.data(), choice.size(), n)) {
+template <class Items0>
+[[nodiscard]] auto rank(const Items0 &choice, detail::checked<std::uint64_t> n) -> decltype(rank(choice.data(), choice.size(), n)) {
     return rank(choice.data(), choice.size(), n);
 }
 
 /// Writes the choice of numbers below n that has the rank, of as many numbers as choice has, and returns the status.
 /// For 2, 5 and three numbers it is 0, 2 and 3. If the status is not 0, choice stays as it is. status::outside if the
 /// rank is not below the number of these choices.
-[[nodiscard]] inline status choice_of_rank(detail::checked<std::uint64_t> rank, detail::checked<std::uint64_t> n, std::uint64_t *choice, detail::checked<std::size_t> length) {
-    if (auto error = detail::error_of(rank, n, length); error != status::answer) {
+[[nodiscard]] inline status choice_of_rank(detail::checked<std::uint64_t> rank, detail::checked<std::uint64_t> n, std::uint64_t *choice, detail::checked<std::size_t> choice_length) {
+    if (auto error = detail::error_of(rank, n, choice_length); error != status::answer) {
         return error;
     }
-    return static_cast<status>(cellarcove_choice_of_rank_u64(rank.value, n.value, choice, length.value));
+    return static_cast<status>(cellarcove_choice_of_rank_u64(rank.value, n.value, choice, choice_length.value));
 }
 
 /// The same for a container of `std::uint64_t` in one piece.
-template <class Items>
-[[nodiscard]] auto choice_of_rank(detail::checked<std::uint64_t> rank, detail::checked<std::uint64_t> n, Items &choice) -> decltype(choice_of_rank(rank, n, choice.data(), choice.size())) {
+template <class Items2>
+[[nodiscard]] auto choice_of_rank(detail::checked<std::uint64_t> rank, detail::checked<std::uint64_t> n, Items2 &choice) -> decltype(choice_of_rank(rank, n, choice.data(), choice.size())) {
     return choice_of_rank(rank, n, choice.data(), choice.size());
+}
+
+/// Writes the shares of the amount in proportion to the weights, and returns the status. Together the shares are the
+/// amount. The first shares together are their exact share rounded up; those of a negative amount are the shares of
+/// its magnitude with its sign. For -100 and the weights 1, 1 and 1 they are -34, -33 and -33. If the status is not
+/// 0, parts stays as it is. status::outside if there is not one part for each weight, or if the weights are all 0.
+[[nodiscard]] inline status shares(detail::checked<std::int64_t> amount, const std::uint64_t *weights, detail::checked<std::size_t> weights_length, std::int64_t *parts, detail::checked<std::size_t> parts_length) {
+    if (auto error = detail::error_of(amount, weights_length, parts_length); error != status::answer) {
+        return error;
+    }
+    return static_cast<status>(cellarcove_shares_i64(amount.value, weights, weights_length.value, parts, parts_length.value));
+}
+
+/// Writes the shares of the amount in proportion to the weights, and returns the status. Together the shares are the
+/// amount, and the first shares together are their exact share rounded up. For 100 and the weights 1, 1 and 1 they
+/// are 34, 33 and 33. If the status is not 0, parts stays as it is. status::outside if there is not one part for each
+/// weight, or if the weights are all 0.
+[[nodiscard]] inline status shares(detail::checked<std::uint64_t> amount, const std::uint64_t *weights, detail::checked<std::size_t> weights_length, std::uint64_t *parts, detail::checked<std::size_t> parts_length) {
+    if (auto error = detail::error_of(amount, weights_length, parts_length); error != status::answer) {
+        return error;
+    }
+    return static_cast<status>(cellarcove_shares_u64(amount.value, weights, weights_length.value, parts, parts_length.value));
+}
+
+/// The same for a container of `std::uint64_t` or `std::int64_t` or `std::uint64_t` or `std::uint64_t` in one piece.
+template <class N0, class Items1, class Items2>
+[[nodiscard]] auto shares(N0 amount, const Items1 &weights, Items2 &parts) -> decltype(shares(amount, weights.data(), weights.size(), parts.data(), parts.size())) {
+    return shares(amount, weights.data(), weights.size(), parts.data(), parts.size());
+}
+
+/// Writes the shares of the amount by largest remainders, and returns the status. Each is the exact share rounded
+/// down, or 1 more for the weights with the largest remainders, and of equal ones the first, so that together they
+/// are the amount. For 2 and the weights 1, 1 and 98 they are 0, 0 and 2. If the status is not 0, parts stays as it
+/// is. status::outside if there is not one part for each weight, or if the weights are all 0.
+[[nodiscard]] inline status shares_by_largest_remainder(detail::checked<std::uint64_t> amount, const std::uint64_t *weights, detail::checked<std::size_t> weights_length, std::uint64_t *parts, detail::checked<std::size_t> parts_length) {
+    if (auto error = detail::error_of(amount, weights_length, parts_length); error != status::answer) {
+        return error;
+    }
+    return static_cast<status>(cellarcove_shares_by_largest_remainder_u64(amount.value, weights, weights_length.value, parts, parts_length.value));
+}
+
+/// The same for a container of `std::uint64_t` or `std::uint64_t` in one piece.
+template <class Items1, class Items2>
+[[nodiscard]] auto shares_by_largest_remainder(detail::checked<std::uint64_t> amount, const Items1 &weights, Items2 &parts) -> decltype(shares_by_largest_remainder(amount, weights.data(), weights.size(), parts.data(), parts.size())) {
+    return shares_by_largest_remainder(amount, weights.data(), weights.size(), parts.data(), parts.size());
+}
+
+/// The smallest number of pages that hold all items. For 10 and 4 it is 3. status::outside if page_size is not
+/// positive.
+template <class N0, class N1> [[nodiscard]] auto pages(N0 items, N1 page_size) {
+    if constexpr (detail::is_signed<N0, N1>()) {
+        auto r = cellarcove_pages_i64(static_cast<std::int64_t>(items), static_cast<std::int64_t>(page_size));
+        return r.status == CELLARCOVE_ANSWER ? result<std::int64_t>(r.value) : result<std::int64_t>(static_cast<status>(r.status));
+    } else {
+        auto r = cellarcove_pages_u64(static_cast<std::uint64_t>(items), static_cast<std::uint64_t>(page_size));
+        return r.status == CELLARCOVE_ANSWER ? result<std::uint64_t>(r.value) : result<std::uint64_t>(static_cast<status>(r.status));
+    }
+}
+
+/// The page of an item, and its place on the page. Those of -1 and 4 are -1 and 3. status::outside if page_size is
+/// not positive.
+template <class N0, class N1> [[nodiscard]] auto place_of(N0 item, N1 page_size) {
+    if constexpr (detail::is_signed<N0, N1>()) {
+        auto r = cellarcove_place_of_i64(static_cast<std::int64_t>(item), static_cast<std::int64_t>(page_size));
+        return r.status == CELLARCOVE_ANSWER ? result<place_on_page<std::int64_t>>(place_on_page<std::int64_t>{r.page, r.place}) : result<place_on_page<std::int64_t>>(static_cast<status>(r.status));
+    } else {
+        auto r = cellarcove_place_of_u64(static_cast<std::uint64_t>(item), static_cast<std::uint64_t>(page_size));
+        return r.status == CELLARCOVE_ANSWER ? result<place_on_page<std::uint64_t>>(place_on_page<std::uint64_t>{r.page, r.place}) : result<place_on_page<std::uint64_t>>(static_cast<status>(r.status));
+    }
+}
+
+/// The item at a place of a page. For -1, 3 and 4 it is -1. status::outside if place is negative or not below
+/// page_size. status::not_fitting if the item does not fit.
+template <class N0, class N1, class N2> [[nodiscard]] auto item_at(N0 page, N1 place, N2 page_size) {
+    if constexpr (detail::is_signed<N0, N1, N2>()) {
+        auto r = cellarcove_item_at_i64(static_cast<std::int64_t>(page), static_cast<std::int64_t>(place), static_cast<std::int64_t>(page_size));
+        return r.status == CELLARCOVE_ANSWER ? result<std::int64_t>(r.value) : result<std::int64_t>(static_cast<status>(r.status));
+    } else {
+        auto r = cellarcove_item_at_u64(static_cast<std::uint64_t>(page), static_cast<std::uint64_t>(place), static_cast<std::uint64_t>(page_size));
+        return r.status == CELLARCOVE_ANSWER ? result<std::uint64_t>(r.value) : result<std::uint64_t>(static_cast<status>(r.status));
+    }
+}
+
+/// The first item of a page and its end, which is one past its last item, if there are items items. Both are items if
+/// no item is on the page. Those of 2, 4 and 10 are 8 and 10. status::outside if page_size is not positive or items
+/// is negative.
+template <class N0, class N1, class N2> [[nodiscard]] auto range_of_page(N0 page, N1 page_size, N2 items) {
+    if constexpr (detail::is_signed<N0, N1, N2>()) {
+        auto r = cellarcove_range_of_page_i64(static_cast<std::int64_t>(page), static_cast<std::int64_t>(page_size), static_cast<std::int64_t>(items));
+        return r.status == CELLARCOVE_ANSWER ? result<range<std::int64_t>>(range<std::int64_t>{r.first, r.end}) : result<range<std::int64_t>>(static_cast<status>(r.status));
+    } else {
+        auto r = cellarcove_range_of_page_u64(static_cast<std::uint64_t>(page), static_cast<std::uint64_t>(page_size), static_cast<std::uint64_t>(items));
+        return r.status == CELLARCOVE_ANSWER ? result<range<std::uint64_t>>(range<std::uint64_t>{r.first, r.end}) : result<range<std::uint64_t>>(static_cast<status>(r.status));
+    }
+}
+
+/// The first item of a part and its end, which is one past its last item, if items items are split into parts parts.
+/// Each part is as large as the part before it, or smaller by 1. Those of 1, 3 and 10 are 4 and 7. status::outside if
+/// part or items is negative, or part is not below parts.
+template <class N0, class N1, class N2> [[nodiscard]] auto range_of_part(N0 part, N1 parts, N2 items) {
+    if constexpr (detail::is_signed<N0, N1, N2>()) {
+        auto r = cellarcove_range_of_part_i64(static_cast<std::int64_t>(part), static_cast<std::int64_t>(parts), static_cast<std::int64_t>(items));
+        return r.status == CELLARCOVE_ANSWER ? result<range<std::int64_t>>(range<std::int64_t>{r.first, r.end}) : result<range<std::int64_t>>(static_cast<status>(r.status));
+    } else {
+        auto r = cellarcove_range_of_part_u64(static_cast<std::uint64_t>(part), static_cast<std::uint64_t>(parts), static_cast<std::uint64_t>(items));
+        return r.status == CELLARCOVE_ANSWER ? result<range<std::uint64_t>>(range<std::uint64_t>{r.first, r.end}) : result<range<std::uint64_t>>(static_cast<status>(r.status));
+    }
+}
+
+/// The offset rounded up to a multiple of the alignment. For 13 and 8 it is 16. status::outside if alignment is not
+/// positive. status::not_fitting if the multiple does not fit.
+template <class N0, class N1> [[nodiscard]] auto align_up(N0 offset, N1 alignment) {
+    if constexpr (detail::is_signed<N0, N1>()) {
+        auto r = cellarcove_align_up_i64(static_cast<std::int64_t>(offset), static_cast<std::int64_t>(alignment));
+        return r.status == CELLARCOVE_ANSWER ? result<std::int64_t>(r.value) : result<std::int64_t>(static_cast<status>(r.status));
+    } else {
+        auto r = cellarcove_align_up_u64(static_cast<std::uint64_t>(offset), static_cast<std::uint64_t>(alignment));
+        return r.status == CELLARCOVE_ANSWER ? result<std::uint64_t>(r.value) : result<std::uint64_t>(static_cast<status>(r.status));
+    }
+}
+
+/// How many bytes to add to the offset to align it. For 13 and 8 it is 3. status::outside if alignment is not
+/// positive.
+template <class N0, class N1> [[nodiscard]] auto padding(N0 offset, N1 alignment) {
+    if constexpr (detail::is_signed<N0, N1>()) {
+        auto r = cellarcove_padding_i64(static_cast<std::int64_t>(offset), static_cast<std::int64_t>(alignment));
+        return r.status == CELLARCOVE_ANSWER ? result<std::int64_t>(r.value) : result<std::int64_t>(static_cast<status>(r.status));
+    } else {
+        auto r = cellarcove_padding_u64(static_cast<std::uint64_t>(offset), static_cast<std::uint64_t>(alignment));
+        return r.status == CELLARCOVE_ANSWER ? result<std::uint64_t>(r.value) : result<std::uint64_t>(static_cast<status>(r.status));
+    }
+}
+
+/// The residue of a modulo m, from 0 to m - 1. For -3 and 7 it is 4. status::bad_modulus if m is not positive.
+template <class N0, class N1> [[nodiscard]] auto residue(N0 a, N1 m) {
+    if constexpr (detail::is_signed<N0, N1>()) {
+        auto r = cellarcove_residue_i64(static_cast<std::int64_t>(a), static_cast<std::int64_t>(m));
+        return r.status == CELLARCOVE_ANSWER ? result<std::int64_t>(r.value) : result<std::int64_t>(static_cast<status>(r.status));
+    } else {
+        auto r = cellarcove_residue_u64(static_cast<std::uint64_t>(a), static_cast<std::uint64_t>(m));
+        return r.status == CELLARCOVE_ANSWER ? result<std::uint64_t>(r.value) : result<std::uint64_t>(static_cast<status>(r.status));
+    }
+}
+
+/// -a modulo m, from 0 to m - 1. For 3 and 7 it is 4. status::bad_modulus if m is not positive.
+template <class N0, class N1> [[nodiscard]] auto negation_modulo(N0 a, N1 m) {
+    if constexpr (detail::is_signed<N0, N1>()) {
+        auto r = cellarcove_negation_modulo_i64(static_cast<std::int64_t>(a), static_cast<std::int64_t>(m));
+        return r.status == CELLARCOVE_ANSWER ? result<std::int64_t>(r.value) : result<std::int64_t>(static_cast<status>(r.status));
+    } else {
+        auto r = cellarcove_negation_modulo_u64(static_cast<std::uint64_t>(a), static_cast<std::uint64_t>(m));
+        return r.status == CELLARCOVE_ANSWER ? result<std::uint64_t>(r.value) : result<std::uint64_t>(static_cast<status>(r.status));
+    }
 }
 
 /// a + b modulo m, from 0 to m - 1. For 5, 4 and 7 it is 2. status::bad_modulus if m is not positive.
@@ -807,11 +1074,11 @@ template <class N0, class N1, class N2, class N3, class N4> [[nodiscard]] auto n
 /// For 10, and 1 modulo 4, 3 modulo 6 and 0 modulo 7, it is 21. status::outside if there are more congruences.
 /// status::bad_modulus if a modulus is not positive. status::no_solution if there is no such number.
 /// status::not_fitting if it does not fit.
-[[nodiscard]] inline result<std::int64_t> next_common_solution_of(detail::checked<std::int64_t> from, const i64_congruence *congruences, detail::checked<std::size_t> length) {
-    if (auto error = detail::error_of(from, length); error != status::answer) {
+[[nodiscard]] inline result<std::int64_t> next_common_solution_of(detail::checked<std::int64_t> from, const i64_congruence *congruences, detail::checked<std::size_t> congruences_length) {
+    if (auto error = detail::error_of(from, congruences_length); error != status::answer) {
         return result<std::int64_t>(error);
     }
-    auto r = cellarcove_next_common_solution_of_i64(from.value, congruences, length.value);
+    auto r = cellarcove_next_common_solution_of_i64(from.value, congruences, congruences_length.value);
     return r.status == CELLARCOVE_ANSWER ? result<std::int64_t>(r.value) : result<std::int64_t>(static_cast<status>(r.status));
 }
 
@@ -819,18 +1086,44 @@ template <class N0, class N1, class N2, class N3, class N4> [[nodiscard]] auto n
 /// For 10, and 1 modulo 4, 3 modulo 6 and 0 modulo 7, it is 21. status::outside if there are more congruences.
 /// status::bad_modulus if a modulus is 0. status::no_solution if there is no such number. status::not_fitting if it
 /// does not fit.
-[[nodiscard]] inline result<std::uint64_t> next_common_solution_of(detail::checked<std::uint64_t> from, const u64_congruence *congruences, detail::checked<std::size_t> length) {
-    if (auto error = detail::error_of(from, length); error != status::answer) {
+[[nodiscard]] inline result<std::uint64_t> next_common_solution_of(detail::checked<std::uint64_t> from, const u64_congruence *congruences, detail::checked<std::size_t> congruences_length) {
+    if (auto error = detail::error_of(from, congruences_length); error != status::answer) {
         return result<std::uint64_t>(error);
     }
-    auto r = cellarcove_next_common_solution_of_u64(from.value, congruences, length.value);
+    auto r = cellarcove_next_common_solution_of_u64(from.value, congruences, congruences_length.value);
     return r.status == CELLARCOVE_ANSWER ? result<std::uint64_t>(r.value) : result<std::uint64_t>(static_cast<status>(r.status));
 }
 
 /// The same for a container of `i64_congruence` or `u64_congruence` in one piece.
-template <class N0, class Items>
-[[nodiscard]] auto next_common_solution_of(N0 from, const Items &congruences) -> decltype(next_common_solution_of(from, congruences.data(), congruences.size())) {
+template <class N0, class Items1>
+[[nodiscard]] auto next_common_solution_of(N0 from, const Items1 &congruences) -> decltype(next_common_solution_of(from, congruences.data(), congruences.size())) {
     return next_common_solution_of(from, congruences.data(), congruences.size());
+}
+
+/// The first time, not before now, that is in two schedules. One has the times a, a + p, a + 2 * p and so on, and the
+/// other those of b and q. For 10, 1, 4, 3 and 6 it is 21. status::bad_modulus if p or q is not positive.
+/// status::no_solution if there is no such time. status::not_fitting if it does not fit.
+template <class N0, class N1, class N2, class N3, class N4> [[nodiscard]] auto next_meeting(N0 now, N1 a, N2 p, N3 b, N4 q) {
+    if constexpr (detail::is_signed<N0, N1, N2, N3, N4>()) {
+        auto r = cellarcove_next_meeting_i64(static_cast<std::int64_t>(now), static_cast<std::int64_t>(a), static_cast<std::int64_t>(p), static_cast<std::int64_t>(b), static_cast<std::int64_t>(q));
+        return r.status == CELLARCOVE_ANSWER ? result<std::int64_t>(r.value) : result<std::int64_t>(static_cast<status>(r.status));
+    } else {
+        auto r = cellarcove_next_meeting_u64(static_cast<std::uint64_t>(now), static_cast<std::uint64_t>(a), static_cast<std::uint64_t>(p), static_cast<std::uint64_t>(b), static_cast<std::uint64_t>(q));
+        return r.status == CELLARCOVE_ANSWER ? result<std::uint64_t>(r.value) : result<std::uint64_t>(static_cast<status>(r.status));
+    }
+}
+
+/// How many times of a schedule are in the range of numbers between from and to, and at them. The schedule has the
+/// times first, first + period and so on. For 4, 15, 3 and 6 it is 2. status::bad_modulus if period is not positive.
+/// status::not_fitting if the count does not fit.
+template <class N0, class N1, class N2, class N3> [[nodiscard]] auto count_times(N0 from, N1 to, N2 first, N3 period) {
+    if constexpr (detail::is_signed<N0, N1, N2, N3>()) {
+        auto r = cellarcove_count_times_i64(static_cast<std::int64_t>(from), static_cast<std::int64_t>(to), static_cast<std::int64_t>(first), static_cast<std::int64_t>(period));
+        return r.status == CELLARCOVE_ANSWER ? result<std::int64_t>(r.value) : result<std::int64_t>(static_cast<status>(r.status));
+    } else {
+        auto r = cellarcove_count_times_u64(static_cast<std::uint64_t>(from), static_cast<std::uint64_t>(to), static_cast<std::uint64_t>(first), static_cast<std::uint64_t>(period));
+        return r.status == CELLARCOVE_ANSWER ? result<std::uint64_t>(r.value) : result<std::uint64_t>(static_cast<status>(r.status));
+    }
 }
 
 /// The sum. That of 1/2 and 1/3 is 5/6. status::zero_denominator if a denominator is 0. status::not_fitting if a part
@@ -858,6 +1151,48 @@ template <class N0, class Items>
 /// status::not_fitting if a part of an argument, reduced, does not fit, or a part of the result.
 [[nodiscard]] inline result<fraction> fraction_div(const fraction &a, const fraction &b) {
     auto r = cellarcove_fraction_div(a.to_c(), b.to_c());
+    return r.status == CELLARCOVE_ANSWER ? result<fraction>(fraction::from_c(r.value)) : result<fraction>(static_cast<status>(r.status));
+}
+
+/// The reciprocal. That of -2/3 is -3/2. status::zero_denominator if the denominator is 0, and if a is 0.
+/// status::not_fitting if a part of the argument, reduced, does not fit, or a part of the result.
+[[nodiscard]] inline result<fraction> fraction_recip(const fraction &a) {
+    auto r = cellarcove_fraction_recip(a.to_c());
+    return r.status == CELLARCOVE_ANSWER ? result<fraction>(fraction::from_c(r.value)) : result<fraction>(static_cast<status>(r.status));
+}
+
+/// The negation. That of -3/2 is 3/2. status::zero_denominator if the denominator is 0. status::not_fitting if a part
+/// of the argument, reduced, does not fit, or a part of the result.
+[[nodiscard]] inline result<fraction> fraction_neg(const fraction &a) {
+    auto r = cellarcove_fraction_neg(a.to_c());
+    return r.status == CELLARCOVE_ANSWER ? result<fraction>(fraction::from_c(r.value)) : result<fraction>(static_cast<status>(r.status));
+}
+
+/// The magnitude. That of -3/2 is 3/2. status::zero_denominator if the denominator is 0. status::not_fitting if a
+/// part of the argument, reduced, does not fit, or a part of the result.
+[[nodiscard]] inline result<fraction> fraction_abs(const fraction &a) {
+    auto r = cellarcove_fraction_abs(a.to_c());
+    return r.status == CELLARCOVE_ANSWER ? result<fraction>(fraction::from_c(r.value)) : result<fraction>(static_cast<status>(r.status));
+}
+
+/// The power, which for a negative exponent is that of the reciprocal. That of 2/3 and -2 is 9/4.
+/// status::zero_denominator if the denominator is 0, and if a is 0 and the exponent is negative. status::not_fitting
+/// if a part of the argument, reduced, does not fit, or a part of the result.
+[[nodiscard]] inline result<fraction> fraction_pow(const fraction &a, detail::checked<std::int32_t> exponent) {
+    if (auto error = detail::error_of(exponent); error != status::answer) {
+        return result<fraction>(error);
+    }
+    auto r = cellarcove_fraction_pow(a.to_c(), exponent.value);
+    return r.status == CELLARCOVE_ANSWER ? result<fraction>(fraction::from_c(r.value)) : result<fraction>(static_cast<status>(r.status));
+}
+
+/// The fraction times n / d. That of 2/3, 9 and 4 is 3/2. status::zero_denominator if the denominator is 0, and if d
+/// is 0. status::not_fitting if a part of the argument, reduced, does not fit, or a part of the result.
+[[nodiscard]] inline result<fraction> fraction_times(const fraction &a, detail::checked<std::int64_t> n, detail::checked<std::int64_t> d) {
+    if (auto error = detail::error_of(n, d); error != status::answer) {
+        return result<fraction>(error);
+    }
+    auto r = cellarcove_fraction_times(a.to_c(), n.value, d.value);
     return r.status == CELLARCOVE_ANSWER ? result<fraction>(fraction::from_c(r.value)) : result<fraction>(static_cast<status>(r.status));
 }
 
@@ -891,6 +1226,20 @@ template <class N0, class Items>
 [[nodiscard]] inline result<std::int64_t> fraction_ceil(const fraction &a) {
     auto r = cellarcove_fraction_ceil(a.to_c());
     return r.status == CELLARCOVE_ANSWER ? result<std::int64_t>(r.value) : result<std::int64_t>(static_cast<status>(r.status));
+}
+
+/// The fraction rounded toward 0. That of -3/2 is -1. status::zero_denominator if the denominator is 0.
+/// status::not_fitting if a part of the reduced fraction does not fit.
+[[nodiscard]] inline result<std::int64_t> fraction_trunc(const fraction &a) {
+    auto r = cellarcove_fraction_trunc(a.to_c());
+    return r.status == CELLARCOVE_ANSWER ? result<std::int64_t>(r.value) : result<std::int64_t>(static_cast<status>(r.status));
+}
+
+/// The fraction minus itself rounded toward 0. That of -3/2 is -1/2. status::zero_denominator if the denominator is
+/// 0. status::not_fitting if a part of the reduced fraction does not fit.
+[[nodiscard]] inline result<fraction> fraction_fract(const fraction &a) {
+    auto r = cellarcove_fraction_fract(a.to_c());
+    return r.status == CELLARCOVE_ANSWER ? result<fraction>(fraction::from_c(r.value)) : result<fraction>(static_cast<status>(r.status));
 }
 
 /// The nearest integer, and of two that are equally near the one farther from 0. That of -3/2 is -2.
@@ -930,6 +1279,39 @@ template <class N0, class Items>
     }
     auto r = cellarcove_fraction_round_times(a.to_c(), n.value);
     return r.status == CELLARCOVE_ANSWER ? result<std::int64_t>(r.value) : result<std::int64_t>(static_cast<status>(r.status));
+}
+
+/// The largest multiple of 1 / parts that is at most the fraction. That of 5/3 and 4 is 3/2. status::outside if parts
+/// is not positive, whatever a is. status::zero_denominator if the denominator is 0. status::not_fitting if a part of
+/// the reduced fraction does not fit, or a part of the result.
+[[nodiscard]] inline result<fraction> fraction_floor_to(const fraction &a, detail::checked<std::int64_t> parts) {
+    if (auto error = detail::error_of(parts); error != status::answer) {
+        return result<fraction>(error);
+    }
+    auto r = cellarcove_fraction_floor_to(a.to_c(), parts.value);
+    return r.status == CELLARCOVE_ANSWER ? result<fraction>(fraction::from_c(r.value)) : result<fraction>(static_cast<status>(r.status));
+}
+
+/// The smallest multiple of 1 / parts that is at least the fraction. That of 5/3 and 4 is 7/4. status::outside if
+/// parts is not positive, whatever a is. status::zero_denominator if the denominator is 0. status::not_fitting if a
+/// part of the reduced fraction does not fit, or a part of the result.
+[[nodiscard]] inline result<fraction> fraction_ceil_to(const fraction &a, detail::checked<std::int64_t> parts) {
+    if (auto error = detail::error_of(parts); error != status::answer) {
+        return result<fraction>(error);
+    }
+    auto r = cellarcove_fraction_ceil_to(a.to_c(), parts.value);
+    return r.status == CELLARCOVE_ANSWER ? result<fraction>(fraction::from_c(r.value)) : result<fraction>(static_cast<status>(r.status));
+}
+
+/// The nearest multiple of 1 / parts, and of two that are equally near the one farther from 0. That of 5/3 and 100 is
+/// 167/100. status::outside if parts is not positive, whatever a is. status::zero_denominator if the denominator is
+/// 0. status::not_fitting if a part of the reduced fraction does not fit, or a part of the result.
+[[nodiscard]] inline result<fraction> fraction_round_to(const fraction &a, detail::checked<std::int64_t> parts) {
+    if (auto error = detail::error_of(parts); error != status::answer) {
+        return result<fraction>(error);
+    }
+    auto r = cellarcove_fraction_round_to(a.to_c(), parts.value);
+    return r.status == CELLARCOVE_ANSWER ? result<fraction>(fraction::from_c(r.value)) : result<fraction>(static_cast<status>(r.status));
 }
 
 /// The date of a day, counted from 1970-01-01, which is day 0. That of -1 is 1969-12-31.
@@ -981,6 +1363,24 @@ template <class N0, class Items>
     return r.status == CELLARCOVE_ANSWER ? result<std::int64_t>(r.value) : result<std::int64_t>(static_cast<status>(r.status));
 }
 
+/// The largest number of years that leads from one date to a date not after another, negative if the other is
+/// earlier. From 2000-02-29 to 2025-02-28 it is 25. status::no_date if a date does not exist. status::not_fitting if
+/// the number does not fit.
+[[nodiscard]] inline result<std::int64_t> years_between(const date &from, const date &to) {
+    auto r = cellarcove_years_between(from.to_c(), to.to_c());
+    return r.status == CELLARCOVE_ANSWER ? result<std::int64_t>(r.value) : result<std::int64_t>(static_cast<status>(r.status));
+}
+
+/// The date of a day of a year; 1 January is day 1. That of 2000 and 60 is 2000-02-29. status::no_date if the year
+/// has no such day.
+[[nodiscard]] inline result<date> date_from_year_day(detail::checked<std::int64_t> year, detail::checked<std::uint16_t> day) {
+    if (auto error = detail::error_of(year, day); error != status::answer) {
+        return result<date>(error);
+    }
+    auto r = cellarcove_date_from_year_day(year.value, day.value);
+    return r.status == CELLARCOVE_ANSWER ? result<date>(date::from_c(r.date)) : result<date>(static_cast<status>(r.status));
+}
+
 /// The week of ISO 8601 that has a date, and its year. That of 2005-01-01 is week 53 of 2004. status::no_date if
 /// there is no such date. status::not_fitting if the year of the week does not fit.
 [[nodiscard]] inline result<week_of_year> iso_week(const date &of) {
@@ -1006,9 +1406,36 @@ template <class N0, class Items>
 }
 
 /// The day of the week of a day, from 1 for Monday to 7 for Sunday. That of 0 is 4.
-[[nodiscard]] inline std::uint8_t weekday(detail::exact<std::int64_t> day) {
+[[nodiscard]] inline int weekday(detail::exact<std::int64_t> day) {
     auto r = cellarcove_weekday(day.value);
-    return r;
+    return static_cast<int>(r);
+}
+
+/// The day of the week of a date, from 1 for Monday to 7 for Sunday. That of 2000-02-29 is 2. status::no_date if
+/// there is no such date.
+[[nodiscard]] inline result<std::uint64_t> weekday_of_date(const date &of) {
+    auto r = cellarcove_weekday_of_date(of.to_c());
+    return r.status == CELLARCOVE_ANSWER ? result<std::uint64_t>(r.value) : result<std::uint64_t>(static_cast<status>(r.status));
+}
+
+/// The first day that is this day of the week, from 1 for Monday to 7 for Sunday, and is not before day. For 0 and 7
+/// it is 3. status::outside if weekday is not from 1 to 7. status::not_fitting if the day does not fit.
+[[nodiscard]] inline result<std::int64_t> first_weekday_on_or_after(detail::checked<std::int64_t> day, detail::checked<std::uint8_t> weekday) {
+    if (auto error = detail::error_of(day); error != status::answer) {
+        return result<std::int64_t>(error);
+    }
+    auto r = cellarcove_first_weekday_on_or_after(day.value, weekday.value);
+    return r.status == CELLARCOVE_ANSWER ? result<std::int64_t>(r.value) : result<std::int64_t>(static_cast<status>(r.status));
+}
+
+/// The last day that is this day of the week, from 1 for Monday to 7 for Sunday, and is not after day. For 4 and 7 it
+/// is 3. status::outside if weekday is not from 1 to 7. status::not_fitting if the day does not fit.
+[[nodiscard]] inline result<std::int64_t> last_weekday_on_or_before(detail::checked<std::int64_t> day, detail::checked<std::uint8_t> weekday) {
+    if (auto error = detail::error_of(day); error != status::answer) {
+        return result<std::int64_t>(error);
+    }
+    auto r = cellarcove_last_weekday_on_or_before(day.value, weekday.value);
+    return r.status == CELLARCOVE_ANSWER ? result<std::int64_t>(r.value) : result<std::int64_t>(static_cast<status>(r.status));
 }
 
 /// The date of the n-th day of a month that is this day of the week, from 1 for Monday to 7 for Sunday. The first one
@@ -1039,10 +1466,16 @@ template <class N0, class Items>
     return r;
 }
 
-/// How many weeks of ISO 8601 the year has: 52 or 53. 2020 has 53.
-[[nodiscard]] inline std::uint8_t weeks_in_year(detail::exact<std::int64_t> year) {
-    auto r = cellarcove_weeks_in_year(year.value);
+/// How many days the year has: 365 or 366. 1900 has 365.
+[[nodiscard]] inline std::uint16_t days_in_year(detail::exact<std::int64_t> year) {
+    auto r = cellarcove_days_in_year(year.value);
     return r;
+}
+
+/// How many weeks of ISO 8601 the year has: 52 or 53. 2020 has 53.
+[[nodiscard]] inline int weeks_in_year(detail::exact<std::int64_t> year) {
+    auto r = cellarcove_weeks_in_year(year.value);
+    return static_cast<int>(r);
 }
 
 /// How many days the month has; January is 1. February 1900 has 28. status::no_date if month is not from 1 to 12.
@@ -1059,6 +1492,15 @@ template <class N0, class Items>
 [[nodiscard]] inline result<std::uint64_t> day_of_year(const date &of) {
     auto r = cellarcove_day_of_year(of.to_c());
     return r.status == CELLARCOVE_ANSWER ? result<std::uint64_t>(r.value) : result<std::uint64_t>(static_cast<status>(r.status));
+}
+
+/// The fraction of a text, which is an integer or two integers with a slash between. That of 6/-4 is -3/2.
+/// status::outside if the text is none of a fraction, or an integer of it has more than 38 digits, leading zeros
+/// aside. status::zero_denominator if the denominator is 0. status::not_fitting if a part of the reduced fraction
+/// does not fit.
+[[nodiscard]] inline result<fraction> fraction_from_text(std::string_view text) {
+    auto r = cellarcove_fraction_from_text(reinterpret_cast<const std::uint8_t *>(text.data()), text.size());
+    return r.status == CELLARCOVE_ANSWER ? result<fraction>(fraction::from_c(r.value)) : result<fraction>(static_cast<status>(r.status));
 }
 
 // ---- operators
@@ -1103,9 +1545,9 @@ inline std::ostream &operator<<(std::ostream &out, const fraction &a) {
 inline std::ostream &operator<<(std::ostream &out, const date &a) {
     detail::line line;
     line.add_year(a.year());
-    for (std::uint8_t part : {a.month(), a.day_of_month()}) {
+    for (int part : {a.month(), a.day_of_month()}) {
         line.add('-');
-        line.add(part, 2);
+        line.add(static_cast<std::uint64_t>(part), 2);
     }
     return out << line;
 }
@@ -1114,7 +1556,7 @@ inline std::ostream &operator<<(std::ostream &out, const week_of_year &a) {
     line.add_year(a.year);
     line.add('-');
     line.add('W');
-    line.add(a.week, 2);
+    line.add(static_cast<std::uint64_t>(a.week), 2);
     return out << line;
 }
 

@@ -29,6 +29,10 @@ static void layout(void) {
     CHECK(sizeof(cellarcove_i64_division) == 24 && sizeof(cellarcove_u64_division) == 24);
     CHECK(sizeof(cellarcove_i64_solutions) == 24 && sizeof(cellarcove_u64_solutions) == 24);
     CHECK(sizeof(cellarcove_i64_gcd_lcm) == 24 && sizeof(cellarcove_u64_gcd_lcm) == 24);
+    CHECK(sizeof(cellarcove_i64_root) == 24 && sizeof(cellarcove_u64_root) == 24);
+    CHECK(sizeof(cellarcove_i64_place) == 24 && sizeof(cellarcove_u64_place) == 24);
+    CHECK(sizeof(cellarcove_i64_range) == 24 && sizeof(cellarcove_u64_range) == 24);
+    CHECK(sizeof(cellarcove_i64_pair) == 16 && sizeof(cellarcove_u64_pair) == 16);
     CHECK(sizeof(cellarcove_i64_bezout) == 32);
     CHECK(sizeof(cellarcove_fraction) == 16 && sizeof(cellarcove_fraction_answer) == 24);
     CHECK(sizeof(cellarcove_order_answer) == 8);
@@ -457,6 +461,113 @@ static void last_and_first_week(void) {
     }
 }
 
+static void rounded_quotients(void) {
+    ANSWERS(cellarcove_div_round_i64(-5, 2), -3);
+    ANSWERS(cellarcove_div_round_u64(5, 2), 3);
+    ANSWERS(cellarcove_div_round_even_i64(-5, 2), -2);
+    ANSWERS(cellarcove_div_round_even_u64(7, 2), 4);
+    REFUSES(cellarcove_div_round_i64(INT64_MIN, -1), CELLARCOVE_NOT_FITTING);
+    REFUSES(cellarcove_div_round_u64(1, 0), CELLARCOVE_OUTSIDE);
+    REFUSES(cellarcove_div_round_even_i64(INT64_MIN, -1), CELLARCOVE_NOT_FITTING);
+    REFUSES(cellarcove_div_round_even_u64(1, 0), CELLARCOVE_OUTSIDE);
+}
+
+static void shares(void) {
+    const uint64_t weights[3] = {1, 1, 1}, zeros[3] = {0, 0, 0}, unequal[3] = {1, 1, 98};
+    int64_t parts[3] = {7, 7, 7};
+    uint64_t counts[3] = {7, 7, 7};
+    CHECK(cellarcove_shares_i64(-100, zeros, 3, parts, 3) == CELLARCOVE_OUTSIDE && parts[0] == 7 && parts[2] == 7);
+    CHECK(cellarcove_shares_i64(-100, weights, 3, parts, 2) == CELLARCOVE_OUTSIDE && parts[0] == 7 && parts[2] == 7);
+    CHECK(cellarcove_shares_i64(-100, weights, 3, parts, 3) == CELLARCOVE_ANSWER && parts[0] == -34 && parts[1] == -33 && parts[2] == -33);
+    CHECK(cellarcove_shares_u64(100, weights, 2, counts, 3) == CELLARCOVE_OUTSIDE && counts[0] == 7);
+    CHECK(cellarcove_shares_u64(2, unequal, 3, counts, 3) == CELLARCOVE_ANSWER && counts[0] == 1 && counts[1] == 0 && counts[2] == 1);
+    CHECK(cellarcove_shares_by_largest_remainder_u64(2, zeros, 3, counts, 3) == CELLARCOVE_OUTSIDE && counts[0] == 1);
+    CHECK(cellarcove_shares_by_largest_remainder_u64(2, unequal, 3, counts, 3) == CELLARCOVE_ANSWER && counts[0] == 0 && counts[2] == 2);
+    CHECK(cellarcove_shares_u64(0, NULL, 0, NULL, 0) == CELLARCOVE_OUTSIDE);
+}
+
+static void numbers_of_pages(void) {
+    ANSWERS(cellarcove_pages_i64(-9, 4), -2);
+    ANSWERS(cellarcove_pages_u64(10, 4), 3);
+    REFUSES(cellarcove_pages_i64(1, -1), CELLARCOVE_OUTSIDE);
+    cellarcove_i64_place place = cellarcove_place_of_i64(-1, 4);
+    CHECK(place.status == CELLARCOVE_ANSWER && place.page == -1 && place.place == 3);
+    CHECK(cellarcove_place_of_u64(1, 0).status == CELLARCOVE_OUTSIDE);
+    ANSWERS(cellarcove_item_at_i64(-1, 3, 4), -1);
+    ANSWERS(cellarcove_item_at_u64(2, 2, 4), 10);
+    REFUSES(cellarcove_item_at_i64(0, -1, 4), CELLARCOVE_OUTSIDE);
+    REFUSES(cellarcove_item_at_u64(UINT64_MAX, 0, 2), CELLARCOVE_NOT_FITTING);
+    cellarcove_i64_range range = cellarcove_range_of_page_i64(2, 4, 10);
+    CHECK(range.status == CELLARCOVE_ANSWER && range.first == 8 && range.end == 10);
+    CHECK(cellarcove_range_of_page_i64(0, 4, -1).status == CELLARCOVE_OUTSIDE && cellarcove_range_of_page_u64(0, 0, 1).status == CELLARCOVE_OUTSIDE);
+    cellarcove_u64_range part = cellarcove_range_of_part_u64(1, 3, 10);
+    CHECK(part.status == CELLARCOVE_ANSWER && part.first == 4 && part.end == 7);
+    CHECK(cellarcove_range_of_part_i64(3, 3, 10).status == CELLARCOVE_OUTSIDE && cellarcove_range_of_part_u64(3, 3, 10).status == CELLARCOVE_OUTSIDE);
+    ANSWERS(cellarcove_align_up_i64(-13, 8), -8);
+    REFUSES(cellarcove_align_up_u64(UINT64_MAX, 2), CELLARCOVE_NOT_FITTING);
+    REFUSES(cellarcove_align_up_i64(1, 0), CELLARCOVE_OUTSIDE);
+    ANSWERS(cellarcove_padding_i64(-13, 8), 5);
+    REFUSES(cellarcove_padding_u64(1, 0), CELLARCOVE_OUTSIDE);
+}
+
+static void counts_and_times(void) {
+    cellarcove_u64_root root = cellarcove_sqrt_rem_u64(99);
+    CHECK(root.status == CELLARCOVE_ANSWER && root.root == 9 && root.rest == 18);
+    CHECK(cellarcove_sqrt_rem_i64(-1).status == CELLARCOVE_OUTSIDE);
+    ANSWERS(cellarcove_ilog_i64(999, 10), 2);
+    REFUSES(cellarcove_ilog_u64(0, 10), CELLARCOVE_OUTSIDE);
+    CHECK(cellarcove_is_coprime_i64(8, -15) && !cellarcove_is_coprime_u64(8, 6));
+    cellarcove_i64_pair pair = cellarcove_reduced_i64(-6, 4);
+    CHECK(pair.first == -3 && pair.second == 2 && cellarcove_reduced_u64(1920, 1080).first == 16);
+    ANSWERS(cellarcove_factorial_i64(5), 120);
+    REFUSES(cellarcove_factorial_i64(-1), CELLARCOVE_OUTSIDE);
+    REFUSES(cellarcove_factorial_u64(21), CELLARCOVE_NOT_FITTING);
+    ANSWERS(cellarcove_falling_u64(8, 3), 336);
+    REFUSES(cellarcove_falling_i64(8, -1), CELLARCOVE_OUTSIDE);
+    ANSWERS(cellarcove_next_meeting_i64(-100, 1, 4, 3, 6), 9);
+    REFUSES(cellarcove_next_meeting_u64(0, 0, 2, 1, 2), CELLARCOVE_NO_SOLUTION);
+    ANSWERS(cellarcove_count_times_i64(-9, 15, 3, 6), 3);
+    REFUSES(cellarcove_count_times_u64(4, 15, 3, 0), CELLARCOVE_BAD_MODULUS);
+    ANSWERS(cellarcove_residue_i64(-3, 7), 4);
+    ANSWERS(cellarcove_negation_modulo_u64(3, 7), 4);
+}
+
+static void more_of_fractions(void) {
+    const cellarcove_fraction thirds = {5, 3}, zero = {0, 1}, minus = {-3, 2};
+    cellarcove_fraction_answer half = cellarcove_fraction_fract(minus);
+    CHECK(half.status == CELLARCOVE_ANSWER && half.value.num == -1 && half.value.den == 2);
+    CHECK(cellarcove_fraction_recip(zero).status == CELLARCOVE_ZERO_DENOMINATOR && cellarcove_fraction_recip(thirds).value.num == 3);
+    CHECK(cellarcove_fraction_neg(thirds).value.num == -5 && cellarcove_fraction_abs(minus).value.num == 3);
+    CHECK(cellarcove_fraction_pow(thirds, -2).value.den == 25 && cellarcove_fraction_pow(zero, -1).status == CELLARCOVE_ZERO_DENOMINATOR);
+    CHECK(cellarcove_fraction_times(thirds, 9, 4).value.num == 15 && cellarcove_fraction_times(thirds, 1, 0).status == CELLARCOVE_ZERO_DENOMINATOR);
+    ANSWERS(cellarcove_fraction_trunc(minus), -1);
+    CHECK(cellarcove_fraction_floor_to(thirds, 4).value.num == 3 && cellarcove_fraction_ceil_to(thirds, 4).value.num == 7);
+    CHECK(cellarcove_fraction_round_to(thirds, 100).value.num == 167 && cellarcove_fraction_round_to(thirds, 0).status == CELLARCOVE_OUTSIDE);
+}
+
+static void more_of_dates(void) {
+    const cellarcove_date leap = {2000, 2, 29}, later = {2025, 2, 28}, none = {1900, 2, 29};
+    ANSWERS(cellarcove_years_between(leap, later), 25);
+    REFUSES(cellarcove_years_between(leap, none), CELLARCOVE_NO_DATE);
+    ANSWERS(cellarcove_weekday_of_date(leap), 2);
+    REFUSES(cellarcove_weekday_of_date(none), CELLARCOVE_NO_DATE);
+    CHECK(is_date(cellarcove_date_from_year_day(2000, 60).date, 2000, 2, 29));
+    CHECK(cellarcove_date_from_year_day(1900, 366).status == CELLARCOVE_NO_DATE);
+    ANSWERS(cellarcove_first_weekday_on_or_after(1, 7), 3);
+    REFUSES(cellarcove_first_weekday_on_or_after(1, 8), CELLARCOVE_OUTSIDE);
+    ANSWERS(cellarcove_last_weekday_on_or_before(1, 7), -4);
+    REFUSES(cellarcove_last_weekday_on_or_before(INT64_MIN, 1), CELLARCOVE_NOT_FITTING);
+    CHECK(cellarcove_days_in_year(2000) == 366 && cellarcove_days_in_year(1900) == 365);
+}
+
+static void texts(void) {
+    const uint8_t *half = (const uint8_t *)"6/-4";
+    CHECK(cellarcove_fraction_from_text(half, 4).value.num == -3 && cellarcove_fraction_from_text(half, 1).value.num == 6);
+    CHECK(cellarcove_fraction_from_text(half, 2).status == CELLARCOVE_OUTSIDE && cellarcove_fraction_from_text(NULL, 0).status == CELLARCOVE_OUTSIDE);
+    CHECK(cellarcove_fraction_from_text((const uint8_t *)"1/0", 3).status == CELLARCOVE_ZERO_DENOMINATOR);
+    CHECK(cellarcove_fraction_from_text((const uint8_t *)"9223372036854775808", 19).status == CELLARCOVE_NOT_FITTING);
+}
+
 int main(void) {
     layout();
     words();
@@ -475,6 +586,13 @@ int main(void) {
     dates();
     days_and_years();
     last_and_first_week();
+    rounded_quotients();
+    shares();
+    numbers_of_pages();
+    counts_and_times();
+    more_of_fractions();
+    more_of_dates();
+    texts();
     printf("%d results right, %d wrong\n", passed, failed);
     return failed != 0;
 }

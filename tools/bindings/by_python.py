@@ -6,6 +6,7 @@ whose result is tested instead: their function takes the numbers of the result t
 import datetime
 import math
 import operator
+import re
 from collections.abc import Callable, Sequence
 from fractions import Fraction
 from typing import Any
@@ -164,6 +165,24 @@ def choice_of_rank(_: Pair, number: int, n: int, count: int) -> Result:
     return tuple(found)
 
 
+def shares(_: Pair, amount: int, weights: Sequence[int]) -> Result:
+    """The shares of an amount, of which the first ones together are rounded up."""
+    if not any(weights):
+        return OUTSIDE
+    ends = [ceil(abs(amount) * sum(weights[:k]), sum(weights)) for k in range(len(weights) + 1)]
+    return tuple((end - start) * (-1 if amount < 0 else 1) for start, end in zip(ends, ends[1:]))
+
+
+def shares_by_largest_remainder(_: Pair, amount: int, weights: Sequence[int]) -> Result:
+    if not any(weights):
+        return OUTSIDE
+    exact = [Fraction(amount * weight, sum(weights)) for weight in weights]
+    found = [math.floor(share) for share in exact]
+    for place in sorted(range(len(found)), key=lambda k: (found[k] - exact[k], k))[:amount - sum(found)]:
+        found[place] += 1
+    return tuple(found)
+
+
 # ---- residues and congruences
 
 def modulo(make: Callable[..., int]) -> Model:
@@ -265,6 +284,12 @@ def of_fractions(make: Model) -> Model:
                 return made
         return make(*taken)
     return result
+
+
+def fraction_from_text(bounds: Pair, text: str) -> Result:
+    found = re.fullmatch('(-?[0-9]+)(?:/(-?[0-9]+))?', text)
+    numbers = [int(part) for part in found.groups('1')] if found else [10**38]
+    return OUTSIDE if any(abs(part) >= 10**38 for part in numbers) else of_fractions(parts)(bounds, tuple(numbers))
 
 
 def quotient(a: Fraction, b: Fraction) -> Result:
@@ -478,6 +503,8 @@ RESULTS: dict[str, Model] = {
     'multinomial': multinomial,
     'rank': rank,
     'choice_of_rank': choice_of_rank,
+    'shares': shares,
+    'shares_by_largest_remainder': shares_by_largest_remainder,
     'residue': modulo(operator.pos),
     'negation_modulo': modulo(operator.neg),
     'sum_modulo': modulo(operator.add),
@@ -491,6 +518,8 @@ RESULTS: dict[str, Model] = {
     'next_congruent': next_congruent,
     'previous_congruent': previous_congruent,
     'count_congruent': count_congruent,
+    'next_meeting': lambda bounds, now, a, p, b, q: next_common_solution(bounds, max(now, a, b), a, p, b, q),
+    'count_times': lambda bounds, start, end, first, period: count_congruent(bounds, max(start, first), end, first, period),
     'next_common_solution': next_common_solution,
     'next_common_solution_of': next_common_solution_of,
     'fraction_new': lambda bounds, num, den: of_fractions(parts)(bounds, (num, den)),
@@ -499,6 +528,7 @@ RESULTS: dict[str, Model] = {
     'fraction_mul': of_fractions(lambda a, b: parts(a * b)),
     'fraction_div': of_fractions(quotient),
     'fraction_cmp': of_fractions(lambda a, b: ((a > b) - (a < b),)),
+    'fraction_from_text': fraction_from_text,
     'fraction_recip': of_fractions(lambda a: quotient(Fraction(1), a)),
     'fraction_neg': of_fractions(lambda a: parts(-a)),
     'fraction_abs': of_fractions(lambda a: parts(abs(a))),

@@ -15,6 +15,7 @@ PLAIN = {'i64': 'std::int64_t', 'u64': 'std::uint64_t', 'u32': 'std::uint32_t', 
          'Fraction': 'fraction', 'I64Pair': 'std::pair<std::int64_t, std::int64_t>', 'U64Pair': 'std::pair<std::uint64_t, std::uint64_t>',
          'i32': 'std::int32_t', 'u16': 'std::uint16_t', 'I64Congruence': 'i64_congruence', 'U64Congruence': 'u64_congruence'}
 CLASSES = ('Fraction', 'Date')
+TEXT = 'u8'  # the items of a text
 FROM_C = {'FractionAnswer': 'fraction::from_c(r.value)', 'DateAnswer': 'date::from_c(r.date)', 'Date': 'date::from_c(r)',
           'I64Pair': 'std::pair(r.first, r.second)', 'U64Pair': 'std::pair(r.first, r.second)', 'u8': 'static_cast<int>(r)'}
 
@@ -48,9 +49,11 @@ def named(parameter: Field) -> str:
 def taken(call: Call, parameter: Field) -> str:
     """A parameter that is no template: a class, a slice, or a number, which a call without a status takes only of an exact type."""
     number = 'checked' if EXPORTS().has_status(call) else 'exact'
+    if parameter.item == TEXT:
+        return f'std::string_view {parameter.name}'
     if parameter.item:
         constant = '' if parameter.is_written else 'const '
-        return f'{constant}{PLAIN[parameter.item]} *{parameter.name}, detail::{number}<std::size_t> length'
+        return f'{constant}{PLAIN[parameter.item]} *{parameter.name}, detail::{number}<std::size_t> {parameter.name}_length'
     if parameter.kind in CLASSES:
         return f'const {PLAIN[parameter.kind]} &{named(parameter)}'
     return f'detail::{number}<{PLAIN[parameter.kind]}> {named(parameter)}'
@@ -58,14 +61,16 @@ def taken(call: Call, parameter: Field) -> str:
 
 def given(parameter: Field) -> str:
     """What the call for C gets of a parameter."""
+    if parameter.item == TEXT:
+        return f'reinterpret_cast<const std::uint8_t *>({parameter.name}.data()), {parameter.name}.size()'
     if parameter.item:
-        return f'{parameter.name}, length.value'
+        return f'{parameter.name}, {parameter.name}_length.value'
     return f'{named(parameter)}.{"to_c()" if parameter.kind in CLASSES else "value"}'
 
 
 def refusal(call: Call, parameters: list[Field]) -> list[str]:
     """The statement that refuses a number out of the range of its parameter. The call for C itself refuses the largest `u8`."""
-    numbers = ['length' if p.item else named(p) for p in parameters if p.kind not in (*CLASSES, 'u8')]
+    numbers = [f'{p.name}_length' if p.item else named(p) for p in parameters if p.kind not in (*CLASSES, 'u8') and p.item != TEXT]
     if not numbers or not EXPORTS().has_status(call):
         return []
     returned = 'error' if call.writes else f'{of(call)[0]}(error)'
@@ -89,11 +94,13 @@ def slice_functions(forms: list[Call]) -> str:
     """The functions of a call with a slice, one for each form, and one for a container."""
     call = forms[0]
     text = ''.join(plain_function(form) + '\n' for form in forms)
+    if any(p.item == TEXT for p in call.parameters):
+        return text.removesuffix('\n')
     parameters, passed, types = [], [], []
     for k, (p, q) in enumerate(zip(call.parameters, forms[-1].parameters)):
         if p.item:
-            types.append('Items')
-            parameters.append(f'{"" if p.is_written else "const "}Items &{p.name}')
+            types.append(f'Items{k}')
+            parameters.append(f'{"" if p.is_written else "const "}Items{k} &{p.name}')
             passed.append(f'{p.name}.data(), {p.name}.size()')
         else:
             types += [f'N{k}'] if p.kind != q.kind else []

@@ -1,10 +1,11 @@
 """Writes what C, C++ and Python know of the exports, from the sources of crates/cellarcove_c."""
 from tools.bindings.c import header
 from tools.bindings.cpp import hpp
+from tools.bindings.languages import page
 from tools.bindings.python import calls_c, stubs
 
 
 def made() -> dict[str, str]:
     """The files, and what is to be in them."""
     return {'bindings/c/cellarcove.h': header(), 'bindings/c/cellarcove.hpp': hpp(), 'bindings/python/src/calls.c': calls_c(),
-            'bindings/python/cellarcove/_calls.pyi': stubs()}
+            'bindings/python/cellarcove/_calls.pyi': stubs(), 'docs/LANGUAGES.md': page()}

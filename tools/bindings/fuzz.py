@@ -1,8 +1,8 @@
 """Calls all exports on random numbers, and with --small first on all small ones, and compares what they return with the integers, the
 fractions and the dates of Python (by_python.py). The package `cellarcove` makes the calls, as it is installed: over arrays, with and
-without outputs, and of one number. Of those that it lacks the shared library makes them, if it is given.
+without outputs, and of one number.
 
-    tools/cellarcove check fuzz [--small] [--seed N] [--minutes M] [--library libcellarcove_c.so]
+    tools/cellarcove check fuzz [--small] [--seed N] [--minutes M]
 
 It prints each call that is wrong, and at the end how many calls it made of how many exports. Its status is 1 if a call was
 wrong, or if by_python.py does not say what an export returns. First it wants of some calls what another returns, and each has to be
@@ -11,7 +11,6 @@ from __future__ import annotations
 
 import argparse
 import array
-import ctypes
 import datetime
 import itertools
 import random
@@ -26,15 +25,13 @@ import cellarcove
 
 from tools.bindings.by_python import BAD_MODULUS, I64, NOT_FITTING, OUTSIDE, PROPERTIES, RESULTS, U64, ZERO_DENOMINATOR
 from tools.bindings.exports import EXPORTS, Call
-from tools.bindings.python import LETTERS, cells, public_calls, results
+from tools.bindings.python import LETTERS, MODULI, cells, public_calls, results
 
 COUNT = 200                                     # elements of an array
 ONE_BY_ONE = 8                                  # of them, which are called alone too
 SMALL = {1: 600, 2: 144, 3: 20, 4: 14, 5: 7, 6: 5}  # numbers of each cell in the calls of all small ones, by the number of cells
 RANGES = {'i64': I64, 'u64': U64, 'u32': (0, 2**32 - 1), 'i32': (-2**31, 2**31 - 1), 'u16': (0, 2**16 - 1), 'u8': (0, 255)}
 MOST_SHOWN = 20
-C_TYPES = {'i64': ctypes.c_int64, 'u64': ctypes.c_uint64, 'u32': ctypes.c_uint32, 'i32': ctypes.c_int32, 'u16': ctypes.c_uint16, 'u8': ctypes.c_uint8,
-           'bool': ctypes.c_bool}
 
 
 class Wrong(Exception):
@@ -200,13 +197,39 @@ def of_written(name: str, call: Call) -> int:
     return 1
 
 
+def of_weights(name: str, forms: list[Call]) -> int:
+    """A call that divides a number by weights, which are a list or an array."""
+    width = random.choice((3, 64))
+    amount, weights = number(random.choice(forms).form, random.randint(1, 64)), [number('u64', width) for _ in range(random.randrange(6))]
+    call = next(form for form in forms if len(forms) == 1 or (form.form == 'i64') == (amount < 0))
+    judge_one(name, call, [amount, array.array('Q', weights) if random.random() < 0.5 else weights], [amount, weights])
+    return 1
+
+
+def text() -> str:
+    """A text of a date or of a fraction, of which a character may be another."""
+    high = 10 ** random.choice((1, 4, 5, 18, 19, 20, 38, 40))
+    year, day = random.randrange(-high, high), random.randrange(1, 33)
+    found = random.choice((f'{year:04}-{random.randrange(14):02}-{day:02}', f'{year:+05}-12-{day:02}', f'{year}/{random.randrange(-9, 9)}', str(year),
+                           f'{year * day}/{day}'))
+    place = random.randrange(len(found))
+    return found[:place] + random.choice('0129+-/x \xe9') + found[place + random.randrange(2):] if random.random() < 0.3 else found
+
+
+def of_text(name: str, call: Call) -> int:
+    """A call of a text."""
+    given = text()
+    judge_one(name, call, [given], [given])
+    return 1
+
+
 def is_by_zero(call: Call, status: int, arguments: Sequence[Any]) -> bool:
     """Whether the reason of a status is that a divisor, a modulus or a denominator is 0."""
     if status != BAD_MODULUS:
         return status == ZERO_DENOMINATOR or status == OUTSIDE and call.module == 'division'
     pairs = zip((parameter.name for parameter in call.parameters), arguments)
     return any(m == 0 for name, given in pairs for m in ((item[1] for item in given) if isinstance(given, list) else [given])
-               if isinstance(given, list) or name in ('m', 'n', 'step'))
+               if isinstance(given, list) or name in MODULI)
 
 
 def judge_one(name: str, call: Call, given: Sequence[Any], arguments: Sequence[Any]) -> None:
@@ -223,6 +246,11 @@ def judge_one(name: str, call: Call, given: Sequence[Any], arguments: Sequence[A
 
 def of_package(name: str, forms: list[Call]) -> int:
     """Some calls of the package, and how many."""
+    lists = [parameter.item for parameter in forms[0].parameters if parameter.item]
+    if len(lists) == 2:
+        return sum(of_weights(name, forms) for _ in range(COUNT // 10))
+    if lists == ['u8']:
+        return sum(of_text(name, forms[0]) for _ in range(COUNT // 2))
     if forms[0].writes:
         return sum(of_written(name, forms[0]) for _ in range(COUNT // 10))
     if forms[0].has_slice:
@@ -233,43 +261,6 @@ def of_package(name: str, forms: list[Call]) -> int:
         done += of_arrays(name, call, taken, len(taken) > 1 and random.random() < 0.3)
         done += sum(alone(name, forms, numbers) for numbers in list(zip(*taken))[:ONE_BY_ONE])
     return done
-
-
-# ---- the calls that the package lacks
-
-def structure(kind: str) -> Any:
-    """The type of a value in C."""
-    if kind in C_TYPES:
-        return C_TYPES[kind]
-    fields = [(field.name, structure(field.kind)) for field in EXPORTS().structs[kind].fields]
-    return type(kind, (ctypes.Structure,), {'_fields_': fields})
-
-
-def leaf(value: Any, path: str) -> int:
-    for name in path.split('.')[1:]:
-        value = getattr(value, name)
-    return int(value)
-
-
-def of_library(call: Call, kinds: list[Any], function: Any) -> int:
-    """Calls of a shared library."""
-    for _ in range(COUNT // 4):
-        width = random.randint(1, 64)
-        arguments = grouped(call, [number(kind, width) for kind in cells(call)])
-        result = function(*(kind(*value) if isinstance(value, tuple) else value for kind, value in zip(kinds, arguments)))
-        values = tuple(leaf(result, path) for path, _ in results(call))
-        judge(call, arguments, result.status, values)
-    return COUNT // 4
-
-
-def lacking(library: Any) -> Iterator[Callable[[], int]]:
-    """What calls the exports that the package lacks."""
-    known = {form.symbol for _, forms in public_calls() for form in forms}
-    for call in EXPORTS().calls:
-        if call.symbol not in known:
-            function, kinds = getattr(library, call.symbol), [structure(parameter.kind) for parameter in call.parameters]
-            function.argtypes, function.restype = kinds, structure(call.result)
-            yield partial(of_library, call, kinds, function)
 
 
 # ---- the run
@@ -309,7 +300,6 @@ def check(words: list[str]) -> bool:
     parser.add_argument('--seed', type=int, default=1)
     parser.add_argument('--minutes', type=float, default=1)
     parser.add_argument('--small', action='store_true')
-    parser.add_argument('--library')
     options = parser.parse_args(words)
     unknown = sorted({call.name for call in EXPORTS().calls} - RESULTS.keys() - PROPERTIES.keys())
     missed = list(not_found())
@@ -318,9 +308,6 @@ def check(words: list[str]) -> bool:
         return False
     runners: list[Callable[[], int]] = [partial(of_package, name, forms) for name, forms in public_calls()]
     exports = sum(len(forms) for _, forms in public_calls())
-    if options.library:
-        others = list(lacking(ctypes.CDLL(options.library)))
-        runners, exports = runners + others, exports + len(others)
     if options.small:
         all_small = [partial(of_arrays, name, form, small(form)) for name, forms in public_calls() for form in forms if not form.has_slice]
         done, wrong = run(options.seed, 0, all_small, MOST_SHOWN)

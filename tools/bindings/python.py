@@ -6,9 +6,6 @@ from collections.abc import Callable, Sequence
 from tools import ROOT
 from tools.bindings.exports import EXPORTS, Call, Field, c_type, filled, without_returns
 
-# The operators of `fractions.Fraction` and the calls of `math` do the same.
-LEFT_OUT = {'fraction_new', 'fraction_add', 'fraction_sub', 'fraction_mul', 'fraction_div', 'fraction_cmp', 'fraction_floor',
-            'fraction_ceil', 'fraction_floor_times', 'fraction_ceil_times'}
 RENAMED = {'fraction_limit_denominator': 'limit_denominator'}
 ALIASES = {'comb': 'binomial', 'isqrt': 'sqrt'}
 PARAMETERS = {'from': 'start', 'to': 'end', 'max': 'max_denominator'}
@@ -18,6 +15,11 @@ WRITTEN = 'count'          # the parameter in place of an array that is written
 # What a call does that returns in Python what C writes.
 DOCS = {
     'choice_of_rank': 'The choice of `count` numbers below `n` that has the rank, as a tuple: it is the inverse of `rank`.',
+    'fraction_cmp': 'The order of two fractions: -1, 0 or 1 if `a` is less than, equal to or greater than `b`.',
+    'shares': 'The shares of the amount in proportion to the weights, as a tuple. Together they are the amount. The first shares together are their'
+              ' exact share rounded up, and those of a negative amount are the shares of its magnitude with its sign.',
+    'shares_by_largest_remainder': 'The shares of the amount by largest remainders, as a tuple: each is the exact share rounded down, or 1 more for the'
+                                   ' weights with the largest remainders, and of equal ones the first.',
     'next_common_solution_of': 'Returns the smallest number from `from` on that solves each of up to 64 congruences, which are pairs of a residue and'
                                ' a modulus. No product of the moduli need fit.',
 }
@@ -33,15 +35,20 @@ OBJECTS = {'i64': 'PyLong_FromLongLong', 'u64': 'PyLong_FromUnsignedLongLong', '
 # The class of a result, and the scalar result of the stubs.
 CLASSES = {'Bezout': ('class_gcd', 'ExtendedGcd'), 'Solutions': ('class_solutions', 'Solutions'), 'IsoWeek': ('class_week', 'IsoWeek')}
 SHAPES = {'Fraction': 'f', 'Date': 'd'}
+MODULI = {'m', 'n', 'step', 'p', 'q', 'period'}  # the parameters whose 0 is the reason of `BAD_MODULUS`
+# What says, before there is room for the numbers that a call writes, whether it has a result.
+ASKED = {'choice_of_rank': 'is_below_binomial(numbers[0].u, numbers[1].u, numbers[2].u)'}
 
 
 def public_calls() -> list[tuple[str, list[Call]]]:
     """The calls of Python: the name, and the forms."""
-    return [(RENAMED.get(name, name), forms) for name, forms in EXPORTS().forms().items() if name not in LEFT_OUT]
+    return [(RENAMED.get(name, name), forms) for name, forms in EXPORTS().forms().items()]
 
 
 def parameter_names(call: Call) -> list[str]:
-    return [WRITTEN if parameter.is_written else PARAMETERS.get(parameter.name, parameter.name) for parameter in call.parameters]
+    divides_by_weights = sum(bool(parameter.item) for parameter in call.parameters) == 2
+    return [WRITTEN if parameter.is_written else PARAMETERS.get(parameter.name, parameter.name) for parameter in call.parameters
+            if not (parameter.is_written and divides_by_weights)]
 
 
 def cells(call: Call) -> list[str]:
@@ -59,7 +66,7 @@ def divides(call: Call) -> list[bool]:
     """Whether each number is a divisor, whose 0 is the reason of a status."""
     reasons = ' '.join(call.statuses)
     divisors = {'y', 'd'} if call.module == 'division' else set()
-    divisors |= {'m', 'n', 'step'} if '`BAD_MODULUS`' in reasons else set()
+    divisors |= MODULI if '`BAD_MODULUS`' in reasons else set()
     return [parameter.name in divisors for parameter in call.parameters for _ in EXPORTS().leaves(parameter.kind)]
 
 
@@ -116,13 +123,17 @@ def signature(name: str, forms: list[Call]) -> str:
 RAISED = {'NOT_FITTING': '`NotFitting`', 'ZERO_DENOMINATOR': '`DivisionByZero`'}
 
 
-def raised(call: Call) -> str:
+def raised(call: Call, unsigned: Call | None) -> str:
     """What a docstring says of the errors."""
     by_zero = {'OUTSIDE': '`DivisionByZero`'} if call.module == 'division' else {}
 
     def exception(status: re.Match[str]) -> str:
         return 'Raises ' + (RAISED | by_zero).get(status[1], f'`Refused` with {status[0]}')
-    return ' '.join(re.sub('^`([A-Z_]+)`', exception, sentence) for sentence in call.statuses)
+    said = []
+    for sentence in call.statuses:
+        negative = unsigned is not None and not any(sentence.split('`')[1] == other.split('`')[1] for other in unsigned.statuses)
+        said.append(re.sub('^`([A-Z_]+)`', exception, sentence.removesuffix('.') + ', which takes a negative number.' * negative + '.' * (not negative)))
+    return ' '.join(said)
 
 
 def examples(name: str) -> list[tuple[str, str]]:
@@ -141,7 +152,7 @@ def split(doc: str) -> tuple[str, list[str]]:
 def docstring(name: str, forms: list[Call]) -> str:
     """What a call does, its errors, its arrays, and its examples, which the tests of the package run."""
     call = forms[0]
-    parts = [split(without_returns(DOCS.get(name, call.doc)))[0], raised(call), 'It takes any count of numbers.' if name in OF_MANY else '']
+    parts = [split(without_returns(DOCS.get(name, call.doc)))[0], raised(call, forms[1] if len(forms) == 2 else None), 'It takes any count of numbers.' if name in OF_MANY else '']
     text = ['\n'.join(textwrap.wrap(in_python(part), 88)) for part in parts if part]
     return '\n\n'.join([*text, '\n'.join(f'>>> {given}\n{result}' for given, result in examples(name))])
 
@@ -162,7 +173,7 @@ def call_text(name: str, forms: list[Call]) -> str:
     named = {form.form: f'&form_{form.symbol.removeprefix("cellarcove_")}' for form in forms}
     of_many = f'''
     if (count != 2 && names == NULL) {{
-        return of_any_count(py_{name}_of, args, count);
+        return of_any_count(py_{name}_of, "{name}", args, count);
     }}
 ''' if name in OF_MANY else ''
     return filled(
@@ -202,7 +213,7 @@ def written_text(name: str, call: Call) -> str:
     """The function of a call that writes unsigned numbers, whose other parameters are unsigned numbers before it."""
     last = len(call.parameters) - 1
     assert call.parameters[-1].is_written and {parameter.item or parameter.kind for parameter in call.parameters} == {'u64'}, call
-    return filled('written.c', name=name, symbol=call.symbol, count=str(last + 1), last=str(last),
+    return filled('written.c', name=name, symbol=call.symbol, asked=ASKED[name], count=str(last + 1), last=str(last),
                   passed=', '.join(f'numbers[{k}].u' for k in range(last)))
 
 
@@ -220,7 +231,12 @@ def calls_c() -> str:
     named = public_calls()
     text = ''
     for name, forms in named:
-        if forms[0].has_slice:
+        kinds = [parameter.item for parameter in forms[0].parameters if parameter.item]
+        if len(kinds) == 2:
+            text += filled('divided.c', name=name, signed=forms[0].symbol if len(forms) == 2 else 'NULL', unsigned=forms[-1].symbol)
+        elif kinds == ['u8']:
+            text += filled('text.c', name=name, symbol=forms[0].symbol, kind=c_type(forms[0].result), result=object_of(forms[0]))
+        elif kinds:
             text += written_text(name, forms[0]) if forms[0].writes else list_text(name, forms)
     for name, forms in named:
         if not forms[0].has_slice:
@@ -234,6 +250,7 @@ def calls_c() -> str:
 
 PYTHON = {'Fraction': 'Fractional', 'Date': 'Dated'}
 NUMBER, ARRAY = 'SupportsIndex', 'Array'
+BYTES = 'Array | bytes | bytearray'  # what an array of `u8` may be too
 
 
 def scalar_result(call: Call) -> str:
@@ -250,7 +267,7 @@ def scalar_result(call: Call) -> str:
 
 
 def array_result(call: Call) -> str:
-    arrays = ['memoryview' if kind == 'bool' else 'array[int]' for _, kind in results(call)] + ['array[int]'] * EXPORTS().has_status(call)
+    arrays = ['Mask' if kind == 'bool' else 'Numbers' for _, kind in results(call)] + ['Numbers'] * EXPORTS().has_status(call)
     return arrays[0] if len(arrays) == 1 else f'tuple[{", ".join(arrays)}]'
 
 
@@ -264,16 +281,20 @@ def array_types(parameter: Field, chosen: bool) -> str:
     leaves = len(EXPORTS().leaves(parameter.kind))
     each = f'{ARRAY} | {NUMBER}'
     if leaves == 1:
-        return ARRAY if chosen else f'{ARRAY} | {scalar_type(parameter)}'
+        array = BYTES if parameter.kind == 'u8' else ARRAY
+        return array if chosen else f'{array} | {scalar_type(parameter)}'
     if not chosen:
         return f'{PYTHON[parameter.kind]} | tuple[{", ".join([each] * leaves)}]'
-    return ' | '.join(f'tuple[{", ".join([NUMBER] * first + [ARRAY] + [each] * (leaves - first - 1))}]' for first in range(leaves))
+    shapes = [[NUMBER] * first + [ARRAY] + [each] * (leaves - first - 1) for first in range(leaves)] + [[ARRAY] * (leaves + 1)]  # with statuses
+    return ' | '.join(f'tuple[{", ".join(shape)}]' for shape in shapes)
 
 
 def listed_type(parameter: Field) -> str:
     """The type of a parameter of a call with a list."""
     if not parameter.item or parameter.is_written:
         return NUMBER
+    if parameter.item == 'u8':
+        return 'str'
     leaves = len(EXPORTS().leaves(parameter.item))
     return f'{ARRAY} | Iterable[{NUMBER}]' if leaves == 1 else f'Iterable[tuple[{", ".join([NUMBER] * leaves)}]]'
 
@@ -283,12 +304,14 @@ def stub(name: str, forms: list[Call]) -> str:
     names = parameter_names(call)
     if call.has_slice:
         taken = ', '.join(f'{given}: {listed_type(parameter)}' for given, parameter in zip(names, call.parameters))
-        return f'def {name}({taken}, /) -> {"tuple[int, ...]" if call.writes else "int"}: ...\n'
+        return f'def {name}({taken}, /) -> {"tuple[int, ...]" if call.writes else scalar_result(call)}: ...\n'
     if name in OF_MANY:
         return f'''@overload
 def {name}(x: {ARRAY}, y: {ARRAY} | {NUMBER}, *, out: Outputs = ...) -> {array_result(call)}: ...
 @overload
 def {name}(x: {NUMBER}, y: {ARRAY}, *, out: Outputs = ...) -> {array_result(call)}: ...
+@overload
+def {name}(x: {NUMBER}, y: {NUMBER}) -> int: ...
 @overload
 def {name}(*numbers: {NUMBER}) -> int: ...
 '''

@@ -167,8 +167,7 @@ counted() {
 
 # fuzz MINUTES [--small]: all exports return what Python computes, for random arguments and for all small ones.
 fuzz() {
-    cc -shared "$(dirname "$archive")/cellarcove_c.o" -o "$work/all_calls.so" &&
-        with_package "$PWD/tools/cellarcove" check fuzz --minutes "$@" --library "$work/all_calls.so"
+    with_package "$PWD/tools/cellarcove" check fuzz --minutes "$@"
 }
 
 # An editable install leads to the sources, and has the licences.

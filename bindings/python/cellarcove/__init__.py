@@ -12,7 +12,8 @@ fit, it is `NotFitting`, which is an `OverflowError` too.
 
 Each number of a call may be an array of 64-bit numbers: a buffer, such as an `array.array` or an array of numpy. The call
 returns arrays of the same length, and then the array of the statuses, if it has statuses: an element of status 0 has a
-result. What is true or false is a `memoryview` of bools, which numpy takes for a mask. The GIL is free meanwhile.
+result. What is true or false is a `memoryview` of bools, which numpy takes for a mask. If one of the arrays is of numpy,
+the results are arrays of numpy. The GIL is free meanwhile.
 """
 
 import array
@@ -37,7 +38,8 @@ BUILT_BY = _calls.BUILT_BY
 """The compiler that made the calls: `rattle` or `cargo`."""
 
 _RANGES = {
-    'q': 'from -2**63 to 2**63 - 1', 'Q': 'from 0 to 2**64 - 1', 'I': 'from 0 to 2**32 - 1', 'B': 'from 0 to 255',
+    'q': 'from -2**63 to 2**63 - 1', 'Q': 'from 0 to 2**64 - 1', 'I': 'from 0 to 2**32 - 1', 'i': 'from -2**31 to 2**31 - 1',
+    'H': 'from 0 to 2**16 - 1', 'B': 'from 0 to 255',
 }
 _SHOWN = 10**40  # a number in a message is below this
 
@@ -58,8 +60,9 @@ class Refused(ValueError):
     """A call has no result. Its `status` says why."""
 
     _reasons = {
+        Status.ANSWER: 'there is a result',
         Status.ZERO_DENOMINATOR: 'a denominator or a divisor is 0',
-        Status.NOT_FITTING: 'the result does not fit 64 bits',
+        Status.NOT_FITTING: 'the result is out of range',
         Status.OUTSIDE: 'nothing is defined for the arguments',
         Status.NO_SOLUTION: 'no number solves the congruences',
         Status.BAD_MODULUS: 'a modulus is not positive',
@@ -211,8 +214,7 @@ class Date(_Parts):
 
     def isoweekday(self) -> int:
         """The day of the week, from 1 for Monday to 7 for Sunday, as that of `datetime.date`."""
-        # the calendar repeats every 400 years, which are whole weeks
-        return weekday(day_from_date((self.year % 400, self.month, self.day)))
+        return weekday_of_date(self)
 
     def isoformat(self) -> str:
         """The date as `2000-02-29`; the year has a sign if it is not from 0 to 9999."""

@@ -89,6 +89,9 @@ static PyObject *py_choice_of_rank(PyObject *module, PyObject *const *args, Py_s
     if (unsigned_numbers("choice_of_rank", args, given, 3, numbers) != 0) {
         return NULL;
     }
+    if (!is_below_binomial(numbers[0].u, numbers[1].u, numbers[2].u)) {
+        return refused(CELLARCOVE_OUTSIDE, false);
+    }
     uint64_t *written = room_for(numbers[2].u);
     if (written == NULL) {
         return NULL;
@@ -97,9 +100,19 @@ static PyObject *py_choice_of_rank(PyObject *module, PyObject *const *args, Py_s
     Py_BEGIN_ALLOW_THREADS
     status = cellarcove_choice_of_rank_u64(numbers[0].u, numbers[1].u, written, (size_t)numbers[2].u);
     Py_END_ALLOW_THREADS
-    PyObject *result = status == CELLARCOVE_ANSWER ? tuple_of_numbers(written, (Py_ssize_t)numbers[2].u) : refused(status, false);
+    PyObject *result = status == CELLARCOVE_ANSWER ? tuple_of_numbers(written, (Py_ssize_t)numbers[2].u, false) : refused(status, false);
     PyMem_Free(written);
     return result;
+}
+
+static PyObject *py_shares(PyObject *module, PyObject *const *args, Py_ssize_t given) {
+    (void)module;
+    return divided("shares", args, given, cellarcove_shares_i64, cellarcove_shares_u64);
+}
+
+static PyObject *py_shares_by_largest_remainder(PyObject *module, PyObject *const *args, Py_ssize_t given) {
+    (void)module;
+    return divided("shares_by_largest_remainder", args, given, NULL, cellarcove_shares_by_largest_remainder_u64);
 }
 
 static PyObject *py_next_common_solution_of(PyObject *module, PyObject *const *args, Py_ssize_t given) {
@@ -123,6 +136,19 @@ static PyObject *py_next_common_solution_of(PyObject *module, PyObject *const *a
         Py_END_ALLOW_THREADS
         return of_list(&of, r.status, PyLong_FromUnsignedLongLong(r.value));
     }
+}
+
+static PyObject *py_fraction_from_text(PyObject *module, PyObject *object) {
+    (void)module;
+    const uint8_t *bytes;
+    size_t count;
+    PyObject *text = bytes_of("fraction_from_text", object, &bytes, &count);
+    if (text == NULL) {
+        return NULL;
+    }
+    cellarcove_fraction_answer r = cellarcove_fraction_from_text(bytes, count);
+    Py_DECREF(text);
+    return r.status == CELLARCOVE_ANSWER ? fraction_of(r.value) : refused(r.status, r.status == CELLARCOVE_ZERO_DENOMINATOR);
 }
 
 static PyObject *one_checked_sum_i64(const cell *a, uint32_t *status) {
@@ -401,6 +427,98 @@ static const call call_div_ceil = {"div_ceil", 2, {"x", "y"}, "nn",
 static PyObject *py_div_ceil(PyObject *module, PyObject *const *args, Py_ssize_t count, PyObject *names) {
     (void)module;
     return run(&call_div_ceil, args, count, names);
+}
+
+static PyObject *one_div_round_i64(const cell *a, uint32_t *status) {
+    cellarcove_i64_answer r = cellarcove_div_round_i64((int64_t)a[0].i, (int64_t)a[1].i);
+    if (r.status != CELLARCOVE_ANSWER) {
+        *status = r.status;
+        return NULL;
+    }
+    return PyLong_FromLongLong(r.value);
+}
+
+static void many_div_round_i64(Py_ssize_t count, char *const *in, const Py_ssize_t *steps, char *const *out) {
+    for (Py_ssize_t k = 0; k < count; k++) {
+        cellarcove_i64_answer r = cellarcove_div_round_i64(AT(int64_t, 0), AT(int64_t, 1));
+        TO(int64_t, 0) = r.value;
+        TO(uint8_t, 1) = (uint8_t)r.status;
+    }
+}
+
+static const form form_div_round_i64 = {"qq", "qB", true, one_div_round_i64, many_div_round_i64};
+
+static PyObject *one_div_round_u64(const cell *a, uint32_t *status) {
+    cellarcove_u64_answer r = cellarcove_div_round_u64((uint64_t)a[0].u, (uint64_t)a[1].u);
+    if (r.status != CELLARCOVE_ANSWER) {
+        *status = r.status;
+        return NULL;
+    }
+    return PyLong_FromUnsignedLongLong(r.value);
+}
+
+static void many_div_round_u64(Py_ssize_t count, char *const *in, const Py_ssize_t *steps, char *const *out) {
+    for (Py_ssize_t k = 0; k < count; k++) {
+        cellarcove_u64_answer r = cellarcove_div_round_u64(AT(uint64_t, 0), AT(uint64_t, 1));
+        TO(uint64_t, 0) = r.value;
+        TO(uint8_t, 1) = (uint8_t)r.status;
+    }
+}
+
+static const form form_div_round_u64 = {"QQ", "QB", true, one_div_round_u64, many_div_round_u64};
+
+static const call call_div_round = {"div_round", 2, {"x", "y"}, "nn",
+    (const bool[]){false, true}, (const bool[]){true, true}, NULL, &form_div_round_i64, &form_div_round_u64};
+
+static PyObject *py_div_round(PyObject *module, PyObject *const *args, Py_ssize_t count, PyObject *names) {
+    (void)module;
+    return run(&call_div_round, args, count, names);
+}
+
+static PyObject *one_div_round_even_i64(const cell *a, uint32_t *status) {
+    cellarcove_i64_answer r = cellarcove_div_round_even_i64((int64_t)a[0].i, (int64_t)a[1].i);
+    if (r.status != CELLARCOVE_ANSWER) {
+        *status = r.status;
+        return NULL;
+    }
+    return PyLong_FromLongLong(r.value);
+}
+
+static void many_div_round_even_i64(Py_ssize_t count, char *const *in, const Py_ssize_t *steps, char *const *out) {
+    for (Py_ssize_t k = 0; k < count; k++) {
+        cellarcove_i64_answer r = cellarcove_div_round_even_i64(AT(int64_t, 0), AT(int64_t, 1));
+        TO(int64_t, 0) = r.value;
+        TO(uint8_t, 1) = (uint8_t)r.status;
+    }
+}
+
+static const form form_div_round_even_i64 = {"qq", "qB", true, one_div_round_even_i64, many_div_round_even_i64};
+
+static PyObject *one_div_round_even_u64(const cell *a, uint32_t *status) {
+    cellarcove_u64_answer r = cellarcove_div_round_even_u64((uint64_t)a[0].u, (uint64_t)a[1].u);
+    if (r.status != CELLARCOVE_ANSWER) {
+        *status = r.status;
+        return NULL;
+    }
+    return PyLong_FromUnsignedLongLong(r.value);
+}
+
+static void many_div_round_even_u64(Py_ssize_t count, char *const *in, const Py_ssize_t *steps, char *const *out) {
+    for (Py_ssize_t k = 0; k < count; k++) {
+        cellarcove_u64_answer r = cellarcove_div_round_even_u64(AT(uint64_t, 0), AT(uint64_t, 1));
+        TO(uint64_t, 0) = r.value;
+        TO(uint8_t, 1) = (uint8_t)r.status;
+    }
+}
+
+static const form form_div_round_even_u64 = {"QQ", "QB", true, one_div_round_even_u64, many_div_round_even_u64};
+
+static const call call_div_round_even = {"div_round_even", 2, {"x", "y"}, "nn",
+    (const bool[]){false, true}, (const bool[]){true, true}, NULL, &form_div_round_even_i64, &form_div_round_even_u64};
+
+static PyObject *py_div_round_even(PyObject *module, PyObject *const *args, Py_ssize_t count, PyObject *names) {
+    (void)module;
+    return run(&call_div_round_even, args, count, names);
 }
 
 static PyObject *one_mod_floor_i64(const cell *a, uint32_t *status) {
@@ -719,7 +837,7 @@ static const call call_gcd = {"gcd", 2, {"x", "y"}, "nn",
 static PyObject *py_gcd(PyObject *module, PyObject *const *args, Py_ssize_t count, PyObject *names) {
     (void)module;
     if (count != 2 && names == NULL) {
-        return of_any_count(py_gcd_of, args, count);
+        return of_any_count(py_gcd_of, "gcd", args, count);
     }
     return run(&call_gcd, args, count, names);
 }
@@ -768,7 +886,7 @@ static const call call_lcm = {"lcm", 2, {"x", "y"}, "nn",
 static PyObject *py_lcm(PyObject *module, PyObject *const *args, Py_ssize_t count, PyObject *names) {
     (void)module;
     if (count != 2 && names == NULL) {
-        return of_any_count(py_lcm_of, args, count);
+        return of_any_count(py_lcm_of, "lcm", args, count);
     }
     return run(&call_lcm, args, count, names);
 }
@@ -848,6 +966,84 @@ static const call call_extended_gcd = {"extended_gcd", 2, {"x", "y"}, "nn",
 static PyObject *py_extended_gcd(PyObject *module, PyObject *const *args, Py_ssize_t count, PyObject *names) {
     (void)module;
     return run(&call_extended_gcd, args, count, names);
+}
+
+static PyObject *one_is_coprime_i64(const cell *a, uint32_t *status) {
+    bool r = cellarcove_is_coprime_i64((int64_t)a[0].i, (int64_t)a[1].i);
+    (void)status;
+    return PyBool_FromLong(r);
+}
+
+static void many_is_coprime_i64(Py_ssize_t count, char *const *in, const Py_ssize_t *steps, char *const *out) {
+    for (Py_ssize_t k = 0; k < count; k++) {
+        bool r = cellarcove_is_coprime_i64(AT(int64_t, 0), AT(int64_t, 1));
+        TO(uint8_t, 0) = r;
+    }
+}
+
+static const form form_is_coprime_i64 = {"qq", "?", false, one_is_coprime_i64, many_is_coprime_i64};
+
+static PyObject *one_is_coprime_u64(const cell *a, uint32_t *status) {
+    bool r = cellarcove_is_coprime_u64((uint64_t)a[0].u, (uint64_t)a[1].u);
+    (void)status;
+    return PyBool_FromLong(r);
+}
+
+static void many_is_coprime_u64(Py_ssize_t count, char *const *in, const Py_ssize_t *steps, char *const *out) {
+    for (Py_ssize_t k = 0; k < count; k++) {
+        bool r = cellarcove_is_coprime_u64(AT(uint64_t, 0), AT(uint64_t, 1));
+        TO(uint8_t, 0) = r;
+    }
+}
+
+static const form form_is_coprime_u64 = {"QQ", "?", false, one_is_coprime_u64, many_is_coprime_u64};
+
+static const call call_is_coprime = {"is_coprime", 2, {"x", "y"}, "nn",
+    (const bool[]){false, false}, (const bool[]){true, true}, NULL, &form_is_coprime_i64, &form_is_coprime_u64};
+
+static PyObject *py_is_coprime(PyObject *module, PyObject *const *args, Py_ssize_t count, PyObject *names) {
+    (void)module;
+    return run(&call_is_coprime, args, count, names);
+}
+
+static PyObject *one_reduced_i64(const cell *a, uint32_t *status) {
+    cellarcove_i64_pair r = cellarcove_reduced_i64((int64_t)a[0].i, (int64_t)a[1].i);
+    (void)status;
+    return tuple_of(NULL, 2, (PyObject *[]){PyLong_FromLongLong(r.first), PyLong_FromLongLong(r.second)});
+}
+
+static void many_reduced_i64(Py_ssize_t count, char *const *in, const Py_ssize_t *steps, char *const *out) {
+    for (Py_ssize_t k = 0; k < count; k++) {
+        cellarcove_i64_pair r = cellarcove_reduced_i64(AT(int64_t, 0), AT(int64_t, 1));
+        TO(int64_t, 0) = r.first;
+        TO(int64_t, 1) = r.second;
+    }
+}
+
+static const form form_reduced_i64 = {"qq", "qq", false, one_reduced_i64, many_reduced_i64};
+
+static PyObject *one_reduced_u64(const cell *a, uint32_t *status) {
+    cellarcove_u64_pair r = cellarcove_reduced_u64((uint64_t)a[0].u, (uint64_t)a[1].u);
+    (void)status;
+    return tuple_of(NULL, 2, (PyObject *[]){PyLong_FromUnsignedLongLong(r.first), PyLong_FromUnsignedLongLong(r.second)});
+}
+
+static void many_reduced_u64(Py_ssize_t count, char *const *in, const Py_ssize_t *steps, char *const *out) {
+    for (Py_ssize_t k = 0; k < count; k++) {
+        cellarcove_u64_pair r = cellarcove_reduced_u64(AT(uint64_t, 0), AT(uint64_t, 1));
+        TO(uint64_t, 0) = r.first;
+        TO(uint64_t, 1) = r.second;
+    }
+}
+
+static const form form_reduced_u64 = {"QQ", "QQ", false, one_reduced_u64, many_reduced_u64};
+
+static const call call_reduced = {"reduced", 2, {"x", "y"}, "nn",
+    (const bool[]){false, false}, (const bool[]){true, true}, NULL, &form_reduced_i64, &form_reduced_u64};
+
+static PyObject *py_reduced(PyObject *module, PyObject *const *args, Py_ssize_t count, PyObject *names) {
+    (void)module;
+    return run(&call_reduced, args, count, names);
 }
 
 static PyObject *one_average_floor_i64(const cell *a, uint32_t *status) {
@@ -1155,6 +1351,100 @@ static PyObject *py_is_perfect_power(PyObject *module, PyObject *const *args, Py
     return run(&call_is_perfect_power, args, count, names);
 }
 
+static PyObject *one_sqrt_rem_i64(const cell *a, uint32_t *status) {
+    cellarcove_i64_root r = cellarcove_sqrt_rem_i64((int64_t)a[0].i);
+    if (r.status != CELLARCOVE_ANSWER) {
+        *status = r.status;
+        return NULL;
+    }
+    return tuple_of(NULL, 2, (PyObject *[]){PyLong_FromLongLong(r.root), PyLong_FromLongLong(r.rest)});
+}
+
+static void many_sqrt_rem_i64(Py_ssize_t count, char *const *in, const Py_ssize_t *steps, char *const *out) {
+    for (Py_ssize_t k = 0; k < count; k++) {
+        cellarcove_i64_root r = cellarcove_sqrt_rem_i64(AT(int64_t, 0));
+        TO(int64_t, 0) = r.root;
+        TO(int64_t, 1) = r.rest;
+        TO(uint8_t, 2) = (uint8_t)r.status;
+    }
+}
+
+static const form form_sqrt_rem_i64 = {"q", "qqB", true, one_sqrt_rem_i64, many_sqrt_rem_i64};
+
+static PyObject *one_sqrt_rem_u64(const cell *a, uint32_t *status) {
+    cellarcove_u64_root r = cellarcove_sqrt_rem_u64((uint64_t)a[0].u);
+    if (r.status != CELLARCOVE_ANSWER) {
+        *status = r.status;
+        return NULL;
+    }
+    return tuple_of(NULL, 2, (PyObject *[]){PyLong_FromUnsignedLongLong(r.root), PyLong_FromUnsignedLongLong(r.rest)});
+}
+
+static void many_sqrt_rem_u64(Py_ssize_t count, char *const *in, const Py_ssize_t *steps, char *const *out) {
+    for (Py_ssize_t k = 0; k < count; k++) {
+        cellarcove_u64_root r = cellarcove_sqrt_rem_u64(AT(uint64_t, 0));
+        TO(uint64_t, 0) = r.root;
+        TO(uint64_t, 1) = r.rest;
+        TO(uint8_t, 2) = (uint8_t)r.status;
+    }
+}
+
+static const form form_sqrt_rem_u64 = {"Q", "QQB", true, one_sqrt_rem_u64, many_sqrt_rem_u64};
+
+static const call call_sqrt_rem = {"sqrt_rem", 1, {"x"}, "n",
+    (const bool[]){false}, (const bool[]){true}, NULL, &form_sqrt_rem_i64, &form_sqrt_rem_u64};
+
+static PyObject *py_sqrt_rem(PyObject *module, PyObject *const *args, Py_ssize_t count, PyObject *names) {
+    (void)module;
+    return run(&call_sqrt_rem, args, count, names);
+}
+
+static PyObject *one_ilog_i64(const cell *a, uint32_t *status) {
+    cellarcove_u64_answer r = cellarcove_ilog_i64((int64_t)a[0].i, (int64_t)a[1].i);
+    if (r.status != CELLARCOVE_ANSWER) {
+        *status = r.status;
+        return NULL;
+    }
+    return PyLong_FromUnsignedLongLong(r.value);
+}
+
+static void many_ilog_i64(Py_ssize_t count, char *const *in, const Py_ssize_t *steps, char *const *out) {
+    for (Py_ssize_t k = 0; k < count; k++) {
+        cellarcove_u64_answer r = cellarcove_ilog_i64(AT(int64_t, 0), AT(int64_t, 1));
+        TO(uint64_t, 0) = r.value;
+        TO(uint8_t, 1) = (uint8_t)r.status;
+    }
+}
+
+static const form form_ilog_i64 = {"qq", "QB", true, one_ilog_i64, many_ilog_i64};
+
+static PyObject *one_ilog_u64(const cell *a, uint32_t *status) {
+    cellarcove_u64_answer r = cellarcove_ilog_u64((uint64_t)a[0].u, (uint64_t)a[1].u);
+    if (r.status != CELLARCOVE_ANSWER) {
+        *status = r.status;
+        return NULL;
+    }
+    return PyLong_FromUnsignedLongLong(r.value);
+}
+
+static void many_ilog_u64(Py_ssize_t count, char *const *in, const Py_ssize_t *steps, char *const *out) {
+    for (Py_ssize_t k = 0; k < count; k++) {
+        cellarcove_u64_answer r = cellarcove_ilog_u64(AT(uint64_t, 0), AT(uint64_t, 1));
+        TO(uint64_t, 0) = r.value;
+        TO(uint8_t, 1) = (uint8_t)r.status;
+    }
+}
+
+static const form form_ilog_u64 = {"QQ", "QB", true, one_ilog_u64, many_ilog_u64};
+
+static const call call_ilog = {"ilog", 2, {"x", "base"}, "nn",
+    (const bool[]){false, false}, (const bool[]){true, true}, NULL, &form_ilog_i64, &form_ilog_u64};
+
+static PyObject *py_ilog(PyObject *module, PyObject *const *args, Py_ssize_t count, PyObject *names) {
+    (void)module;
+    return run(&call_ilog, args, count, names);
+}
+
 static PyObject *one_binomial_i64(const cell *a, uint32_t *status) {
     cellarcove_i64_answer r = cellarcove_binomial_i64((int64_t)a[0].i, (int64_t)a[1].i);
     if (r.status != CELLARCOVE_ANSWER) {
@@ -1199,6 +1489,518 @@ static const call call_binomial = {"binomial", 2, {"n", "k"}, "nn",
 static PyObject *py_binomial(PyObject *module, PyObject *const *args, Py_ssize_t count, PyObject *names) {
     (void)module;
     return run(&call_binomial, args, count, names);
+}
+
+static PyObject *one_factorial_i64(const cell *a, uint32_t *status) {
+    cellarcove_i64_answer r = cellarcove_factorial_i64((int64_t)a[0].i);
+    if (r.status != CELLARCOVE_ANSWER) {
+        *status = r.status;
+        return NULL;
+    }
+    return PyLong_FromLongLong(r.value);
+}
+
+static void many_factorial_i64(Py_ssize_t count, char *const *in, const Py_ssize_t *steps, char *const *out) {
+    for (Py_ssize_t k = 0; k < count; k++) {
+        cellarcove_i64_answer r = cellarcove_factorial_i64(AT(int64_t, 0));
+        TO(int64_t, 0) = r.value;
+        TO(uint8_t, 1) = (uint8_t)r.status;
+    }
+}
+
+static const form form_factorial_i64 = {"q", "qB", true, one_factorial_i64, many_factorial_i64};
+
+static PyObject *one_factorial_u64(const cell *a, uint32_t *status) {
+    cellarcove_u64_answer r = cellarcove_factorial_u64((uint64_t)a[0].u);
+    if (r.status != CELLARCOVE_ANSWER) {
+        *status = r.status;
+        return NULL;
+    }
+    return PyLong_FromUnsignedLongLong(r.value);
+}
+
+static void many_factorial_u64(Py_ssize_t count, char *const *in, const Py_ssize_t *steps, char *const *out) {
+    for (Py_ssize_t k = 0; k < count; k++) {
+        cellarcove_u64_answer r = cellarcove_factorial_u64(AT(uint64_t, 0));
+        TO(uint64_t, 0) = r.value;
+        TO(uint8_t, 1) = (uint8_t)r.status;
+    }
+}
+
+static const form form_factorial_u64 = {"Q", "QB", true, one_factorial_u64, many_factorial_u64};
+
+static const call call_factorial = {"factorial", 1, {"n"}, "n",
+    (const bool[]){false}, (const bool[]){true}, NULL, &form_factorial_i64, &form_factorial_u64};
+
+static PyObject *py_factorial(PyObject *module, PyObject *const *args, Py_ssize_t count, PyObject *names) {
+    (void)module;
+    return run(&call_factorial, args, count, names);
+}
+
+static PyObject *one_falling_i64(const cell *a, uint32_t *status) {
+    cellarcove_i64_answer r = cellarcove_falling_i64((int64_t)a[0].i, (int64_t)a[1].i);
+    if (r.status != CELLARCOVE_ANSWER) {
+        *status = r.status;
+        return NULL;
+    }
+    return PyLong_FromLongLong(r.value);
+}
+
+static void many_falling_i64(Py_ssize_t count, char *const *in, const Py_ssize_t *steps, char *const *out) {
+    for (Py_ssize_t k = 0; k < count; k++) {
+        cellarcove_i64_answer r = cellarcove_falling_i64(AT(int64_t, 0), AT(int64_t, 1));
+        TO(int64_t, 0) = r.value;
+        TO(uint8_t, 1) = (uint8_t)r.status;
+    }
+}
+
+static const form form_falling_i64 = {"qq", "qB", true, one_falling_i64, many_falling_i64};
+
+static PyObject *one_falling_u64(const cell *a, uint32_t *status) {
+    cellarcove_u64_answer r = cellarcove_falling_u64((uint64_t)a[0].u, (uint64_t)a[1].u);
+    if (r.status != CELLARCOVE_ANSWER) {
+        *status = r.status;
+        return NULL;
+    }
+    return PyLong_FromUnsignedLongLong(r.value);
+}
+
+static void many_falling_u64(Py_ssize_t count, char *const *in, const Py_ssize_t *steps, char *const *out) {
+    for (Py_ssize_t k = 0; k < count; k++) {
+        cellarcove_u64_answer r = cellarcove_falling_u64(AT(uint64_t, 0), AT(uint64_t, 1));
+        TO(uint64_t, 0) = r.value;
+        TO(uint8_t, 1) = (uint8_t)r.status;
+    }
+}
+
+static const form form_falling_u64 = {"QQ", "QB", true, one_falling_u64, many_falling_u64};
+
+static const call call_falling = {"falling", 2, {"n", "k"}, "nn",
+    (const bool[]){false, false}, (const bool[]){true, true}, NULL, &form_falling_i64, &form_falling_u64};
+
+static PyObject *py_falling(PyObject *module, PyObject *const *args, Py_ssize_t count, PyObject *names) {
+    (void)module;
+    return run(&call_falling, args, count, names);
+}
+
+static PyObject *one_pages_i64(const cell *a, uint32_t *status) {
+    cellarcove_i64_answer r = cellarcove_pages_i64((int64_t)a[0].i, (int64_t)a[1].i);
+    if (r.status != CELLARCOVE_ANSWER) {
+        *status = r.status;
+        return NULL;
+    }
+    return PyLong_FromLongLong(r.value);
+}
+
+static void many_pages_i64(Py_ssize_t count, char *const *in, const Py_ssize_t *steps, char *const *out) {
+    for (Py_ssize_t k = 0; k < count; k++) {
+        cellarcove_i64_answer r = cellarcove_pages_i64(AT(int64_t, 0), AT(int64_t, 1));
+        TO(int64_t, 0) = r.value;
+        TO(uint8_t, 1) = (uint8_t)r.status;
+    }
+}
+
+static const form form_pages_i64 = {"qq", "qB", true, one_pages_i64, many_pages_i64};
+
+static PyObject *one_pages_u64(const cell *a, uint32_t *status) {
+    cellarcove_u64_answer r = cellarcove_pages_u64((uint64_t)a[0].u, (uint64_t)a[1].u);
+    if (r.status != CELLARCOVE_ANSWER) {
+        *status = r.status;
+        return NULL;
+    }
+    return PyLong_FromUnsignedLongLong(r.value);
+}
+
+static void many_pages_u64(Py_ssize_t count, char *const *in, const Py_ssize_t *steps, char *const *out) {
+    for (Py_ssize_t k = 0; k < count; k++) {
+        cellarcove_u64_answer r = cellarcove_pages_u64(AT(uint64_t, 0), AT(uint64_t, 1));
+        TO(uint64_t, 0) = r.value;
+        TO(uint8_t, 1) = (uint8_t)r.status;
+    }
+}
+
+static const form form_pages_u64 = {"QQ", "QB", true, one_pages_u64, many_pages_u64};
+
+static const call call_pages = {"pages", 2, {"items", "page_size"}, "nn",
+    (const bool[]){false, false}, (const bool[]){true, true}, NULL, &form_pages_i64, &form_pages_u64};
+
+static PyObject *py_pages(PyObject *module, PyObject *const *args, Py_ssize_t count, PyObject *names) {
+    (void)module;
+    return run(&call_pages, args, count, names);
+}
+
+static PyObject *one_place_of_i64(const cell *a, uint32_t *status) {
+    cellarcove_i64_place r = cellarcove_place_of_i64((int64_t)a[0].i, (int64_t)a[1].i);
+    if (r.status != CELLARCOVE_ANSWER) {
+        *status = r.status;
+        return NULL;
+    }
+    return tuple_of(NULL, 2, (PyObject *[]){PyLong_FromLongLong(r.page), PyLong_FromLongLong(r.place)});
+}
+
+static void many_place_of_i64(Py_ssize_t count, char *const *in, const Py_ssize_t *steps, char *const *out) {
+    for (Py_ssize_t k = 0; k < count; k++) {
+        cellarcove_i64_place r = cellarcove_place_of_i64(AT(int64_t, 0), AT(int64_t, 1));
+        TO(int64_t, 0) = r.page;
+        TO(int64_t, 1) = r.place;
+        TO(uint8_t, 2) = (uint8_t)r.status;
+    }
+}
+
+static const form form_place_of_i64 = {"qq", "qqB", true, one_place_of_i64, many_place_of_i64};
+
+static PyObject *one_place_of_u64(const cell *a, uint32_t *status) {
+    cellarcove_u64_place r = cellarcove_place_of_u64((uint64_t)a[0].u, (uint64_t)a[1].u);
+    if (r.status != CELLARCOVE_ANSWER) {
+        *status = r.status;
+        return NULL;
+    }
+    return tuple_of(NULL, 2, (PyObject *[]){PyLong_FromUnsignedLongLong(r.page), PyLong_FromUnsignedLongLong(r.place)});
+}
+
+static void many_place_of_u64(Py_ssize_t count, char *const *in, const Py_ssize_t *steps, char *const *out) {
+    for (Py_ssize_t k = 0; k < count; k++) {
+        cellarcove_u64_place r = cellarcove_place_of_u64(AT(uint64_t, 0), AT(uint64_t, 1));
+        TO(uint64_t, 0) = r.page;
+        TO(uint64_t, 1) = r.place;
+        TO(uint8_t, 2) = (uint8_t)r.status;
+    }
+}
+
+static const form form_place_of_u64 = {"QQ", "QQB", true, one_place_of_u64, many_place_of_u64};
+
+static const call call_place_of = {"place_of", 2, {"item", "page_size"}, "nn",
+    (const bool[]){false, false}, (const bool[]){true, true}, NULL, &form_place_of_i64, &form_place_of_u64};
+
+static PyObject *py_place_of(PyObject *module, PyObject *const *args, Py_ssize_t count, PyObject *names) {
+    (void)module;
+    return run(&call_place_of, args, count, names);
+}
+
+static PyObject *one_item_at_i64(const cell *a, uint32_t *status) {
+    cellarcove_i64_answer r = cellarcove_item_at_i64((int64_t)a[0].i, (int64_t)a[1].i, (int64_t)a[2].i);
+    if (r.status != CELLARCOVE_ANSWER) {
+        *status = r.status;
+        return NULL;
+    }
+    return PyLong_FromLongLong(r.value);
+}
+
+static void many_item_at_i64(Py_ssize_t count, char *const *in, const Py_ssize_t *steps, char *const *out) {
+    for (Py_ssize_t k = 0; k < count; k++) {
+        cellarcove_i64_answer r = cellarcove_item_at_i64(AT(int64_t, 0), AT(int64_t, 1), AT(int64_t, 2));
+        TO(int64_t, 0) = r.value;
+        TO(uint8_t, 1) = (uint8_t)r.status;
+    }
+}
+
+static const form form_item_at_i64 = {"qqq", "qB", true, one_item_at_i64, many_item_at_i64};
+
+static PyObject *one_item_at_u64(const cell *a, uint32_t *status) {
+    cellarcove_u64_answer r = cellarcove_item_at_u64((uint64_t)a[0].u, (uint64_t)a[1].u, (uint64_t)a[2].u);
+    if (r.status != CELLARCOVE_ANSWER) {
+        *status = r.status;
+        return NULL;
+    }
+    return PyLong_FromUnsignedLongLong(r.value);
+}
+
+static void many_item_at_u64(Py_ssize_t count, char *const *in, const Py_ssize_t *steps, char *const *out) {
+    for (Py_ssize_t k = 0; k < count; k++) {
+        cellarcove_u64_answer r = cellarcove_item_at_u64(AT(uint64_t, 0), AT(uint64_t, 1), AT(uint64_t, 2));
+        TO(uint64_t, 0) = r.value;
+        TO(uint8_t, 1) = (uint8_t)r.status;
+    }
+}
+
+static const form form_item_at_u64 = {"QQQ", "QB", true, one_item_at_u64, many_item_at_u64};
+
+static const call call_item_at = {"item_at", 3, {"page", "place", "page_size"}, "nnn",
+    (const bool[]){false, false, false}, (const bool[]){true, true, true}, NULL, &form_item_at_i64, &form_item_at_u64};
+
+static PyObject *py_item_at(PyObject *module, PyObject *const *args, Py_ssize_t count, PyObject *names) {
+    (void)module;
+    return run(&call_item_at, args, count, names);
+}
+
+static PyObject *one_range_of_page_i64(const cell *a, uint32_t *status) {
+    cellarcove_i64_range r = cellarcove_range_of_page_i64((int64_t)a[0].i, (int64_t)a[1].i, (int64_t)a[2].i);
+    if (r.status != CELLARCOVE_ANSWER) {
+        *status = r.status;
+        return NULL;
+    }
+    return tuple_of(NULL, 2, (PyObject *[]){PyLong_FromLongLong(r.first), PyLong_FromLongLong(r.end)});
+}
+
+static void many_range_of_page_i64(Py_ssize_t count, char *const *in, const Py_ssize_t *steps, char *const *out) {
+    for (Py_ssize_t k = 0; k < count; k++) {
+        cellarcove_i64_range r = cellarcove_range_of_page_i64(AT(int64_t, 0), AT(int64_t, 1), AT(int64_t, 2));
+        TO(int64_t, 0) = r.first;
+        TO(int64_t, 1) = r.end;
+        TO(uint8_t, 2) = (uint8_t)r.status;
+    }
+}
+
+static const form form_range_of_page_i64 = {"qqq", "qqB", true, one_range_of_page_i64, many_range_of_page_i64};
+
+static PyObject *one_range_of_page_u64(const cell *a, uint32_t *status) {
+    cellarcove_u64_range r = cellarcove_range_of_page_u64((uint64_t)a[0].u, (uint64_t)a[1].u, (uint64_t)a[2].u);
+    if (r.status != CELLARCOVE_ANSWER) {
+        *status = r.status;
+        return NULL;
+    }
+    return tuple_of(NULL, 2, (PyObject *[]){PyLong_FromUnsignedLongLong(r.first), PyLong_FromUnsignedLongLong(r.end)});
+}
+
+static void many_range_of_page_u64(Py_ssize_t count, char *const *in, const Py_ssize_t *steps, char *const *out) {
+    for (Py_ssize_t k = 0; k < count; k++) {
+        cellarcove_u64_range r = cellarcove_range_of_page_u64(AT(uint64_t, 0), AT(uint64_t, 1), AT(uint64_t, 2));
+        TO(uint64_t, 0) = r.first;
+        TO(uint64_t, 1) = r.end;
+        TO(uint8_t, 2) = (uint8_t)r.status;
+    }
+}
+
+static const form form_range_of_page_u64 = {"QQQ", "QQB", true, one_range_of_page_u64, many_range_of_page_u64};
+
+static const call call_range_of_page = {"range_of_page", 3, {"page", "page_size", "items"}, "nnn",
+    (const bool[]){false, false, false}, (const bool[]){true, true, true}, NULL, &form_range_of_page_i64, &form_range_of_page_u64};
+
+static PyObject *py_range_of_page(PyObject *module, PyObject *const *args, Py_ssize_t count, PyObject *names) {
+    (void)module;
+    return run(&call_range_of_page, args, count, names);
+}
+
+static PyObject *one_range_of_part_i64(const cell *a, uint32_t *status) {
+    cellarcove_i64_range r = cellarcove_range_of_part_i64((int64_t)a[0].i, (int64_t)a[1].i, (int64_t)a[2].i);
+    if (r.status != CELLARCOVE_ANSWER) {
+        *status = r.status;
+        return NULL;
+    }
+    return tuple_of(NULL, 2, (PyObject *[]){PyLong_FromLongLong(r.first), PyLong_FromLongLong(r.end)});
+}
+
+static void many_range_of_part_i64(Py_ssize_t count, char *const *in, const Py_ssize_t *steps, char *const *out) {
+    for (Py_ssize_t k = 0; k < count; k++) {
+        cellarcove_i64_range r = cellarcove_range_of_part_i64(AT(int64_t, 0), AT(int64_t, 1), AT(int64_t, 2));
+        TO(int64_t, 0) = r.first;
+        TO(int64_t, 1) = r.end;
+        TO(uint8_t, 2) = (uint8_t)r.status;
+    }
+}
+
+static const form form_range_of_part_i64 = {"qqq", "qqB", true, one_range_of_part_i64, many_range_of_part_i64};
+
+static PyObject *one_range_of_part_u64(const cell *a, uint32_t *status) {
+    cellarcove_u64_range r = cellarcove_range_of_part_u64((uint64_t)a[0].u, (uint64_t)a[1].u, (uint64_t)a[2].u);
+    if (r.status != CELLARCOVE_ANSWER) {
+        *status = r.status;
+        return NULL;
+    }
+    return tuple_of(NULL, 2, (PyObject *[]){PyLong_FromUnsignedLongLong(r.first), PyLong_FromUnsignedLongLong(r.end)});
+}
+
+static void many_range_of_part_u64(Py_ssize_t count, char *const *in, const Py_ssize_t *steps, char *const *out) {
+    for (Py_ssize_t k = 0; k < count; k++) {
+        cellarcove_u64_range r = cellarcove_range_of_part_u64(AT(uint64_t, 0), AT(uint64_t, 1), AT(uint64_t, 2));
+        TO(uint64_t, 0) = r.first;
+        TO(uint64_t, 1) = r.end;
+        TO(uint8_t, 2) = (uint8_t)r.status;
+    }
+}
+
+static const form form_range_of_part_u64 = {"QQQ", "QQB", true, one_range_of_part_u64, many_range_of_part_u64};
+
+static const call call_range_of_part = {"range_of_part", 3, {"part", "parts", "items"}, "nnn",
+    (const bool[]){false, false, false}, (const bool[]){true, true, true}, NULL, &form_range_of_part_i64, &form_range_of_part_u64};
+
+static PyObject *py_range_of_part(PyObject *module, PyObject *const *args, Py_ssize_t count, PyObject *names) {
+    (void)module;
+    return run(&call_range_of_part, args, count, names);
+}
+
+static PyObject *one_align_up_i64(const cell *a, uint32_t *status) {
+    cellarcove_i64_answer r = cellarcove_align_up_i64((int64_t)a[0].i, (int64_t)a[1].i);
+    if (r.status != CELLARCOVE_ANSWER) {
+        *status = r.status;
+        return NULL;
+    }
+    return PyLong_FromLongLong(r.value);
+}
+
+static void many_align_up_i64(Py_ssize_t count, char *const *in, const Py_ssize_t *steps, char *const *out) {
+    for (Py_ssize_t k = 0; k < count; k++) {
+        cellarcove_i64_answer r = cellarcove_align_up_i64(AT(int64_t, 0), AT(int64_t, 1));
+        TO(int64_t, 0) = r.value;
+        TO(uint8_t, 1) = (uint8_t)r.status;
+    }
+}
+
+static const form form_align_up_i64 = {"qq", "qB", true, one_align_up_i64, many_align_up_i64};
+
+static PyObject *one_align_up_u64(const cell *a, uint32_t *status) {
+    cellarcove_u64_answer r = cellarcove_align_up_u64((uint64_t)a[0].u, (uint64_t)a[1].u);
+    if (r.status != CELLARCOVE_ANSWER) {
+        *status = r.status;
+        return NULL;
+    }
+    return PyLong_FromUnsignedLongLong(r.value);
+}
+
+static void many_align_up_u64(Py_ssize_t count, char *const *in, const Py_ssize_t *steps, char *const *out) {
+    for (Py_ssize_t k = 0; k < count; k++) {
+        cellarcove_u64_answer r = cellarcove_align_up_u64(AT(uint64_t, 0), AT(uint64_t, 1));
+        TO(uint64_t, 0) = r.value;
+        TO(uint8_t, 1) = (uint8_t)r.status;
+    }
+}
+
+static const form form_align_up_u64 = {"QQ", "QB", true, one_align_up_u64, many_align_up_u64};
+
+static const call call_align_up = {"align_up", 2, {"offset", "alignment"}, "nn",
+    (const bool[]){false, false}, (const bool[]){true, true}, NULL, &form_align_up_i64, &form_align_up_u64};
+
+static PyObject *py_align_up(PyObject *module, PyObject *const *args, Py_ssize_t count, PyObject *names) {
+    (void)module;
+    return run(&call_align_up, args, count, names);
+}
+
+static PyObject *one_padding_i64(const cell *a, uint32_t *status) {
+    cellarcove_i64_answer r = cellarcove_padding_i64((int64_t)a[0].i, (int64_t)a[1].i);
+    if (r.status != CELLARCOVE_ANSWER) {
+        *status = r.status;
+        return NULL;
+    }
+    return PyLong_FromLongLong(r.value);
+}
+
+static void many_padding_i64(Py_ssize_t count, char *const *in, const Py_ssize_t *steps, char *const *out) {
+    for (Py_ssize_t k = 0; k < count; k++) {
+        cellarcove_i64_answer r = cellarcove_padding_i64(AT(int64_t, 0), AT(int64_t, 1));
+        TO(int64_t, 0) = r.value;
+        TO(uint8_t, 1) = (uint8_t)r.status;
+    }
+}
+
+static const form form_padding_i64 = {"qq", "qB", true, one_padding_i64, many_padding_i64};
+
+static PyObject *one_padding_u64(const cell *a, uint32_t *status) {
+    cellarcove_u64_answer r = cellarcove_padding_u64((uint64_t)a[0].u, (uint64_t)a[1].u);
+    if (r.status != CELLARCOVE_ANSWER) {
+        *status = r.status;
+        return NULL;
+    }
+    return PyLong_FromUnsignedLongLong(r.value);
+}
+
+static void many_padding_u64(Py_ssize_t count, char *const *in, const Py_ssize_t *steps, char *const *out) {
+    for (Py_ssize_t k = 0; k < count; k++) {
+        cellarcove_u64_answer r = cellarcove_padding_u64(AT(uint64_t, 0), AT(uint64_t, 1));
+        TO(uint64_t, 0) = r.value;
+        TO(uint8_t, 1) = (uint8_t)r.status;
+    }
+}
+
+static const form form_padding_u64 = {"QQ", "QB", true, one_padding_u64, many_padding_u64};
+
+static const call call_padding = {"padding", 2, {"offset", "alignment"}, "nn",
+    (const bool[]){false, false}, (const bool[]){true, true}, NULL, &form_padding_i64, &form_padding_u64};
+
+static PyObject *py_padding(PyObject *module, PyObject *const *args, Py_ssize_t count, PyObject *names) {
+    (void)module;
+    return run(&call_padding, args, count, names);
+}
+
+static PyObject *one_residue_i64(const cell *a, uint32_t *status) {
+    cellarcove_i64_answer r = cellarcove_residue_i64((int64_t)a[0].i, (int64_t)a[1].i);
+    if (r.status != CELLARCOVE_ANSWER) {
+        *status = r.status;
+        return NULL;
+    }
+    return PyLong_FromLongLong(r.value);
+}
+
+static void many_residue_i64(Py_ssize_t count, char *const *in, const Py_ssize_t *steps, char *const *out) {
+    for (Py_ssize_t k = 0; k < count; k++) {
+        cellarcove_i64_answer r = cellarcove_residue_i64(AT(int64_t, 0), AT(int64_t, 1));
+        TO(int64_t, 0) = r.value;
+        TO(uint8_t, 1) = (uint8_t)r.status;
+    }
+}
+
+static const form form_residue_i64 = {"qq", "qB", true, one_residue_i64, many_residue_i64};
+
+static PyObject *one_residue_u64(const cell *a, uint32_t *status) {
+    cellarcove_u64_answer r = cellarcove_residue_u64((uint64_t)a[0].u, (uint64_t)a[1].u);
+    if (r.status != CELLARCOVE_ANSWER) {
+        *status = r.status;
+        return NULL;
+    }
+    return PyLong_FromUnsignedLongLong(r.value);
+}
+
+static void many_residue_u64(Py_ssize_t count, char *const *in, const Py_ssize_t *steps, char *const *out) {
+    for (Py_ssize_t k = 0; k < count; k++) {
+        cellarcove_u64_answer r = cellarcove_residue_u64(AT(uint64_t, 0), AT(uint64_t, 1));
+        TO(uint64_t, 0) = r.value;
+        TO(uint8_t, 1) = (uint8_t)r.status;
+    }
+}
+
+static const form form_residue_u64 = {"QQ", "QB", true, one_residue_u64, many_residue_u64};
+
+static const call call_residue = {"residue", 2, {"a", "m"}, "nn",
+    (const bool[]){false, true}, (const bool[]){true, true}, NULL, &form_residue_i64, &form_residue_u64};
+
+static PyObject *py_residue(PyObject *module, PyObject *const *args, Py_ssize_t count, PyObject *names) {
+    (void)module;
+    return run(&call_residue, args, count, names);
+}
+
+static PyObject *one_negation_modulo_i64(const cell *a, uint32_t *status) {
+    cellarcove_i64_answer r = cellarcove_negation_modulo_i64((int64_t)a[0].i, (int64_t)a[1].i);
+    if (r.status != CELLARCOVE_ANSWER) {
+        *status = r.status;
+        return NULL;
+    }
+    return PyLong_FromLongLong(r.value);
+}
+
+static void many_negation_modulo_i64(Py_ssize_t count, char *const *in, const Py_ssize_t *steps, char *const *out) {
+    for (Py_ssize_t k = 0; k < count; k++) {
+        cellarcove_i64_answer r = cellarcove_negation_modulo_i64(AT(int64_t, 0), AT(int64_t, 1));
+        TO(int64_t, 0) = r.value;
+        TO(uint8_t, 1) = (uint8_t)r.status;
+    }
+}
+
+static const form form_negation_modulo_i64 = {"qq", "qB", true, one_negation_modulo_i64, many_negation_modulo_i64};
+
+static PyObject *one_negation_modulo_u64(const cell *a, uint32_t *status) {
+    cellarcove_u64_answer r = cellarcove_negation_modulo_u64((uint64_t)a[0].u, (uint64_t)a[1].u);
+    if (r.status != CELLARCOVE_ANSWER) {
+        *status = r.status;
+        return NULL;
+    }
+    return PyLong_FromUnsignedLongLong(r.value);
+}
+
+static void many_negation_modulo_u64(Py_ssize_t count, char *const *in, const Py_ssize_t *steps, char *const *out) {
+    for (Py_ssize_t k = 0; k < count; k++) {
+        cellarcove_u64_answer r = cellarcove_negation_modulo_u64(AT(uint64_t, 0), AT(uint64_t, 1));
+        TO(uint64_t, 0) = r.value;
+        TO(uint8_t, 1) = (uint8_t)r.status;
+    }
+}
+
+static const form form_negation_modulo_u64 = {"QQ", "QB", true, one_negation_modulo_u64, many_negation_modulo_u64};
+
+static const call call_negation_modulo = {"negation_modulo", 2, {"a", "m"}, "nn",
+    (const bool[]){false, true}, (const bool[]){true, true}, NULL, &form_negation_modulo_i64, &form_negation_modulo_u64};
+
+static PyObject *py_negation_modulo(PyObject *module, PyObject *const *args, Py_ssize_t count, PyObject *names) {
+    (void)module;
+    return run(&call_negation_modulo, args, count, names);
 }
 
 static PyObject *one_sum_modulo_i64(const cell *a, uint32_t *status) {
@@ -1757,6 +2559,405 @@ static PyObject *py_next_common_solution(PyObject *module, PyObject *const *args
     return run(&call_next_common_solution, args, count, names);
 }
 
+static PyObject *one_next_meeting_i64(const cell *a, uint32_t *status) {
+    cellarcove_i64_answer r = cellarcove_next_meeting_i64((int64_t)a[0].i, (int64_t)a[1].i, (int64_t)a[2].i, (int64_t)a[3].i, (int64_t)a[4].i);
+    if (r.status != CELLARCOVE_ANSWER) {
+        *status = r.status;
+        return NULL;
+    }
+    return PyLong_FromLongLong(r.value);
+}
+
+static void many_next_meeting_i64(Py_ssize_t count, char *const *in, const Py_ssize_t *steps, char *const *out) {
+    for (Py_ssize_t k = 0; k < count; k++) {
+        cellarcove_i64_answer r = cellarcove_next_meeting_i64(AT(int64_t, 0), AT(int64_t, 1), AT(int64_t, 2), AT(int64_t, 3), AT(int64_t, 4));
+        TO(int64_t, 0) = r.value;
+        TO(uint8_t, 1) = (uint8_t)r.status;
+    }
+}
+
+static const form form_next_meeting_i64 = {"qqqqq", "qB", true, one_next_meeting_i64, many_next_meeting_i64};
+
+static PyObject *one_next_meeting_u64(const cell *a, uint32_t *status) {
+    cellarcove_u64_answer r = cellarcove_next_meeting_u64((uint64_t)a[0].u, (uint64_t)a[1].u, (uint64_t)a[2].u, (uint64_t)a[3].u, (uint64_t)a[4].u);
+    if (r.status != CELLARCOVE_ANSWER) {
+        *status = r.status;
+        return NULL;
+    }
+    return PyLong_FromUnsignedLongLong(r.value);
+}
+
+static void many_next_meeting_u64(Py_ssize_t count, char *const *in, const Py_ssize_t *steps, char *const *out) {
+    for (Py_ssize_t k = 0; k < count; k++) {
+        cellarcove_u64_answer r = cellarcove_next_meeting_u64(AT(uint64_t, 0), AT(uint64_t, 1), AT(uint64_t, 2), AT(uint64_t, 3), AT(uint64_t, 4));
+        TO(uint64_t, 0) = r.value;
+        TO(uint8_t, 1) = (uint8_t)r.status;
+    }
+}
+
+static const form form_next_meeting_u64 = {"QQQQQ", "QB", true, one_next_meeting_u64, many_next_meeting_u64};
+
+static const call call_next_meeting = {"next_meeting", 5, {"now", "a", "p", "b", "q"}, "nnnnn",
+    (const bool[]){false, false, true, false, true}, (const bool[]){true, true, true, true, true}, NULL, &form_next_meeting_i64, &form_next_meeting_u64};
+
+static PyObject *py_next_meeting(PyObject *module, PyObject *const *args, Py_ssize_t count, PyObject *names) {
+    (void)module;
+    return run(&call_next_meeting, args, count, names);
+}
+
+static PyObject *one_count_times_i64(const cell *a, uint32_t *status) {
+    cellarcove_i64_answer r = cellarcove_count_times_i64((int64_t)a[0].i, (int64_t)a[1].i, (int64_t)a[2].i, (int64_t)a[3].i);
+    if (r.status != CELLARCOVE_ANSWER) {
+        *status = r.status;
+        return NULL;
+    }
+    return PyLong_FromLongLong(r.value);
+}
+
+static void many_count_times_i64(Py_ssize_t count, char *const *in, const Py_ssize_t *steps, char *const *out) {
+    for (Py_ssize_t k = 0; k < count; k++) {
+        cellarcove_i64_answer r = cellarcove_count_times_i64(AT(int64_t, 0), AT(int64_t, 1), AT(int64_t, 2), AT(int64_t, 3));
+        TO(int64_t, 0) = r.value;
+        TO(uint8_t, 1) = (uint8_t)r.status;
+    }
+}
+
+static const form form_count_times_i64 = {"qqqq", "qB", true, one_count_times_i64, many_count_times_i64};
+
+static PyObject *one_count_times_u64(const cell *a, uint32_t *status) {
+    cellarcove_u64_answer r = cellarcove_count_times_u64((uint64_t)a[0].u, (uint64_t)a[1].u, (uint64_t)a[2].u, (uint64_t)a[3].u);
+    if (r.status != CELLARCOVE_ANSWER) {
+        *status = r.status;
+        return NULL;
+    }
+    return PyLong_FromUnsignedLongLong(r.value);
+}
+
+static void many_count_times_u64(Py_ssize_t count, char *const *in, const Py_ssize_t *steps, char *const *out) {
+    for (Py_ssize_t k = 0; k < count; k++) {
+        cellarcove_u64_answer r = cellarcove_count_times_u64(AT(uint64_t, 0), AT(uint64_t, 1), AT(uint64_t, 2), AT(uint64_t, 3));
+        TO(uint64_t, 0) = r.value;
+        TO(uint8_t, 1) = (uint8_t)r.status;
+    }
+}
+
+static const form form_count_times_u64 = {"QQQQ", "QB", true, one_count_times_u64, many_count_times_u64};
+
+static const call call_count_times = {"count_times", 4, {"start", "end", "first", "period"}, "nnnn",
+    (const bool[]){false, false, false, true}, (const bool[]){true, true, true, true}, NULL, &form_count_times_i64, &form_count_times_u64};
+
+static PyObject *py_count_times(PyObject *module, PyObject *const *args, Py_ssize_t count, PyObject *names) {
+    (void)module;
+    return run(&call_count_times, args, count, names);
+}
+
+static PyObject *one_fraction_new(const cell *a, uint32_t *status) {
+    cellarcove_fraction_answer r = cellarcove_fraction_new((int64_t)a[0].i, (int64_t)a[1].i);
+    if (r.status != CELLARCOVE_ANSWER) {
+        *status = r.status;
+        return NULL;
+    }
+    return fraction_of(r.value);
+}
+
+static void many_fraction_new(Py_ssize_t count, char *const *in, const Py_ssize_t *steps, char *const *out) {
+    for (Py_ssize_t k = 0; k < count; k++) {
+        cellarcove_fraction_answer r = cellarcove_fraction_new(AT(int64_t, 0), AT(int64_t, 1));
+        TO(int64_t, 0) = r.value.num;
+        TO(int64_t, 1) = r.value.den;
+        TO(uint8_t, 2) = (uint8_t)r.status;
+    }
+}
+
+static const form form_fraction_new = {"qq", "qqB", true, one_fraction_new, many_fraction_new};
+
+static const call call_fraction_new = {"fraction_new", 2, {"num", "den"}, "nn",
+    (const bool[]){false, false}, (const bool[]){false, false}, &form_fraction_new, NULL, NULL};
+
+static PyObject *py_fraction_new(PyObject *module, PyObject *const *args, Py_ssize_t count, PyObject *names) {
+    (void)module;
+    return run(&call_fraction_new, args, count, names);
+}
+
+static PyObject *one_fraction_add(const cell *a, uint32_t *status) {
+    cellarcove_fraction_answer r = cellarcove_fraction_add((cellarcove_fraction){(int64_t)a[0].i, (int64_t)a[1].i}, (cellarcove_fraction){(int64_t)a[2].i, (int64_t)a[3].i});
+    if (r.status != CELLARCOVE_ANSWER) {
+        *status = r.status;
+        return NULL;
+    }
+    return fraction_of(r.value);
+}
+
+static void many_fraction_add(Py_ssize_t count, char *const *in, const Py_ssize_t *steps, char *const *out) {
+    for (Py_ssize_t k = 0; k < count; k++) {
+        cellarcove_fraction_answer r = cellarcove_fraction_add((cellarcove_fraction){AT(int64_t, 0), AT(int64_t, 1)}, (cellarcove_fraction){AT(int64_t, 2), AT(int64_t, 3)});
+        TO(int64_t, 0) = r.value.num;
+        TO(int64_t, 1) = r.value.den;
+        TO(uint8_t, 2) = (uint8_t)r.status;
+    }
+}
+
+static const form form_fraction_add = {"qqqq", "qqB", true, one_fraction_add, many_fraction_add};
+
+static const call call_fraction_add = {"fraction_add", 2, {"a", "b"}, "ff",
+    (const bool[]){false, false, false, false}, (const bool[]){false, false, false, false}, &form_fraction_add, NULL, NULL};
+
+static PyObject *py_fraction_add(PyObject *module, PyObject *const *args, Py_ssize_t count, PyObject *names) {
+    (void)module;
+    return run(&call_fraction_add, args, count, names);
+}
+
+static PyObject *one_fraction_sub(const cell *a, uint32_t *status) {
+    cellarcove_fraction_answer r = cellarcove_fraction_sub((cellarcove_fraction){(int64_t)a[0].i, (int64_t)a[1].i}, (cellarcove_fraction){(int64_t)a[2].i, (int64_t)a[3].i});
+    if (r.status != CELLARCOVE_ANSWER) {
+        *status = r.status;
+        return NULL;
+    }
+    return fraction_of(r.value);
+}
+
+static void many_fraction_sub(Py_ssize_t count, char *const *in, const Py_ssize_t *steps, char *const *out) {
+    for (Py_ssize_t k = 0; k < count; k++) {
+        cellarcove_fraction_answer r = cellarcove_fraction_sub((cellarcove_fraction){AT(int64_t, 0), AT(int64_t, 1)}, (cellarcove_fraction){AT(int64_t, 2), AT(int64_t, 3)});
+        TO(int64_t, 0) = r.value.num;
+        TO(int64_t, 1) = r.value.den;
+        TO(uint8_t, 2) = (uint8_t)r.status;
+    }
+}
+
+static const form form_fraction_sub = {"qqqq", "qqB", true, one_fraction_sub, many_fraction_sub};
+
+static const call call_fraction_sub = {"fraction_sub", 2, {"a", "b"}, "ff",
+    (const bool[]){false, false, false, false}, (const bool[]){false, false, false, false}, &form_fraction_sub, NULL, NULL};
+
+static PyObject *py_fraction_sub(PyObject *module, PyObject *const *args, Py_ssize_t count, PyObject *names) {
+    (void)module;
+    return run(&call_fraction_sub, args, count, names);
+}
+
+static PyObject *one_fraction_mul(const cell *a, uint32_t *status) {
+    cellarcove_fraction_answer r = cellarcove_fraction_mul((cellarcove_fraction){(int64_t)a[0].i, (int64_t)a[1].i}, (cellarcove_fraction){(int64_t)a[2].i, (int64_t)a[3].i});
+    if (r.status != CELLARCOVE_ANSWER) {
+        *status = r.status;
+        return NULL;
+    }
+    return fraction_of(r.value);
+}
+
+static void many_fraction_mul(Py_ssize_t count, char *const *in, const Py_ssize_t *steps, char *const *out) {
+    for (Py_ssize_t k = 0; k < count; k++) {
+        cellarcove_fraction_answer r = cellarcove_fraction_mul((cellarcove_fraction){AT(int64_t, 0), AT(int64_t, 1)}, (cellarcove_fraction){AT(int64_t, 2), AT(int64_t, 3)});
+        TO(int64_t, 0) = r.value.num;
+        TO(int64_t, 1) = r.value.den;
+        TO(uint8_t, 2) = (uint8_t)r.status;
+    }
+}
+
+static const form form_fraction_mul = {"qqqq", "qqB", true, one_fraction_mul, many_fraction_mul};
+
+static const call call_fraction_mul = {"fraction_mul", 2, {"a", "b"}, "ff",
+    (const bool[]){false, false, false, false}, (const bool[]){false, false, false, false}, &form_fraction_mul, NULL, NULL};
+
+static PyObject *py_fraction_mul(PyObject *module, PyObject *const *args, Py_ssize_t count, PyObject *names) {
+    (void)module;
+    return run(&call_fraction_mul, args, count, names);
+}
+
+static PyObject *one_fraction_div(const cell *a, uint32_t *status) {
+    cellarcove_fraction_answer r = cellarcove_fraction_div((cellarcove_fraction){(int64_t)a[0].i, (int64_t)a[1].i}, (cellarcove_fraction){(int64_t)a[2].i, (int64_t)a[3].i});
+    if (r.status != CELLARCOVE_ANSWER) {
+        *status = r.status;
+        return NULL;
+    }
+    return fraction_of(r.value);
+}
+
+static void many_fraction_div(Py_ssize_t count, char *const *in, const Py_ssize_t *steps, char *const *out) {
+    for (Py_ssize_t k = 0; k < count; k++) {
+        cellarcove_fraction_answer r = cellarcove_fraction_div((cellarcove_fraction){AT(int64_t, 0), AT(int64_t, 1)}, (cellarcove_fraction){AT(int64_t, 2), AT(int64_t, 3)});
+        TO(int64_t, 0) = r.value.num;
+        TO(int64_t, 1) = r.value.den;
+        TO(uint8_t, 2) = (uint8_t)r.status;
+    }
+}
+
+static const form form_fraction_div = {"qqqq", "qqB", true, one_fraction_div, many_fraction_div};
+
+static const call call_fraction_div = {"fraction_div", 2, {"a", "b"}, "ff",
+    (const bool[]){false, false, false, false}, (const bool[]){false, false, false, false}, &form_fraction_div, NULL, NULL};
+
+static PyObject *py_fraction_div(PyObject *module, PyObject *const *args, Py_ssize_t count, PyObject *names) {
+    (void)module;
+    return run(&call_fraction_div, args, count, names);
+}
+
+static PyObject *one_fraction_recip(const cell *a, uint32_t *status) {
+    cellarcove_fraction_answer r = cellarcove_fraction_recip((cellarcove_fraction){(int64_t)a[0].i, (int64_t)a[1].i});
+    if (r.status != CELLARCOVE_ANSWER) {
+        *status = r.status;
+        return NULL;
+    }
+    return fraction_of(r.value);
+}
+
+static void many_fraction_recip(Py_ssize_t count, char *const *in, const Py_ssize_t *steps, char *const *out) {
+    for (Py_ssize_t k = 0; k < count; k++) {
+        cellarcove_fraction_answer r = cellarcove_fraction_recip((cellarcove_fraction){AT(int64_t, 0), AT(int64_t, 1)});
+        TO(int64_t, 0) = r.value.num;
+        TO(int64_t, 1) = r.value.den;
+        TO(uint8_t, 2) = (uint8_t)r.status;
+    }
+}
+
+static const form form_fraction_recip = {"qq", "qqB", true, one_fraction_recip, many_fraction_recip};
+
+static const call call_fraction_recip = {"fraction_recip", 1, {"a"}, "f",
+    (const bool[]){false, false}, (const bool[]){false, false}, &form_fraction_recip, NULL, NULL};
+
+static PyObject *py_fraction_recip(PyObject *module, PyObject *const *args, Py_ssize_t count, PyObject *names) {
+    (void)module;
+    return run(&call_fraction_recip, args, count, names);
+}
+
+static PyObject *one_fraction_neg(const cell *a, uint32_t *status) {
+    cellarcove_fraction_answer r = cellarcove_fraction_neg((cellarcove_fraction){(int64_t)a[0].i, (int64_t)a[1].i});
+    if (r.status != CELLARCOVE_ANSWER) {
+        *status = r.status;
+        return NULL;
+    }
+    return fraction_of(r.value);
+}
+
+static void many_fraction_neg(Py_ssize_t count, char *const *in, const Py_ssize_t *steps, char *const *out) {
+    for (Py_ssize_t k = 0; k < count; k++) {
+        cellarcove_fraction_answer r = cellarcove_fraction_neg((cellarcove_fraction){AT(int64_t, 0), AT(int64_t, 1)});
+        TO(int64_t, 0) = r.value.num;
+        TO(int64_t, 1) = r.value.den;
+        TO(uint8_t, 2) = (uint8_t)r.status;
+    }
+}
+
+static const form form_fraction_neg = {"qq", "qqB", true, one_fraction_neg, many_fraction_neg};
+
+static const call call_fraction_neg = {"fraction_neg", 1, {"a"}, "f",
+    (const bool[]){false, false}, (const bool[]){false, false}, &form_fraction_neg, NULL, NULL};
+
+static PyObject *py_fraction_neg(PyObject *module, PyObject *const *args, Py_ssize_t count, PyObject *names) {
+    (void)module;
+    return run(&call_fraction_neg, args, count, names);
+}
+
+static PyObject *one_fraction_abs(const cell *a, uint32_t *status) {
+    cellarcove_fraction_answer r = cellarcove_fraction_abs((cellarcove_fraction){(int64_t)a[0].i, (int64_t)a[1].i});
+    if (r.status != CELLARCOVE_ANSWER) {
+        *status = r.status;
+        return NULL;
+    }
+    return fraction_of(r.value);
+}
+
+static void many_fraction_abs(Py_ssize_t count, char *const *in, const Py_ssize_t *steps, char *const *out) {
+    for (Py_ssize_t k = 0; k < count; k++) {
+        cellarcove_fraction_answer r = cellarcove_fraction_abs((cellarcove_fraction){AT(int64_t, 0), AT(int64_t, 1)});
+        TO(int64_t, 0) = r.value.num;
+        TO(int64_t, 1) = r.value.den;
+        TO(uint8_t, 2) = (uint8_t)r.status;
+    }
+}
+
+static const form form_fraction_abs = {"qq", "qqB", true, one_fraction_abs, many_fraction_abs};
+
+static const call call_fraction_abs = {"fraction_abs", 1, {"a"}, "f",
+    (const bool[]){false, false}, (const bool[]){false, false}, &form_fraction_abs, NULL, NULL};
+
+static PyObject *py_fraction_abs(PyObject *module, PyObject *const *args, Py_ssize_t count, PyObject *names) {
+    (void)module;
+    return run(&call_fraction_abs, args, count, names);
+}
+
+static PyObject *one_fraction_pow(const cell *a, uint32_t *status) {
+    cellarcove_fraction_answer r = cellarcove_fraction_pow((cellarcove_fraction){(int64_t)a[0].i, (int64_t)a[1].i}, (int32_t)a[2].i);
+    if (r.status != CELLARCOVE_ANSWER) {
+        *status = r.status;
+        return NULL;
+    }
+    return fraction_of(r.value);
+}
+
+static void many_fraction_pow(Py_ssize_t count, char *const *in, const Py_ssize_t *steps, char *const *out) {
+    for (Py_ssize_t k = 0; k < count; k++) {
+        cellarcove_fraction_answer r = cellarcove_fraction_pow((cellarcove_fraction){AT(int64_t, 0), AT(int64_t, 1)}, AT(int32_t, 2));
+        TO(int64_t, 0) = r.value.num;
+        TO(int64_t, 1) = r.value.den;
+        TO(uint8_t, 2) = (uint8_t)r.status;
+    }
+}
+
+static const form form_fraction_pow = {"qqi", "qqB", true, one_fraction_pow, many_fraction_pow};
+
+static const call call_fraction_pow = {"fraction_pow", 2, {"a", "exponent"}, "fn",
+    (const bool[]){false, false, false}, (const bool[]){false, false, false}, &form_fraction_pow, NULL, NULL};
+
+static PyObject *py_fraction_pow(PyObject *module, PyObject *const *args, Py_ssize_t count, PyObject *names) {
+    (void)module;
+    return run(&call_fraction_pow, args, count, names);
+}
+
+static PyObject *one_fraction_times(const cell *a, uint32_t *status) {
+    cellarcove_fraction_answer r = cellarcove_fraction_times((cellarcove_fraction){(int64_t)a[0].i, (int64_t)a[1].i}, (int64_t)a[2].i, (int64_t)a[3].i);
+    if (r.status != CELLARCOVE_ANSWER) {
+        *status = r.status;
+        return NULL;
+    }
+    return fraction_of(r.value);
+}
+
+static void many_fraction_times(Py_ssize_t count, char *const *in, const Py_ssize_t *steps, char *const *out) {
+    for (Py_ssize_t k = 0; k < count; k++) {
+        cellarcove_fraction_answer r = cellarcove_fraction_times((cellarcove_fraction){AT(int64_t, 0), AT(int64_t, 1)}, AT(int64_t, 2), AT(int64_t, 3));
+        TO(int64_t, 0) = r.value.num;
+        TO(int64_t, 1) = r.value.den;
+        TO(uint8_t, 2) = (uint8_t)r.status;
+    }
+}
+
+static const form form_fraction_times = {"qqqq", "qqB", true, one_fraction_times, many_fraction_times};
+
+static const call call_fraction_times = {"fraction_times", 3, {"a", "n", "d"}, "fnn",
+    (const bool[]){false, false, false, false}, (const bool[]){false, false, false, false}, &form_fraction_times, NULL, NULL};
+
+static PyObject *py_fraction_times(PyObject *module, PyObject *const *args, Py_ssize_t count, PyObject *names) {
+    (void)module;
+    return run(&call_fraction_times, args, count, names);
+}
+
+static PyObject *one_fraction_cmp(const cell *a, uint32_t *status) {
+    cellarcove_order_answer r = cellarcove_fraction_cmp((cellarcove_fraction){(int64_t)a[0].i, (int64_t)a[1].i}, (cellarcove_fraction){(int64_t)a[2].i, (int64_t)a[3].i});
+    if (r.status != CELLARCOVE_ANSWER) {
+        *status = r.status;
+        return NULL;
+    }
+    return PyLong_FromLong(r.order);
+}
+
+static void many_fraction_cmp(Py_ssize_t count, char *const *in, const Py_ssize_t *steps, char *const *out) {
+    for (Py_ssize_t k = 0; k < count; k++) {
+        cellarcove_order_answer r = cellarcove_fraction_cmp((cellarcove_fraction){AT(int64_t, 0), AT(int64_t, 1)}, (cellarcove_fraction){AT(int64_t, 2), AT(int64_t, 3)});
+        TO(int32_t, 0) = r.order;
+        TO(uint8_t, 1) = (uint8_t)r.status;
+    }
+}
+
+static const form form_fraction_cmp = {"qqqq", "iB", true, one_fraction_cmp, many_fraction_cmp};
+
+static const call call_fraction_cmp = {"fraction_cmp", 2, {"a", "b"}, "ff",
+    (const bool[]){false, false, false, false}, (const bool[]){false, false, false, false}, &form_fraction_cmp, NULL, NULL};
+
+static PyObject *py_fraction_cmp(PyObject *module, PyObject *const *args, Py_ssize_t count, PyObject *names) {
+    (void)module;
+    return run(&call_fraction_cmp, args, count, names);
+}
+
 static PyObject *one_fraction_limit_denominator(const cell *a, uint32_t *status) {
     cellarcove_fraction_answer r = cellarcove_fraction_limit_denominator((cellarcove_fraction){(int64_t)a[0].i, (int64_t)a[1].i}, (int64_t)a[2].i);
     if (r.status != CELLARCOVE_ANSWER) {
@@ -1783,6 +2984,115 @@ static const call call_limit_denominator = {"limit_denominator", 2, {"a", "max_d
 static PyObject *py_limit_denominator(PyObject *module, PyObject *const *args, Py_ssize_t count, PyObject *names) {
     (void)module;
     return run(&call_limit_denominator, args, count, names);
+}
+
+static PyObject *one_fraction_floor(const cell *a, uint32_t *status) {
+    cellarcove_i64_answer r = cellarcove_fraction_floor((cellarcove_fraction){(int64_t)a[0].i, (int64_t)a[1].i});
+    if (r.status != CELLARCOVE_ANSWER) {
+        *status = r.status;
+        return NULL;
+    }
+    return PyLong_FromLongLong(r.value);
+}
+
+static void many_fraction_floor(Py_ssize_t count, char *const *in, const Py_ssize_t *steps, char *const *out) {
+    for (Py_ssize_t k = 0; k < count; k++) {
+        cellarcove_i64_answer r = cellarcove_fraction_floor((cellarcove_fraction){AT(int64_t, 0), AT(int64_t, 1)});
+        TO(int64_t, 0) = r.value;
+        TO(uint8_t, 1) = (uint8_t)r.status;
+    }
+}
+
+static const form form_fraction_floor = {"qq", "qB", true, one_fraction_floor, many_fraction_floor};
+
+static const call call_fraction_floor = {"fraction_floor", 1, {"a"}, "f",
+    (const bool[]){false, false}, (const bool[]){false, false}, &form_fraction_floor, NULL, NULL};
+
+static PyObject *py_fraction_floor(PyObject *module, PyObject *const *args, Py_ssize_t count, PyObject *names) {
+    (void)module;
+    return run(&call_fraction_floor, args, count, names);
+}
+
+static PyObject *one_fraction_ceil(const cell *a, uint32_t *status) {
+    cellarcove_i64_answer r = cellarcove_fraction_ceil((cellarcove_fraction){(int64_t)a[0].i, (int64_t)a[1].i});
+    if (r.status != CELLARCOVE_ANSWER) {
+        *status = r.status;
+        return NULL;
+    }
+    return PyLong_FromLongLong(r.value);
+}
+
+static void many_fraction_ceil(Py_ssize_t count, char *const *in, const Py_ssize_t *steps, char *const *out) {
+    for (Py_ssize_t k = 0; k < count; k++) {
+        cellarcove_i64_answer r = cellarcove_fraction_ceil((cellarcove_fraction){AT(int64_t, 0), AT(int64_t, 1)});
+        TO(int64_t, 0) = r.value;
+        TO(uint8_t, 1) = (uint8_t)r.status;
+    }
+}
+
+static const form form_fraction_ceil = {"qq", "qB", true, one_fraction_ceil, many_fraction_ceil};
+
+static const call call_fraction_ceil = {"fraction_ceil", 1, {"a"}, "f",
+    (const bool[]){false, false}, (const bool[]){false, false}, &form_fraction_ceil, NULL, NULL};
+
+static PyObject *py_fraction_ceil(PyObject *module, PyObject *const *args, Py_ssize_t count, PyObject *names) {
+    (void)module;
+    return run(&call_fraction_ceil, args, count, names);
+}
+
+static PyObject *one_fraction_trunc(const cell *a, uint32_t *status) {
+    cellarcove_i64_answer r = cellarcove_fraction_trunc((cellarcove_fraction){(int64_t)a[0].i, (int64_t)a[1].i});
+    if (r.status != CELLARCOVE_ANSWER) {
+        *status = r.status;
+        return NULL;
+    }
+    return PyLong_FromLongLong(r.value);
+}
+
+static void many_fraction_trunc(Py_ssize_t count, char *const *in, const Py_ssize_t *steps, char *const *out) {
+    for (Py_ssize_t k = 0; k < count; k++) {
+        cellarcove_i64_answer r = cellarcove_fraction_trunc((cellarcove_fraction){AT(int64_t, 0), AT(int64_t, 1)});
+        TO(int64_t, 0) = r.value;
+        TO(uint8_t, 1) = (uint8_t)r.status;
+    }
+}
+
+static const form form_fraction_trunc = {"qq", "qB", true, one_fraction_trunc, many_fraction_trunc};
+
+static const call call_fraction_trunc = {"fraction_trunc", 1, {"a"}, "f",
+    (const bool[]){false, false}, (const bool[]){false, false}, &form_fraction_trunc, NULL, NULL};
+
+static PyObject *py_fraction_trunc(PyObject *module, PyObject *const *args, Py_ssize_t count, PyObject *names) {
+    (void)module;
+    return run(&call_fraction_trunc, args, count, names);
+}
+
+static PyObject *one_fraction_fract(const cell *a, uint32_t *status) {
+    cellarcove_fraction_answer r = cellarcove_fraction_fract((cellarcove_fraction){(int64_t)a[0].i, (int64_t)a[1].i});
+    if (r.status != CELLARCOVE_ANSWER) {
+        *status = r.status;
+        return NULL;
+    }
+    return fraction_of(r.value);
+}
+
+static void many_fraction_fract(Py_ssize_t count, char *const *in, const Py_ssize_t *steps, char *const *out) {
+    for (Py_ssize_t k = 0; k < count; k++) {
+        cellarcove_fraction_answer r = cellarcove_fraction_fract((cellarcove_fraction){AT(int64_t, 0), AT(int64_t, 1)});
+        TO(int64_t, 0) = r.value.num;
+        TO(int64_t, 1) = r.value.den;
+        TO(uint8_t, 2) = (uint8_t)r.status;
+    }
+}
+
+static const form form_fraction_fract = {"qq", "qqB", true, one_fraction_fract, many_fraction_fract};
+
+static const call call_fraction_fract = {"fraction_fract", 1, {"a"}, "f",
+    (const bool[]){false, false}, (const bool[]){false, false}, &form_fraction_fract, NULL, NULL};
+
+static PyObject *py_fraction_fract(PyObject *module, PyObject *const *args, Py_ssize_t count, PyObject *names) {
+    (void)module;
+    return run(&call_fraction_fract, args, count, names);
 }
 
 static PyObject *one_fraction_round(const cell *a, uint32_t *status) {
@@ -1812,6 +3122,60 @@ static PyObject *py_fraction_round(PyObject *module, PyObject *const *args, Py_s
     return run(&call_fraction_round, args, count, names);
 }
 
+static PyObject *one_fraction_floor_times(const cell *a, uint32_t *status) {
+    cellarcove_i64_answer r = cellarcove_fraction_floor_times((cellarcove_fraction){(int64_t)a[0].i, (int64_t)a[1].i}, (int64_t)a[2].i);
+    if (r.status != CELLARCOVE_ANSWER) {
+        *status = r.status;
+        return NULL;
+    }
+    return PyLong_FromLongLong(r.value);
+}
+
+static void many_fraction_floor_times(Py_ssize_t count, char *const *in, const Py_ssize_t *steps, char *const *out) {
+    for (Py_ssize_t k = 0; k < count; k++) {
+        cellarcove_i64_answer r = cellarcove_fraction_floor_times((cellarcove_fraction){AT(int64_t, 0), AT(int64_t, 1)}, AT(int64_t, 2));
+        TO(int64_t, 0) = r.value;
+        TO(uint8_t, 1) = (uint8_t)r.status;
+    }
+}
+
+static const form form_fraction_floor_times = {"qqq", "qB", true, one_fraction_floor_times, many_fraction_floor_times};
+
+static const call call_fraction_floor_times = {"fraction_floor_times", 2, {"a", "n"}, "fn",
+    (const bool[]){false, false, false}, (const bool[]){false, false, false}, &form_fraction_floor_times, NULL, NULL};
+
+static PyObject *py_fraction_floor_times(PyObject *module, PyObject *const *args, Py_ssize_t count, PyObject *names) {
+    (void)module;
+    return run(&call_fraction_floor_times, args, count, names);
+}
+
+static PyObject *one_fraction_ceil_times(const cell *a, uint32_t *status) {
+    cellarcove_i64_answer r = cellarcove_fraction_ceil_times((cellarcove_fraction){(int64_t)a[0].i, (int64_t)a[1].i}, (int64_t)a[2].i);
+    if (r.status != CELLARCOVE_ANSWER) {
+        *status = r.status;
+        return NULL;
+    }
+    return PyLong_FromLongLong(r.value);
+}
+
+static void many_fraction_ceil_times(Py_ssize_t count, char *const *in, const Py_ssize_t *steps, char *const *out) {
+    for (Py_ssize_t k = 0; k < count; k++) {
+        cellarcove_i64_answer r = cellarcove_fraction_ceil_times((cellarcove_fraction){AT(int64_t, 0), AT(int64_t, 1)}, AT(int64_t, 2));
+        TO(int64_t, 0) = r.value;
+        TO(uint8_t, 1) = (uint8_t)r.status;
+    }
+}
+
+static const form form_fraction_ceil_times = {"qqq", "qB", true, one_fraction_ceil_times, many_fraction_ceil_times};
+
+static const call call_fraction_ceil_times = {"fraction_ceil_times", 2, {"a", "n"}, "fn",
+    (const bool[]){false, false, false}, (const bool[]){false, false, false}, &form_fraction_ceil_times, NULL, NULL};
+
+static PyObject *py_fraction_ceil_times(PyObject *module, PyObject *const *args, Py_ssize_t count, PyObject *names) {
+    (void)module;
+    return run(&call_fraction_ceil_times, args, count, names);
+}
+
 static PyObject *one_fraction_round_times(const cell *a, uint32_t *status) {
     cellarcove_i64_answer r = cellarcove_fraction_round_times((cellarcove_fraction){(int64_t)a[0].i, (int64_t)a[1].i}, (int64_t)a[2].i);
     if (r.status != CELLARCOVE_ANSWER) {
@@ -1837,6 +3201,90 @@ static const call call_fraction_round_times = {"fraction_round_times", 2, {"a", 
 static PyObject *py_fraction_round_times(PyObject *module, PyObject *const *args, Py_ssize_t count, PyObject *names) {
     (void)module;
     return run(&call_fraction_round_times, args, count, names);
+}
+
+static PyObject *one_fraction_floor_to(const cell *a, uint32_t *status) {
+    cellarcove_fraction_answer r = cellarcove_fraction_floor_to((cellarcove_fraction){(int64_t)a[0].i, (int64_t)a[1].i}, (int64_t)a[2].i);
+    if (r.status != CELLARCOVE_ANSWER) {
+        *status = r.status;
+        return NULL;
+    }
+    return fraction_of(r.value);
+}
+
+static void many_fraction_floor_to(Py_ssize_t count, char *const *in, const Py_ssize_t *steps, char *const *out) {
+    for (Py_ssize_t k = 0; k < count; k++) {
+        cellarcove_fraction_answer r = cellarcove_fraction_floor_to((cellarcove_fraction){AT(int64_t, 0), AT(int64_t, 1)}, AT(int64_t, 2));
+        TO(int64_t, 0) = r.value.num;
+        TO(int64_t, 1) = r.value.den;
+        TO(uint8_t, 2) = (uint8_t)r.status;
+    }
+}
+
+static const form form_fraction_floor_to = {"qqq", "qqB", true, one_fraction_floor_to, many_fraction_floor_to};
+
+static const call call_fraction_floor_to = {"fraction_floor_to", 2, {"a", "parts"}, "fn",
+    (const bool[]){false, false, false}, (const bool[]){false, false, false}, &form_fraction_floor_to, NULL, NULL};
+
+static PyObject *py_fraction_floor_to(PyObject *module, PyObject *const *args, Py_ssize_t count, PyObject *names) {
+    (void)module;
+    return run(&call_fraction_floor_to, args, count, names);
+}
+
+static PyObject *one_fraction_ceil_to(const cell *a, uint32_t *status) {
+    cellarcove_fraction_answer r = cellarcove_fraction_ceil_to((cellarcove_fraction){(int64_t)a[0].i, (int64_t)a[1].i}, (int64_t)a[2].i);
+    if (r.status != CELLARCOVE_ANSWER) {
+        *status = r.status;
+        return NULL;
+    }
+    return fraction_of(r.value);
+}
+
+static void many_fraction_ceil_to(Py_ssize_t count, char *const *in, const Py_ssize_t *steps, char *const *out) {
+    for (Py_ssize_t k = 0; k < count; k++) {
+        cellarcove_fraction_answer r = cellarcove_fraction_ceil_to((cellarcove_fraction){AT(int64_t, 0), AT(int64_t, 1)}, AT(int64_t, 2));
+        TO(int64_t, 0) = r.value.num;
+        TO(int64_t, 1) = r.value.den;
+        TO(uint8_t, 2) = (uint8_t)r.status;
+    }
+}
+
+static const form form_fraction_ceil_to = {"qqq", "qqB", true, one_fraction_ceil_to, many_fraction_ceil_to};
+
+static const call call_fraction_ceil_to = {"fraction_ceil_to", 2, {"a", "parts"}, "fn",
+    (const bool[]){false, false, false}, (const bool[]){false, false, false}, &form_fraction_ceil_to, NULL, NULL};
+
+static PyObject *py_fraction_ceil_to(PyObject *module, PyObject *const *args, Py_ssize_t count, PyObject *names) {
+    (void)module;
+    return run(&call_fraction_ceil_to, args, count, names);
+}
+
+static PyObject *one_fraction_round_to(const cell *a, uint32_t *status) {
+    cellarcove_fraction_answer r = cellarcove_fraction_round_to((cellarcove_fraction){(int64_t)a[0].i, (int64_t)a[1].i}, (int64_t)a[2].i);
+    if (r.status != CELLARCOVE_ANSWER) {
+        *status = r.status;
+        return NULL;
+    }
+    return fraction_of(r.value);
+}
+
+static void many_fraction_round_to(Py_ssize_t count, char *const *in, const Py_ssize_t *steps, char *const *out) {
+    for (Py_ssize_t k = 0; k < count; k++) {
+        cellarcove_fraction_answer r = cellarcove_fraction_round_to((cellarcove_fraction){AT(int64_t, 0), AT(int64_t, 1)}, AT(int64_t, 2));
+        TO(int64_t, 0) = r.value.num;
+        TO(int64_t, 1) = r.value.den;
+        TO(uint8_t, 2) = (uint8_t)r.status;
+    }
+}
+
+static const form form_fraction_round_to = {"qqq", "qqB", true, one_fraction_round_to, many_fraction_round_to};
+
+static const call call_fraction_round_to = {"fraction_round_to", 2, {"a", "parts"}, "fn",
+    (const bool[]){false, false, false}, (const bool[]){false, false, false}, &form_fraction_round_to, NULL, NULL};
+
+static PyObject *py_fraction_round_to(PyObject *module, PyObject *const *args, Py_ssize_t count, PyObject *names) {
+    (void)module;
+    return run(&call_fraction_round_to, args, count, names);
 }
 
 static PyObject *one_date_from_day(const cell *a, uint32_t *status) {
@@ -2003,6 +3451,62 @@ static PyObject *py_months_between(PyObject *module, PyObject *const *args, Py_s
     return run(&call_months_between, args, count, names);
 }
 
+static PyObject *one_years_between(const cell *a, uint32_t *status) {
+    cellarcove_i64_answer r = cellarcove_years_between((cellarcove_date){(int64_t)a[0].i, (uint8_t)a[1].u, (uint8_t)a[2].u}, (cellarcove_date){(int64_t)a[3].i, (uint8_t)a[4].u, (uint8_t)a[5].u});
+    if (r.status != CELLARCOVE_ANSWER) {
+        *status = r.status;
+        return NULL;
+    }
+    return PyLong_FromLongLong(r.value);
+}
+
+static void many_years_between(Py_ssize_t count, char *const *in, const Py_ssize_t *steps, char *const *out) {
+    for (Py_ssize_t k = 0; k < count; k++) {
+        cellarcove_i64_answer r = cellarcove_years_between((cellarcove_date){AT(int64_t, 0), AT(uint8_t, 1), AT(uint8_t, 2)}, (cellarcove_date){AT(int64_t, 3), AT(uint8_t, 4), AT(uint8_t, 5)});
+        TO(int64_t, 0) = r.value;
+        TO(uint8_t, 1) = (uint8_t)r.status;
+    }
+}
+
+static const form form_years_between = {"qBBqBB", "qB", true, one_years_between, many_years_between};
+
+static const call call_years_between = {"years_between", 2, {"start", "end"}, "dd",
+    (const bool[]){false, false, false, false, false, false}, (const bool[]){false, false, false, false, false, false}, &form_years_between, NULL, NULL};
+
+static PyObject *py_years_between(PyObject *module, PyObject *const *args, Py_ssize_t count, PyObject *names) {
+    (void)module;
+    return run(&call_years_between, args, count, names);
+}
+
+static PyObject *one_date_from_year_day(const cell *a, uint32_t *status) {
+    cellarcove_date_answer r = cellarcove_date_from_year_day((int64_t)a[0].i, (uint16_t)a[1].u);
+    if (r.status != CELLARCOVE_ANSWER) {
+        *status = r.status;
+        return NULL;
+    }
+    return date_of(r.date);
+}
+
+static void many_date_from_year_day(Py_ssize_t count, char *const *in, const Py_ssize_t *steps, char *const *out) {
+    for (Py_ssize_t k = 0; k < count; k++) {
+        cellarcove_date_answer r = cellarcove_date_from_year_day(AT(int64_t, 0), AT(uint16_t, 1));
+        TO(int64_t, 0) = r.date.year;
+        TO(uint8_t, 1) = r.date.month;
+        TO(uint8_t, 2) = r.date.day_of_month;
+        TO(uint8_t, 3) = (uint8_t)r.status;
+    }
+}
+
+static const form form_date_from_year_day = {"qH", "qBBB", true, one_date_from_year_day, many_date_from_year_day};
+
+static const call call_date_from_year_day = {"date_from_year_day", 2, {"year", "day"}, "nn",
+    (const bool[]){false, false}, (const bool[]){false, false}, &form_date_from_year_day, NULL, NULL};
+
+static PyObject *py_date_from_year_day(PyObject *module, PyObject *const *args, Py_ssize_t count, PyObject *names) {
+    (void)module;
+    return run(&call_date_from_year_day, args, count, names);
+}
+
 static PyObject *one_iso_week(const cell *a, uint32_t *status) {
     cellarcove_iso_week_answer r = cellarcove_iso_week((cellarcove_date){(int64_t)a[0].i, (uint8_t)a[1].u, (uint8_t)a[2].u});
     if (r.status != CELLARCOVE_ANSWER) {
@@ -2108,6 +3612,87 @@ static PyObject *py_weekday(PyObject *module, PyObject *const *args, Py_ssize_t 
     return run(&call_weekday, args, count, names);
 }
 
+static PyObject *one_weekday_of_date(const cell *a, uint32_t *status) {
+    cellarcove_u64_answer r = cellarcove_weekday_of_date((cellarcove_date){(int64_t)a[0].i, (uint8_t)a[1].u, (uint8_t)a[2].u});
+    if (r.status != CELLARCOVE_ANSWER) {
+        *status = r.status;
+        return NULL;
+    }
+    return PyLong_FromUnsignedLongLong(r.value);
+}
+
+static void many_weekday_of_date(Py_ssize_t count, char *const *in, const Py_ssize_t *steps, char *const *out) {
+    for (Py_ssize_t k = 0; k < count; k++) {
+        cellarcove_u64_answer r = cellarcove_weekday_of_date((cellarcove_date){AT(int64_t, 0), AT(uint8_t, 1), AT(uint8_t, 2)});
+        TO(uint64_t, 0) = r.value;
+        TO(uint8_t, 1) = (uint8_t)r.status;
+    }
+}
+
+static const form form_weekday_of_date = {"qBB", "QB", true, one_weekday_of_date, many_weekday_of_date};
+
+static const call call_weekday_of_date = {"weekday_of_date", 1, {"date"}, "d",
+    (const bool[]){false, false, false}, (const bool[]){false, false, false}, &form_weekday_of_date, NULL, NULL};
+
+static PyObject *py_weekday_of_date(PyObject *module, PyObject *const *args, Py_ssize_t count, PyObject *names) {
+    (void)module;
+    return run(&call_weekday_of_date, args, count, names);
+}
+
+static PyObject *one_first_weekday_on_or_after(const cell *a, uint32_t *status) {
+    cellarcove_i64_answer r = cellarcove_first_weekday_on_or_after((int64_t)a[0].i, (uint8_t)a[1].u);
+    if (r.status != CELLARCOVE_ANSWER) {
+        *status = r.status;
+        return NULL;
+    }
+    return PyLong_FromLongLong(r.value);
+}
+
+static void many_first_weekday_on_or_after(Py_ssize_t count, char *const *in, const Py_ssize_t *steps, char *const *out) {
+    for (Py_ssize_t k = 0; k < count; k++) {
+        cellarcove_i64_answer r = cellarcove_first_weekday_on_or_after(AT(int64_t, 0), AT(uint8_t, 1));
+        TO(int64_t, 0) = r.value;
+        TO(uint8_t, 1) = (uint8_t)r.status;
+    }
+}
+
+static const form form_first_weekday_on_or_after = {"qB", "qB", true, one_first_weekday_on_or_after, many_first_weekday_on_or_after};
+
+static const call call_first_weekday_on_or_after = {"first_weekday_on_or_after", 2, {"day", "weekday"}, "nw",
+    (const bool[]){false, false}, (const bool[]){false, false}, &form_first_weekday_on_or_after, NULL, NULL};
+
+static PyObject *py_first_weekday_on_or_after(PyObject *module, PyObject *const *args, Py_ssize_t count, PyObject *names) {
+    (void)module;
+    return run(&call_first_weekday_on_or_after, args, count, names);
+}
+
+static PyObject *one_last_weekday_on_or_before(const cell *a, uint32_t *status) {
+    cellarcove_i64_answer r = cellarcove_last_weekday_on_or_before((int64_t)a[0].i, (uint8_t)a[1].u);
+    if (r.status != CELLARCOVE_ANSWER) {
+        *status = r.status;
+        return NULL;
+    }
+    return PyLong_FromLongLong(r.value);
+}
+
+static void many_last_weekday_on_or_before(Py_ssize_t count, char *const *in, const Py_ssize_t *steps, char *const *out) {
+    for (Py_ssize_t k = 0; k < count; k++) {
+        cellarcove_i64_answer r = cellarcove_last_weekday_on_or_before(AT(int64_t, 0), AT(uint8_t, 1));
+        TO(int64_t, 0) = r.value;
+        TO(uint8_t, 1) = (uint8_t)r.status;
+    }
+}
+
+static const form form_last_weekday_on_or_before = {"qB", "qB", true, one_last_weekday_on_or_before, many_last_weekday_on_or_before};
+
+static const call call_last_weekday_on_or_before = {"last_weekday_on_or_before", 2, {"day", "weekday"}, "nw",
+    (const bool[]){false, false}, (const bool[]){false, false}, &form_last_weekday_on_or_before, NULL, NULL};
+
+static PyObject *py_last_weekday_on_or_before(PyObject *module, PyObject *const *args, Py_ssize_t count, PyObject *names) {
+    (void)module;
+    return run(&call_last_weekday_on_or_before, args, count, names);
+}
+
 static PyObject *one_nth_weekday_of_month(const cell *a, uint32_t *status) {
     cellarcove_date_answer r = cellarcove_nth_weekday_of_month((int64_t)a[0].i, (uint8_t)a[1].u, (uint8_t)a[2].u, (uint8_t)a[3].u);
     if (r.status != CELLARCOVE_ANSWER) {
@@ -2187,6 +3772,29 @@ static const call call_is_leap_year = {"is_leap_year", 1, {"year"}, "n",
 static PyObject *py_is_leap_year(PyObject *module, PyObject *const *args, Py_ssize_t count, PyObject *names) {
     (void)module;
     return run(&call_is_leap_year, args, count, names);
+}
+
+static PyObject *one_days_in_year(const cell *a, uint32_t *status) {
+    uint16_t r = cellarcove_days_in_year((int64_t)a[0].i);
+    (void)status;
+    return PyLong_FromLong(r);
+}
+
+static void many_days_in_year(Py_ssize_t count, char *const *in, const Py_ssize_t *steps, char *const *out) {
+    for (Py_ssize_t k = 0; k < count; k++) {
+        uint16_t r = cellarcove_days_in_year(AT(int64_t, 0));
+        TO(uint16_t, 0) = r;
+    }
+}
+
+static const form form_days_in_year = {"q", "H", false, one_days_in_year, many_days_in_year};
+
+static const call call_days_in_year = {"days_in_year", 1, {"year"}, "n",
+    (const bool[]){false}, (const bool[]){false}, &form_days_in_year, NULL, NULL};
+
+static PyObject *py_days_in_year(PyObject *module, PyObject *const *args, Py_ssize_t count, PyObject *names) {
+    (void)module;
+    return run(&call_days_in_year, args, count, names);
 }
 
 static PyObject *one_weeks_in_year(const cell *a, uint32_t *status) {
@@ -2303,7 +3911,8 @@ static PyMethodDef methods[] = {
     "\n"
     "The quotient rounded toward 0, and its remainder, as `/` and `%` of C.\n"
     "\n"
-    "Raises `DivisionByZero` if `y` is 0. Raises `NotFitting` if the quotient does not fit.\n"
+    "Raises `DivisionByZero` if `y` is 0. Raises `NotFitting` if the quotient does not fit,\n"
+    "which takes a negative number.\n"
     "\n"
     ">>> div_rem(-8, 3)\n"
     "(-2, -2)\n"},
@@ -2313,7 +3922,8 @@ static PyMethodDef methods[] = {
     "\n"
     "The quotient rounded down.\n"
     "\n"
-    "Raises `DivisionByZero` if `y` is 0. Raises `NotFitting` if the quotient does not fit.\n"
+    "Raises `DivisionByZero` if `y` is 0. Raises `NotFitting` if the quotient does not fit,\n"
+    "which takes a negative number.\n"
     "\n"
     ">>> div_floor(-8, 3)\n"
     "-3\n"},
@@ -2323,10 +3933,33 @@ static PyMethodDef methods[] = {
     "\n"
     "The quotient rounded up.\n"
     "\n"
-    "Raises `DivisionByZero` if `y` is 0. Raises `NotFitting` if the quotient does not fit.\n"
+    "Raises `DivisionByZero` if `y` is 0. Raises `NotFitting` if the quotient does not fit,\n"
+    "which takes a negative number.\n"
     "\n"
     ">>> div_ceil(8, 3)\n"
     "3\n"},
+    {"div_round", (PyCFunction)(void (*)(void))py_div_round, METH_FASTCALL | METH_KEYWORDS,
+    "div_round($module, /, x, y, *, out=None)\n"
+    "--\n"
+    "\n"
+    "The quotient rounded to the nearest integer, and a half away from 0.\n"
+    "\n"
+    "Raises `DivisionByZero` if `y` is 0. Raises `NotFitting` if the quotient does not fit,\n"
+    "which takes a negative number.\n"
+    "\n"
+    ">>> div_round(-5, 2)\n"
+    "-3\n"},
+    {"div_round_even", (PyCFunction)(void (*)(void))py_div_round_even, METH_FASTCALL | METH_KEYWORDS,
+    "div_round_even($module, /, x, y, *, out=None)\n"
+    "--\n"
+    "\n"
+    "The quotient rounded to the nearest integer, and a half to the even one.\n"
+    "\n"
+    "Raises `DivisionByZero` if `y` is 0. Raises `NotFitting` if the quotient does not fit,\n"
+    "which takes a negative number.\n"
+    "\n"
+    ">>> div_round_even(-5, 2)\n"
+    "-2\n"},
     {"mod_floor", (PyCFunction)(void (*)(void))py_mod_floor, METH_FASTCALL | METH_KEYWORDS,
     "mod_floor($module, /, x, y, *, out=None)\n"
     "--\n"
@@ -2344,7 +3977,8 @@ static PyMethodDef methods[] = {
     "\n"
     "The quotient rounded down, and its remainder.\n"
     "\n"
-    "Raises `DivisionByZero` if `y` is 0. Raises `NotFitting` if the quotient does not fit.\n"
+    "Raises `DivisionByZero` if `y` is 0. Raises `NotFitting` if the quotient does not fit,\n"
+    "which takes a negative number.\n"
     "\n"
     ">>> div_mod_floor(-8, 3)\n"
     "(-3, 1)\n"},
@@ -2377,7 +4011,8 @@ static PyMethodDef methods[] = {
     "The quotient rounded down, times `y`: if `y` is positive, the largest multiple of it\n"
     "that is at most `x`.\n"
     "\n"
-    "Raises `DivisionByZero` if `y` is 0. Raises `NotFitting` if the multiple does not fit.\n"
+    "Raises `DivisionByZero` if `y` is 0. Raises `NotFitting` if the multiple does not fit,\n"
+    "which takes a negative number.\n"
     "\n"
     ">>> prev_multiple_of(23, 8)\n"
     "16\n"},
@@ -2399,7 +4034,7 @@ static PyMethodDef methods[] = {
     "\n"
     "The greatest common divisor, which is not negative.\n"
     "\n"
-    "Raises `NotFitting` if it is 2^63.\n"
+    "Raises `NotFitting` if it is 2^63, which takes a negative number.\n"
     "\n"
     "It takes any count of numbers.\n"
     "\n"
@@ -2438,13 +4073,32 @@ static PyMethodDef methods[] = {
     "\n"
     ">>> extended_gcd(240, 46)\n"
     "ExtendedGcd(gcd=2, x=-9, y=47)\n"},
+    {"is_coprime", (PyCFunction)(void (*)(void))py_is_coprime, METH_FASTCALL | METH_KEYWORDS,
+    "is_coprime($module, /, x, y, *, out=None)\n"
+    "--\n"
+    "\n"
+    "Whether the greatest common divisor of the numbers is 1.\n"
+    "\n"
+    ">>> is_coprime(8, 15)\n"
+    "True\n"
+    ">>> is_coprime(8, 6)\n"
+    "False\n"},
+    {"reduced", (PyCFunction)(void (*)(void))py_reduced, METH_FASTCALL | METH_KEYWORDS,
+    "reduced($module, /, x, y, *, out=None)\n"
+    "--\n"
+    "\n"
+    "Both numbers divided by their greatest common divisor, with their signs.\n"
+    "\n"
+    ">>> reduced(-6, 4)\n"
+    "(-3, 2)\n"},
     {"gcd_of", py_gcd_of, METH_O,
     "gcd_of($module, numbers, /)\n"
     "--\n"
     "\n"
     "The greatest common divisor of the numbers, which is not negative.\n"
     "\n"
-    "Raises `NotFitting` if it is 2^63, as that of -2^63 and 0.\n"
+    "Raises `NotFitting` if it is 2^63, as that of -2^63 and 0, which takes a negative\n"
+    "number.\n"
     "\n"
     ">>> gcd_of([-12, 18, 8])\n"
     "2\n"
@@ -2486,7 +4140,7 @@ static PyMethodDef methods[] = {
     "\n"
     "The square root rounded down.\n"
     "\n"
-    "Raises `Refused` with `OUTSIDE` if `x` is negative.\n"
+    "Raises `Refused` with `OUTSIDE` if `x` is negative, which takes a negative number.\n"
     "\n"
     ">>> sqrt(99)\n"
     "9\n"},
@@ -2542,14 +4196,34 @@ static PyMethodDef methods[] = {
     "True\n"
     ">>> is_perfect_power(72)\n"
     "False\n"},
+    {"sqrt_rem", (PyCFunction)(void (*)(void))py_sqrt_rem, METH_FASTCALL | METH_KEYWORDS,
+    "sqrt_rem($module, /, x, *, out=None)\n"
+    "--\n"
+    "\n"
+    "The square root rounded down, and what is left: `x` minus the square of the root.\n"
+    "\n"
+    "Raises `Refused` with `OUTSIDE` if `x` is negative, which takes a negative number.\n"
+    "\n"
+    ">>> sqrt_rem(99)\n"
+    "(9, 18)\n"},
+    {"ilog", (PyCFunction)(void (*)(void))py_ilog, METH_FASTCALL | METH_KEYWORDS,
+    "ilog($module, /, x, base, *, out=None)\n"
+    "--\n"
+    "\n"
+    "The logarithm rounded down: the largest degree of a power of `base` that is at most `x`.\n"
+    "\n"
+    "Raises `Refused` with `OUTSIDE` if `x` is not positive or `base` is below 2.\n"
+    "\n"
+    ">>> ilog(1000, 10)\n"
+    "3\n"},
     {"binomial", (PyCFunction)(void (*)(void))py_binomial, METH_FASTCALL | METH_KEYWORDS,
     "binomial($module, /, n, k, *, out=None)\n"
     "--\n"
     "\n"
     "How many ways there are to choose `k` of `n`, the binomial coefficient.\n"
     "\n"
-    "Raises `Refused` with `OUTSIDE` if a number is negative. Raises `NotFitting` if the\n"
-    "coefficient does not fit.\n"
+    "Raises `Refused` with `OUTSIDE` if a number is negative, which takes a negative number.\n"
+    "Raises `NotFitting` if the coefficient does not fit.\n"
     "\n"
     ">>> binomial(11, 3)\n"
     "165\n"
@@ -2568,6 +4242,31 @@ static PyMethodDef methods[] = {
     "30\n"
     ">>> multinomial([])\n"
     "1\n"},
+    {"factorial", (PyCFunction)(void (*)(void))py_factorial, METH_FASTCALL | METH_KEYWORDS,
+    "factorial($module, /, n, *, out=None)\n"
+    "--\n"
+    "\n"
+    "The factorial of `n`, the product of the numbers from 1 to `n`.\n"
+    "\n"
+    "Raises `Refused` with `OUTSIDE` if `n` is negative, which takes a negative number.\n"
+    "Raises `NotFitting` if the factorial does not fit.\n"
+    "\n"
+    ">>> factorial(5)\n"
+    "120\n"},
+    {"falling", (PyCFunction)(void (*)(void))py_falling, METH_FASTCALL | METH_KEYWORDS,
+    "falling($module, /, n, k, *, out=None)\n"
+    "--\n"
+    "\n"
+    "The falling factorial, the product of `k` factors, of which the first is `n` and each is\n"
+    "1 less than the one before.\n"
+    "\n"
+    "Raises `Refused` with `OUTSIDE` if a number is negative, which takes a negative number.\n"
+    "Raises `NotFitting` if the product does not fit.\n"
+    "\n"
+    ">>> falling(8, 3)\n"
+    "336\n"
+    ">>> falling(2, 3)\n"
+    "0\n"},
     {"rank", (PyCFunction)(void (*)(void))py_rank, METH_FASTCALL,
     "rank($module, choice, n, /)\n"
     "--\n"
@@ -2591,6 +4290,132 @@ static PyMethodDef methods[] = {
     "\n"
     ">>> choice_of_rank(2, 5, 3)\n"
     "(0, 2, 3)\n"},
+    {"shares", (PyCFunction)(void (*)(void))py_shares, METH_FASTCALL,
+    "shares($module, amount, weights, /)\n"
+    "--\n"
+    "\n"
+    "The shares of the amount in proportion to the weights, as a tuple. Together they are the\n"
+    "amount. The first shares together are their exact share rounded up, and those of a\n"
+    "negative amount are the shares of its magnitude with its sign.\n"
+    "\n"
+    "Raises `Refused` with `OUTSIDE` if there is not one part for each weight, or if the\n"
+    "weights are all 0.\n"
+    "\n"
+    ">>> shares(100, [1, 1, 1])\n"
+    "(34, 33, 33)\n"
+    ">>> shares(-100, [1, 1, 1])\n"
+    "(-34, -33, -33)\n"},
+    {"shares_by_largest_remainder", (PyCFunction)(void (*)(void))py_shares_by_largest_remainder, METH_FASTCALL,
+    "shares_by_largest_remainder($module, amount, weights, /)\n"
+    "--\n"
+    "\n"
+    "The shares of the amount by largest remainders, as a tuple: each is the exact share\n"
+    "rounded down, or 1 more for the weights with the largest remainders, and of equal ones\n"
+    "the first.\n"
+    "\n"
+    "Raises `Refused` with `OUTSIDE` if there is not one part for each weight, or if the\n"
+    "weights are all 0.\n"
+    "\n"
+    ">>> shares_by_largest_remainder(2, [1, 1, 98])\n"
+    "(0, 0, 2)\n"
+    ">>> shares_by_largest_remainder(1, [1, 1])\n"
+    "(1, 0)\n"},
+    {"pages", (PyCFunction)(void (*)(void))py_pages, METH_FASTCALL | METH_KEYWORDS,
+    "pages($module, /, items, page_size, *, out=None)\n"
+    "--\n"
+    "\n"
+    "The smallest number of pages that hold all items.\n"
+    "\n"
+    "Raises `Refused` with `OUTSIDE` if `page_size` is not positive.\n"
+    "\n"
+    ">>> pages(10, 4)\n"
+    "3\n"},
+    {"place_of", (PyCFunction)(void (*)(void))py_place_of, METH_FASTCALL | METH_KEYWORDS,
+    "place_of($module, /, item, page_size, *, out=None)\n"
+    "--\n"
+    "\n"
+    "The page of an item, and its place on the page.\n"
+    "\n"
+    "Raises `Refused` with `OUTSIDE` if `page_size` is not positive.\n"
+    "\n"
+    ">>> place_of(-1, 4)\n"
+    "(-1, 3)\n"},
+    {"item_at", (PyCFunction)(void (*)(void))py_item_at, METH_FASTCALL | METH_KEYWORDS,
+    "item_at($module, /, page, place, page_size, *, out=None)\n"
+    "--\n"
+    "\n"
+    "The item at a place of a page.\n"
+    "\n"
+    "Raises `Refused` with `OUTSIDE` if `place` is negative or not below `page_size`. Raises\n"
+    "`NotFitting` if the item does not fit.\n"
+    "\n"
+    ">>> item_at(-1, 3, 4)\n"
+    "-1\n"},
+    {"range_of_page", (PyCFunction)(void (*)(void))py_range_of_page, METH_FASTCALL | METH_KEYWORDS,
+    "range_of_page($module, /, page, page_size, items, *, out=None)\n"
+    "--\n"
+    "\n"
+    "The first item of a page and its end, which is one past its last item, if there are\n"
+    "`items` items. Both are `items` if no item is on the page.\n"
+    "\n"
+    "Raises `Refused` with `OUTSIDE` if `page_size` is not positive or `items` is negative.\n"
+    "\n"
+    ">>> range_of_page(2, 4, 10)\n"
+    "(8, 10)\n"},
+    {"range_of_part", (PyCFunction)(void (*)(void))py_range_of_part, METH_FASTCALL | METH_KEYWORDS,
+    "range_of_part($module, /, part, parts, items, *, out=None)\n"
+    "--\n"
+    "\n"
+    "The first item of a part and its end, which is one past its last item, if `items` items\n"
+    "are split into `parts` parts. Each part is as large as the part before it, or smaller by\n"
+    "1.\n"
+    "\n"
+    "Raises `Refused` with `OUTSIDE` if `part` or `items` is negative, or `part` is not below\n"
+    "`parts`.\n"
+    "\n"
+    ">>> range_of_part(1, 3, 10)\n"
+    "(4, 7)\n"},
+    {"align_up", (PyCFunction)(void (*)(void))py_align_up, METH_FASTCALL | METH_KEYWORDS,
+    "align_up($module, /, offset, alignment, *, out=None)\n"
+    "--\n"
+    "\n"
+    "The offset rounded up to a multiple of the alignment.\n"
+    "\n"
+    "Raises `Refused` with `OUTSIDE` if `alignment` is not positive. Raises `NotFitting` if\n"
+    "the multiple does not fit.\n"
+    "\n"
+    ">>> align_up(13, 8)\n"
+    "16\n"},
+    {"padding", (PyCFunction)(void (*)(void))py_padding, METH_FASTCALL | METH_KEYWORDS,
+    "padding($module, /, offset, alignment, *, out=None)\n"
+    "--\n"
+    "\n"
+    "How many bytes to add to the offset to align it.\n"
+    "\n"
+    "Raises `Refused` with `OUTSIDE` if `alignment` is not positive.\n"
+    "\n"
+    ">>> padding(13, 8)\n"
+    "3\n"},
+    {"residue", (PyCFunction)(void (*)(void))py_residue, METH_FASTCALL | METH_KEYWORDS,
+    "residue($module, /, a, m, *, out=None)\n"
+    "--\n"
+    "\n"
+    "The residue of `a` modulo `m`, from 0 to `m` - 1.\n"
+    "\n"
+    "Raises `Refused` with `BAD_MODULUS` if `m` is not positive.\n"
+    "\n"
+    ">>> residue(-3, 7)\n"
+    "4\n"},
+    {"negation_modulo", (PyCFunction)(void (*)(void))py_negation_modulo, METH_FASTCALL | METH_KEYWORDS,
+    "negation_modulo($module, /, a, m, *, out=None)\n"
+    "--\n"
+    "\n"
+    "`-a` modulo `m`, from 0 to `m` - 1.\n"
+    "\n"
+    "Raises `Refused` with `BAD_MODULUS` if `m` is not positive.\n"
+    "\n"
+    ">>> negation_modulo(3, 7)\n"
+    "4\n"},
     {"sum_modulo", (PyCFunction)(void (*)(void))py_sum_modulo, METH_FASTCALL | METH_KEYWORDS,
     "sum_modulo($module, /, a, b, m, *, out=None)\n"
     "--\n"
@@ -2736,6 +4561,153 @@ static PyMethodDef methods[] = {
     "\n"
     ">>> next_common_solution_of(10, [(1, 4), (3, 6), (0, 7)])\n"
     "21\n"},
+    {"next_meeting", (PyCFunction)(void (*)(void))py_next_meeting, METH_FASTCALL | METH_KEYWORDS,
+    "next_meeting($module, /, now, a, p, b, q, *, out=None)\n"
+    "--\n"
+    "\n"
+    "The first time, not before `now`, that is in two schedules. One has the times `a`, `a +\n"
+    "p`, `a + 2 * p` and so on, and the other those of `b` and `q`.\n"
+    "\n"
+    "Raises `Refused` with `BAD_MODULUS` if `p` or `q` is not positive. Raises `Refused` with\n"
+    "`NO_SOLUTION` if there is no such time. Raises `NotFitting` if it does not fit.\n"
+    "\n"
+    ">>> next_meeting(10, 1, 4, 3, 6)\n"
+    "21\n"},
+    {"count_times", (PyCFunction)(void (*)(void))py_count_times, METH_FASTCALL | METH_KEYWORDS,
+    "count_times($module, /, start, end, first, period, *, out=None)\n"
+    "--\n"
+    "\n"
+    "How many times of a schedule are in the range of numbers between `start` and `end`, and\n"
+    "at them. The schedule has the times `first`, `first + period` and so on.\n"
+    "\n"
+    "Raises `Refused` with `BAD_MODULUS` if `period` is not positive. Raises `NotFitting` if\n"
+    "the count does not fit.\n"
+    "\n"
+    ">>> count_times(4, 15, 3, 6)\n"
+    "2\n"},
+    {"fraction_new", (PyCFunction)(void (*)(void))py_fraction_new, METH_FASTCALL | METH_KEYWORDS,
+    "fraction_new($module, /, num, den, *, out=None)\n"
+    "--\n"
+    "\n"
+    "The fraction `num / den`, reduced.\n"
+    "\n"
+    "Raises `DivisionByZero` if `den` is 0. Raises `NotFitting` if a part of the reduced\n"
+    "fraction does not fit.\n"
+    "\n"
+    ">>> fraction_new(6, -4)\n"
+    "Fraction(-3, 2)\n"},
+    {"fraction_add", (PyCFunction)(void (*)(void))py_fraction_add, METH_FASTCALL | METH_KEYWORDS,
+    "fraction_add($module, /, a, b, *, out=None)\n"
+    "--\n"
+    "\n"
+    "The sum.\n"
+    "\n"
+    "Raises `DivisionByZero` if a denominator is 0. Raises `NotFitting` if a part of an\n"
+    "argument, reduced, does not fit, or a part of the result.\n"
+    "\n"
+    ">>> fraction_add((1, 2), (1, 3))\n"
+    "Fraction(5, 6)\n"},
+    {"fraction_sub", (PyCFunction)(void (*)(void))py_fraction_sub, METH_FASTCALL | METH_KEYWORDS,
+    "fraction_sub($module, /, a, b, *, out=None)\n"
+    "--\n"
+    "\n"
+    "The difference.\n"
+    "\n"
+    "Raises `DivisionByZero` if a denominator is 0. Raises `NotFitting` if a part of an\n"
+    "argument, reduced, does not fit, or a part of the result.\n"
+    "\n"
+    ">>> fraction_sub((1, 2), (1, 3))\n"
+    "Fraction(1, 6)\n"},
+    {"fraction_mul", (PyCFunction)(void (*)(void))py_fraction_mul, METH_FASTCALL | METH_KEYWORDS,
+    "fraction_mul($module, /, a, b, *, out=None)\n"
+    "--\n"
+    "\n"
+    "The product.\n"
+    "\n"
+    "Raises `DivisionByZero` if a denominator is 0. Raises `NotFitting` if a part of an\n"
+    "argument, reduced, does not fit, or a part of the result.\n"
+    "\n"
+    ">>> fraction_mul((2, 3), (3, 4))\n"
+    "Fraction(1, 2)\n"},
+    {"fraction_div", (PyCFunction)(void (*)(void))py_fraction_div, METH_FASTCALL | METH_KEYWORDS,
+    "fraction_div($module, /, a, b, *, out=None)\n"
+    "--\n"
+    "\n"
+    "The quotient.\n"
+    "\n"
+    "Raises `DivisionByZero` if a denominator is 0, and if `b` is 0. Raises `NotFitting` if a\n"
+    "part of an argument, reduced, does not fit, or a part of the result.\n"
+    "\n"
+    ">>> fraction_div((-1, 2), (-3, 4))\n"
+    "Fraction(2, 3)\n"},
+    {"fraction_recip", (PyCFunction)(void (*)(void))py_fraction_recip, METH_FASTCALL | METH_KEYWORDS,
+    "fraction_recip($module, /, a, *, out=None)\n"
+    "--\n"
+    "\n"
+    "The reciprocal.\n"
+    "\n"
+    "Raises `DivisionByZero` if the denominator is 0, and if `a` is 0. Raises `NotFitting` if\n"
+    "a part of the argument, reduced, does not fit, or a part of the result.\n"
+    "\n"
+    ">>> fraction_recip((-2, 3))\n"
+    "Fraction(-3, 2)\n"},
+    {"fraction_neg", (PyCFunction)(void (*)(void))py_fraction_neg, METH_FASTCALL | METH_KEYWORDS,
+    "fraction_neg($module, /, a, *, out=None)\n"
+    "--\n"
+    "\n"
+    "The negation.\n"
+    "\n"
+    "Raises `DivisionByZero` if the denominator is 0. Raises `NotFitting` if a part of the\n"
+    "argument, reduced, does not fit, or a part of the result.\n"
+    "\n"
+    ">>> fraction_neg((-3, 2))\n"
+    "Fraction(3, 2)\n"},
+    {"fraction_abs", (PyCFunction)(void (*)(void))py_fraction_abs, METH_FASTCALL | METH_KEYWORDS,
+    "fraction_abs($module, /, a, *, out=None)\n"
+    "--\n"
+    "\n"
+    "The magnitude.\n"
+    "\n"
+    "Raises `DivisionByZero` if the denominator is 0. Raises `NotFitting` if a part of the\n"
+    "argument, reduced, does not fit, or a part of the result.\n"
+    "\n"
+    ">>> fraction_abs((-3, 2))\n"
+    "Fraction(3, 2)\n"},
+    {"fraction_pow", (PyCFunction)(void (*)(void))py_fraction_pow, METH_FASTCALL | METH_KEYWORDS,
+    "fraction_pow($module, /, a, exponent, *, out=None)\n"
+    "--\n"
+    "\n"
+    "The power, which for a negative exponent is that of the reciprocal.\n"
+    "\n"
+    "Raises `DivisionByZero` if the denominator is 0, and if `a` is 0 and the exponent is\n"
+    "negative. Raises `NotFitting` if a part of the argument, reduced, does not fit, or a\n"
+    "part of the result.\n"
+    "\n"
+    ">>> fraction_pow((2, 3), -2)\n"
+    "Fraction(9, 4)\n"},
+    {"fraction_times", (PyCFunction)(void (*)(void))py_fraction_times, METH_FASTCALL | METH_KEYWORDS,
+    "fraction_times($module, /, a, n, d, *, out=None)\n"
+    "--\n"
+    "\n"
+    "The fraction times `n / d`.\n"
+    "\n"
+    "Raises `DivisionByZero` if the denominator is 0, and if `d` is 0. Raises `NotFitting` if\n"
+    "a part of the argument, reduced, does not fit, or a part of the result.\n"
+    "\n"
+    ">>> fraction_times((2, 3), 9, 4)\n"
+    "Fraction(3, 2)\n"},
+    {"fraction_cmp", (PyCFunction)(void (*)(void))py_fraction_cmp, METH_FASTCALL | METH_KEYWORDS,
+    "fraction_cmp($module, /, a, b, *, out=None)\n"
+    "--\n"
+    "\n"
+    "The order of two fractions: -1, 0 or 1 if `a` is less than, equal to or greater than\n"
+    "`b`.\n"
+    "\n"
+    "Raises `DivisionByZero` if a denominator is 0. Raises `NotFitting` if a part of an\n"
+    "argument, reduced, does not fit.\n"
+    "\n"
+    ">>> fraction_cmp((1, 2), (1, 3))\n"
+    "1\n"},
     {"limit_denominator", (PyCFunction)(void (*)(void))py_limit_denominator, METH_FASTCALL | METH_KEYWORDS,
     "limit_denominator($module, /, a, max_denominator, *, out=None)\n"
     "--\n"
@@ -2748,6 +4720,50 @@ static PyMethodDef methods[] = {
     "\n"
     ">>> limit_denominator((3, 10), 5)\n"
     "Fraction(1, 3)\n"},
+    {"fraction_floor", (PyCFunction)(void (*)(void))py_fraction_floor, METH_FASTCALL | METH_KEYWORDS,
+    "fraction_floor($module, /, a, *, out=None)\n"
+    "--\n"
+    "\n"
+    "The fraction rounded down.\n"
+    "\n"
+    "Raises `DivisionByZero` if the denominator is 0. Raises `NotFitting` if a part of the\n"
+    "reduced fraction does not fit.\n"
+    "\n"
+    ">>> fraction_floor((-3, 2))\n"
+    "-2\n"},
+    {"fraction_ceil", (PyCFunction)(void (*)(void))py_fraction_ceil, METH_FASTCALL | METH_KEYWORDS,
+    "fraction_ceil($module, /, a, *, out=None)\n"
+    "--\n"
+    "\n"
+    "The fraction rounded up.\n"
+    "\n"
+    "Raises `DivisionByZero` if the denominator is 0. Raises `NotFitting` if a part of the\n"
+    "reduced fraction does not fit.\n"
+    "\n"
+    ">>> fraction_ceil((-3, 2))\n"
+    "-1\n"},
+    {"fraction_trunc", (PyCFunction)(void (*)(void))py_fraction_trunc, METH_FASTCALL | METH_KEYWORDS,
+    "fraction_trunc($module, /, a, *, out=None)\n"
+    "--\n"
+    "\n"
+    "The fraction rounded toward 0.\n"
+    "\n"
+    "Raises `DivisionByZero` if the denominator is 0. Raises `NotFitting` if a part of the\n"
+    "reduced fraction does not fit.\n"
+    "\n"
+    ">>> fraction_trunc((-3, 2))\n"
+    "-1\n"},
+    {"fraction_fract", (PyCFunction)(void (*)(void))py_fraction_fract, METH_FASTCALL | METH_KEYWORDS,
+    "fraction_fract($module, /, a, *, out=None)\n"
+    "--\n"
+    "\n"
+    "The fraction minus itself rounded toward 0.\n"
+    "\n"
+    "Raises `DivisionByZero` if the denominator is 0. Raises `NotFitting` if a part of the\n"
+    "reduced fraction does not fit.\n"
+    "\n"
+    ">>> fraction_fract((-3, 2))\n"
+    "Fraction(-1, 2)\n"},
     {"fraction_round", (PyCFunction)(void (*)(void))py_fraction_round, METH_FASTCALL | METH_KEYWORDS,
     "fraction_round($module, /, a, *, out=None)\n"
     "--\n"
@@ -2759,6 +4775,28 @@ static PyMethodDef methods[] = {
     "\n"
     ">>> fraction_round((-3, 2))\n"
     "-2\n"},
+    {"fraction_floor_times", (PyCFunction)(void (*)(void))py_fraction_floor_times, METH_FASTCALL | METH_KEYWORDS,
+    "fraction_floor_times($module, /, a, n, *, out=None)\n"
+    "--\n"
+    "\n"
+    "The fraction times `n`, rounded down.\n"
+    "\n"
+    "Raises `DivisionByZero` if the denominator is 0. Raises `NotFitting` if a part of the\n"
+    "reduced fraction does not fit, or the result.\n"
+    "\n"
+    ">>> fraction_floor_times((2, 3), 100)\n"
+    "66\n"},
+    {"fraction_ceil_times", (PyCFunction)(void (*)(void))py_fraction_ceil_times, METH_FASTCALL | METH_KEYWORDS,
+    "fraction_ceil_times($module, /, a, n, *, out=None)\n"
+    "--\n"
+    "\n"
+    "The fraction times `n`, rounded up.\n"
+    "\n"
+    "Raises `DivisionByZero` if the denominator is 0. Raises `NotFitting` if a part of the\n"
+    "reduced fraction does not fit, or the result.\n"
+    "\n"
+    ">>> fraction_ceil_times((2, 3), 100)\n"
+    "67\n"},
     {"fraction_round_times", (PyCFunction)(void (*)(void))py_fraction_round_times, METH_FASTCALL | METH_KEYWORDS,
     "fraction_round_times($module, /, a, n, *, out=None)\n"
     "--\n"
@@ -2771,6 +4809,43 @@ static PyMethodDef methods[] = {
     "\n"
     ">>> fraction_round_times((1, 2), -3)\n"
     "-2\n"},
+    {"fraction_floor_to", (PyCFunction)(void (*)(void))py_fraction_floor_to, METH_FASTCALL | METH_KEYWORDS,
+    "fraction_floor_to($module, /, a, parts, *, out=None)\n"
+    "--\n"
+    "\n"
+    "The largest multiple of `1 / parts` that is at most the fraction.\n"
+    "\n"
+    "Raises `Refused` with `OUTSIDE` if `parts` is not positive, whatever `a` is. Raises\n"
+    "`DivisionByZero` if the denominator is 0. Raises `NotFitting` if a part of the reduced\n"
+    "fraction does not fit, or a part of the result.\n"
+    "\n"
+    ">>> fraction_floor_to((5, 3), 4)\n"
+    "Fraction(3, 2)\n"},
+    {"fraction_ceil_to", (PyCFunction)(void (*)(void))py_fraction_ceil_to, METH_FASTCALL | METH_KEYWORDS,
+    "fraction_ceil_to($module, /, a, parts, *, out=None)\n"
+    "--\n"
+    "\n"
+    "The smallest multiple of `1 / parts` that is at least the fraction.\n"
+    "\n"
+    "Raises `Refused` with `OUTSIDE` if `parts` is not positive, whatever `a` is. Raises\n"
+    "`DivisionByZero` if the denominator is 0. Raises `NotFitting` if a part of the reduced\n"
+    "fraction does not fit, or a part of the result.\n"
+    "\n"
+    ">>> fraction_ceil_to((5, 3), 4)\n"
+    "Fraction(7, 4)\n"},
+    {"fraction_round_to", (PyCFunction)(void (*)(void))py_fraction_round_to, METH_FASTCALL | METH_KEYWORDS,
+    "fraction_round_to($module, /, a, parts, *, out=None)\n"
+    "--\n"
+    "\n"
+    "The nearest multiple of `1 / parts`, and of two that are equally near the one farther\n"
+    "from 0.\n"
+    "\n"
+    "Raises `Refused` with `OUTSIDE` if `parts` is not positive, whatever `a` is. Raises\n"
+    "`DivisionByZero` if the denominator is 0. Raises `NotFitting` if a part of the reduced\n"
+    "fraction does not fit, or a part of the result.\n"
+    "\n"
+    ">>> fraction_round_to((5, 3), 100)\n"
+    "Fraction(167, 100)\n"},
     {"date_from_day", (PyCFunction)(void (*)(void))py_date_from_day, METH_FASTCALL | METH_KEYWORDS,
     "date_from_day($module, /, day, *, out=None)\n"
     "--\n"
@@ -2836,6 +4911,28 @@ static PyMethodDef methods[] = {
     "\n"
     ">>> months_between(Date(2000, 1, 31), Date(2000, 2, 29))\n"
     "1\n"},
+    {"years_between", (PyCFunction)(void (*)(void))py_years_between, METH_FASTCALL | METH_KEYWORDS,
+    "years_between($module, /, start, end, *, out=None)\n"
+    "--\n"
+    "\n"
+    "The largest number of years that leads from one date to a date not after another,\n"
+    "negative if the other is earlier.\n"
+    "\n"
+    "Raises `Refused` with `NO_DATE` if a date does not exist. Raises `NotFitting` if the\n"
+    "number does not fit.\n"
+    "\n"
+    ">>> years_between(Date(2000, 2, 29), Date(2025, 2, 28))\n"
+    "25\n"},
+    {"date_from_year_day", (PyCFunction)(void (*)(void))py_date_from_year_day, METH_FASTCALL | METH_KEYWORDS,
+    "date_from_year_day($module, /, year, day, *, out=None)\n"
+    "--\n"
+    "\n"
+    "The date of a day of a year; 1 January is day 1.\n"
+    "\n"
+    "Raises `Refused` with `NO_DATE` if the year has no such day.\n"
+    "\n"
+    ">>> date_from_year_day(2000, 60)\n"
+    "Date(year=2000, month=2, day=29)\n"},
     {"iso_week", (PyCFunction)(void (*)(void))py_iso_week, METH_FASTCALL | METH_KEYWORDS,
     "iso_week($module, /, date, *, out=None)\n"
     "--\n"
@@ -2876,6 +4973,40 @@ static PyMethodDef methods[] = {
     "\n"
     ">>> weekday(0)\n"
     "4\n"},
+    {"weekday_of_date", (PyCFunction)(void (*)(void))py_weekday_of_date, METH_FASTCALL | METH_KEYWORDS,
+    "weekday_of_date($module, /, date, *, out=None)\n"
+    "--\n"
+    "\n"
+    "The day of the week of a date, from 1 for Monday to 7 for Sunday.\n"
+    "\n"
+    "Raises `Refused` with `NO_DATE` if there is no such date.\n"
+    "\n"
+    ">>> weekday_of_date(Date(2000, 2, 29))\n"
+    "2\n"},
+    {"first_weekday_on_or_after", (PyCFunction)(void (*)(void))py_first_weekday_on_or_after, METH_FASTCALL | METH_KEYWORDS,
+    "first_weekday_on_or_after($module, /, day, weekday, *, out=None)\n"
+    "--\n"
+    "\n"
+    "The first day that is this day of the week, from 1 for Monday to 7 for Sunday, and is\n"
+    "not before `day`.\n"
+    "\n"
+    "Raises `Refused` with `OUTSIDE` if `weekday` is not from 1 to 7. Raises `NotFitting` if\n"
+    "the day does not fit.\n"
+    "\n"
+    ">>> first_weekday_on_or_after(0, 7)\n"
+    "3\n"},
+    {"last_weekday_on_or_before", (PyCFunction)(void (*)(void))py_last_weekday_on_or_before, METH_FASTCALL | METH_KEYWORDS,
+    "last_weekday_on_or_before($module, /, day, weekday, *, out=None)\n"
+    "--\n"
+    "\n"
+    "The last day that is this day of the week, from 1 for Monday to 7 for Sunday, and is not\n"
+    "after `day`.\n"
+    "\n"
+    "Raises `Refused` with `OUTSIDE` if `weekday` is not from 1 to 7. Raises `NotFitting` if\n"
+    "the day does not fit.\n"
+    "\n"
+    ">>> last_weekday_on_or_before(4, 7)\n"
+    "3\n"},
     {"nth_weekday_of_month", (PyCFunction)(void (*)(void))py_nth_weekday_of_month, METH_FASTCALL | METH_KEYWORDS,
     "nth_weekday_of_month($module, /, year, month, weekday, n, *, out=None)\n"
     "--\n"
@@ -2914,6 +5045,14 @@ static PyMethodDef methods[] = {
     "False\n"
     ">>> is_leap_year(-1)\n"
     "False\n"},
+    {"days_in_year", (PyCFunction)(void (*)(void))py_days_in_year, METH_FASTCALL | METH_KEYWORDS,
+    "days_in_year($module, /, year, *, out=None)\n"
+    "--\n"
+    "\n"
+    "How many days the year has: 365 or 366.\n"
+    "\n"
+    ">>> days_in_year(1900)\n"
+    "365\n"},
     {"weeks_in_year", (PyCFunction)(void (*)(void))py_weeks_in_year, METH_FASTCALL | METH_KEYWORDS,
     "weeks_in_year($module, /, year, *, out=None)\n"
     "--\n"
@@ -2942,14 +5081,26 @@ static PyMethodDef methods[] = {
     "\n"
     ">>> day_of_year(Date(2000, 12, 31))\n"
     "366\n"},
+    {"fraction_from_text", py_fraction_from_text, METH_O,
+    "fraction_from_text($module, text, /)\n"
+    "--\n"
+    "\n"
+    "The fraction of a text, which is an integer or two integers with a slash between.\n"
+    "\n"
+    "Raises `Refused` with `OUTSIDE` if the text is none of a fraction, or an integer of it\n"
+    "has more than 38 digits, leading zeros aside. Raises `DivisionByZero` if the denominator\n"
+    "is 0. Raises `NotFitting` if a part of the reduced fraction does not fit.\n"
+    "\n"
+    ">>> fraction_from_text('6/-4')\n"
+    "Fraction(-3, 2)\n"},
     {"comb", (PyCFunction)(void (*)(void))py_binomial, METH_FASTCALL | METH_KEYWORDS,
     "comb($module, /, n, k, *, out=None)\n"
     "--\n"
     "\n"
     "How many ways there are to choose `k` of `n`, the binomial coefficient.\n"
     "\n"
-    "Raises `Refused` with `OUTSIDE` if a number is negative. Raises `NotFitting` if the\n"
-    "coefficient does not fit.\n"
+    "Raises `Refused` with `OUTSIDE` if a number is negative, which takes a negative number.\n"
+    "Raises `NotFitting` if the coefficient does not fit.\n"
     "\n"
     ">>> comb(11, 3)\n"
     "165\n"
@@ -2961,7 +5112,7 @@ static PyMethodDef methods[] = {
     "\n"
     "The square root rounded down.\n"
     "\n"
-    "Raises `Refused` with `OUTSIDE` if `x` is negative.\n"
+    "Raises `Refused` with `OUTSIDE` if `x` is negative, which takes a negative number.\n"
     "\n"
     ">>> isqrt(99)\n"
     "9\n"},

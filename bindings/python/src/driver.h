@@ -129,11 +129,28 @@ static int beyond(PyObject *number, char kind) {
 /* Whether an object is an `int`. */
 static bool is_int(PyObject *object) { return Py_TYPE(object) == &PyLong_Type || PyLong_Check(object); }
 
+/* Whether an object has an attribute. No error is left. */
+static bool has(PyObject *object, const char *name) {
+    PyObject *value = PyObject_GetAttrString(object, name);
+    Py_XDECREF(value);
+    PyErr_Clear();
+    return value != NULL;
+}
+
+/* Raises that an object is no integer, if that is the error. */
+static int no_integer(PyObject *object) {
+    if (PyErr_ExceptionMatches(PyExc_TypeError)) {
+        PyErr_Clear();
+        PyErr_Format(PyExc_TypeError, has(object, "to_numpy") ? "%R is no array: pass its `.to_numpy()`" : "%R is no integer", (PyObject *)Py_TYPE(object));
+    }
+    return -1;
+}
+
 /* Reads an integer into a cell. It is 1 if the number is above 2**63 - 1, and 2 if it fits no 64 bits. */
 static int integer(PyObject *object, cell *to) {
     PyObject *number = Py_TYPE(object) == &PyLong_Type ? NULL : PyNumber_Index(object);
     if (number == NULL && Py_TYPE(object) != &PyLong_Type) {
-        return -1;
+        return no_integer(object);
     }
     int overflow, said = 0;
     to->i = PyLong_AsLongLongAndOverflow(number == NULL ? object : number, &overflow);
@@ -226,12 +243,12 @@ static int bind(const call *c, PyObject *const *args, Py_ssize_t count, PyObject
     return 0;
 }
 
-/* The parts of a fraction or a date: those of a tuple, or the attributes of another object. They are owned. */
+/* The parts of a fraction or a date: those of a tuple, which may have statuses too, or the attributes of another object. They are owned. */
 static int parts(PyObject *object, char shape, PyObject **cells) {
     PyObject *const names[2][3] = {{name_numerator, name_denominator, NULL}, {name_year, name_month, name_day}};
     Py_ssize_t count = shape == 'f' ? 2 : 3;
     bool is_tuple = PyTuple_Check(object);
-    if (is_tuple && PyTuple_Size(object) != count) {
+    if (is_tuple && PyTuple_Size(object) != count && !(PyTuple_Size(object) == count + 1 && is_array(PyTuple_GetItem(object, count)))) {
         PyErr_Format(PyExc_ValueError, "a %s has %zd parts, and the tuple has %zd", shape == 'f' ? "fraction" : "date", count,
                      PyTuple_Size(object));
         return -1;
@@ -241,6 +258,11 @@ static int parts(PyObject *object, char shape, PyObject **cells) {
         if (cells[k] == NULL) {
             while (k-- > 0) {
                 Py_DECREF(cells[k]);
+            }
+            if (PyErr_ExceptionMatches(PyExc_AttributeError)) {
+                PyErr_Clear();
+                PyErr_Format(PyExc_TypeError, shape == 'f' ? "%R is no fraction: pass a `Fraction`, an `int`, or a tuple of a numerator and a denominator" :
+                             "%R is no date: pass a `Date`, a `datetime.date`, or a tuple of a year, a month and a day", (PyObject *)Py_TYPE(object));
             }
             return -1;
         }
@@ -352,14 +374,29 @@ static bool is_aligned(const Py_buffer *view) {
     return view->len == 0 || (uintptr_t)view->buf % step == 0;
 }
 
+/* Why an object has no buffer that a call reads. */
+static const char *no_buffer(PyObject *object) {
+    PyObject *type = PyObject_GetAttrString(object, "dtype"), *kind = type == NULL ? NULL : PyObject_GetAttrString(type, "kind");
+    bool is_time = kind != NULL && PyUnicode_Check(kind) &&
+                   (PyUnicode_CompareWithASCIIString(kind, "M") == 0 || PyUnicode_CompareWithASCIIString(kind, "m") == 0);
+    Py_XDECREF(type);
+    Py_XDECREF(kind);
+    PyErr_Clear();
+    return is_time ? "the items of the array are times: pass its `.view('int64')`" : "the array is not contiguous: pass its `.copy()`";
+}
+
 /* Takes the buffer of an array. */
 static int take(PyObject *object, Py_buffer *view, int flags, const char *name) {
     if (PyObject_GetBuffer(object, view, flags | PyBUF_FORMAT | PyBUF_ND) != 0) {
         if (!PyErr_ExceptionMatches(PyExc_MemoryError)) {
             PyErr_Clear();
-            wrong(flags & PyBUF_WRITABLE ? "an output is an array that can be written, and contiguous" : "the array is not contiguous", name);
+            wrong(flags & PyBUF_WRITABLE ? "an output is an array that can be written, and contiguous" : no_buffer(object), name);
         }
         return -1;
+    }
+    if (!(flags & PyBUF_WRITABLE) && has(object, "mask")) {
+        PyBuffer_Release(view);
+        return wrong("the array has a mask, which a call does not read: pass its `.compressed()` or its `.data`", name);
     }
     if (view->ndim != 1) {
         PyBuffer_Release(view);
@@ -511,6 +548,39 @@ static int take_outputs(const call *c, const form *f, PyObject *outputs, const c
     return 0;
 }
 
+/* The module `numpy`, if one of the objects is an array of it, and else NULL. It is not imported here. */
+static PyObject *numpy_of(PyObject *const *objects, Py_ssize_t count) {
+    PyObject *name = PyUnicode_FromString("numpy"), *numpy = name == NULL ? NULL : PyImport_GetModule(name);
+    PyObject *class = numpy == NULL ? NULL : PyObject_GetAttrString(numpy, "ndarray");
+    bool found = false;
+    for (Py_ssize_t k = 0; class != NULL && k < count && !found; k++) {
+        found = PyObject_IsInstance(objects[k], class) == 1;
+    }
+    Py_XDECREF(name);
+    Py_XDECREF(class);
+    PyErr_Clear();
+    if (!found) {
+        Py_CLEAR(numpy);
+    }
+    return numpy;
+}
+
+/* The results as arrays of numpy, which have the same memory. Both arguments are given away. */
+static PyObject *of_numpy(PyObject *numpy, PyObject *outputs) {
+    PyObject *arrays = PyTuple_New(PyTuple_Size(outputs));
+    for (Py_ssize_t k = 0; arrays != NULL && k < PyTuple_Size(outputs); k++) {
+        PyObject *array = PyObject_CallMethod(numpy, "asarray", "O", PyTuple_GetItem(outputs, k));
+        if (array == NULL) {
+            Py_CLEAR(arrays);
+        } else {
+            PyTuple_SetItem(arrays, k, array);
+        }
+    }
+    Py_DECREF(numpy);
+    Py_DECREF(outputs);
+    return arrays;
+}
+
 static PyObject *run_many(const call *c, PyObject **objects, Py_ssize_t count, PyObject *out) {
     column columns[MAX_CELLS];
     Py_buffer views[MAX_RESULTS];
@@ -550,7 +620,11 @@ static PyObject *run_many(const call *c, PyObject **objects, Py_ssize_t count, P
         Py_XDECREF(outputs);
         return NULL;
     }
-    if (PyTuple_Size(outputs) == 1) {
+    PyObject *numpy = out == NULL ? numpy_of(objects, count) : NULL;
+    if (numpy != NULL) {
+        outputs = of_numpy(numpy, outputs);
+    }
+    if (outputs != NULL && PyTuple_Size(outputs) == 1) {
         PyObject *single = PyTuple_GetItem(outputs, 0);
         Py_INCREF(single);
         Py_DECREF(outputs);
@@ -797,9 +871,14 @@ static PyObject *of_list(list *of, uint32_t status, PyObject *result) {
 }
 
 /* A call of two numbers with another count of them: that of a list. */
-static PyObject *of_any_count(PyObject *(*of)(PyObject *, PyObject *), PyObject *const *args, Py_ssize_t count) {
+static PyObject *of_any_count(PyObject *(*of)(PyObject *, PyObject *), const char *name, PyObject *const *args, Py_ssize_t count) {
     PyObject *numbers = PyTuple_New(count), *result = NULL;
     for (Py_ssize_t k = 0; numbers != NULL && k < count; k++) {
+        if (is_array(args[k])) {
+            PyErr_Format(PyExc_TypeError, "%s() takes arrays two at a time, and %zd arguments were given", name, count);
+            Py_DECREF(numbers);
+            return NULL;
+        }
         Py_INCREF(args[k]);
         PyTuple_SetItem(numbers, k, args[k]);
     }
@@ -826,6 +905,12 @@ static int unsigned_numbers(const char *name, PyObject *const *args, Py_ssize_t 
     return 0;
 }
 
+/* Whether a number is below the binomial coefficient, which may not fit. */
+static bool is_below_binomial(uint64_t number, uint64_t n, uint64_t k) {
+    cellarcove_u64_answer ways = cellarcove_binomial_u64(n, k);
+    return ways.status != CELLARCOVE_ANSWER || number < ways.value;
+}
+
 /* Room for so many numbers. */
 static uint64_t *room_for(uint64_t count) {
     uint64_t *room = count < PY_SSIZE_T_MAX / sizeof *room ? PyMem_Malloc((size_t)(count + 1) * sizeof *room) : NULL;
@@ -835,10 +920,10 @@ static uint64_t *room_for(uint64_t count) {
     return room;
 }
 
-static PyObject *tuple_of_numbers(const uint64_t *numbers, Py_ssize_t count) {
+static PyObject *tuple_of_numbers(const uint64_t *numbers, Py_ssize_t count, bool is_signed) {
     PyObject *tuple = PyTuple_New(count);
     for (Py_ssize_t k = 0; tuple != NULL && k < count; k++) {
-        PyObject *number = PyLong_FromUnsignedLongLong(numbers[k]);
+        PyObject *number = is_signed ? PyLong_FromLongLong(((const int64_t *)numbers)[k]) : PyLong_FromUnsignedLongLong(numbers[k]);
         if (number == NULL) {
             Py_CLEAR(tuple);
         } else {
@@ -846,6 +931,55 @@ static PyObject *tuple_of_numbers(const uint64_t *numbers, Py_ssize_t count) {
         }
     }
     return tuple;
+}
+
+/* A call that writes a part of a number for each item of a list of weights. It has a form for a negative number, or none. */
+static PyObject *divided(const char *name, PyObject *const *args, Py_ssize_t given,
+                         uint32_t (*of_signed)(int64_t, const uint64_t *, size_t, int64_t *, size_t),
+                         uint32_t (*of_unsigned)(uint64_t, const uint64_t *, size_t, uint64_t *, size_t)) {
+    cell amount;
+    list of = {.width = 1};
+    int said = has_count(name, given, 2) == 0 ? integer(args[0], &amount) : -1;
+    if (said < 0) {
+        return NULL;
+    }
+    bool negative = of_signed != NULL && is_negative(args[0], &amount, said);
+    if (!fits(&amount, said, negative ? 'q' : 'Q')) {
+        beyond(args[0], negative ? 'q' : 'Q');
+        return NULL;
+    }
+    if (is_array(args[1]) ? take_list(args[1], name, false, &of) != 0 : copy_list(args[1], name, false, false, &of) != 0) {
+        return NULL;
+    }
+    uint64_t *parts = room_for((uint64_t)of.count);
+    PyObject *result = NULL;
+    if (parts != NULL) {
+        uint32_t status;
+        size_t count = (size_t)of.count;
+        Py_BEGIN_ALLOW_THREADS
+        status = negative ? of_signed(amount.i, of.items, count, (int64_t *)parts, count) : of_unsigned(amount.u, of.items, count, parts, count);
+        Py_END_ALLOW_THREADS
+        result = status == CELLARCOVE_ANSWER ? tuple_of_numbers(parts, of.count, negative) : refused(status, false);
+        PyMem_Free(parts);
+    }
+    free_list(&of);
+    return result;
+}
+
+/* ---- texts ---- */
+
+/* The bytes of a text in UTF-8, which are owned. */
+static PyObject *bytes_of(const char *name, PyObject *text, const uint8_t **bytes, size_t *count) {
+    if (!PyUnicode_Check(text)) {
+        PyErr_Format(PyExc_TypeError, "%s() takes a str", name);
+        return NULL;
+    }
+    PyObject *encoded = PyUnicode_AsUTF8String(text);
+    if (encoded != NULL) {
+        *bytes = (const uint8_t *)PyBytes_AsString(encoded);
+        *count = (size_t)PyBytes_Size(encoded);
+    }
+    return encoded;
 }
 
 /* ---- the module ---- */

@@ -284,7 +284,7 @@ class Names(unittest.TestCase):
                 for others in ((), (first,), (first, 1), (first, 1, 1), (1, first, 1, 1), (first, 1, 1, 1, first), (1,) * 9):
                     try:
                         call(first, *others)
-                    except (TypeError, ValueError, AttributeError, OverflowError, ZeroDivisionError):
+                    except (TypeError, ValueError, OverflowError, ZeroDivisionError):
                         pass
 
 

@@ -5,5 +5,6 @@ pub mod Roots
 pub mod Paging
 pub mod Congruences
 pub mod Fractions
+pub mod Texts
 pub mod Dates
 pub mod Laws

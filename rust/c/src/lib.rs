@@ -40,5 +40,6 @@ mod rounding;
 mod schedules;
 mod several_congruences;
 mod shares;
+mod texts;
 mod weekdays;
 mod years;

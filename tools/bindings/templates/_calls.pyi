@@ -6,10 +6,13 @@ from typing import Any, Protocol, SupportsIndex, overload
 
 from . import Date, ExtendedGcd, IsoWeek, Solutions, SupportsDate, SupportsFraction, Weekday
 
-class SupportsArray(Protocol):
-    def __array__(self, *args: Any, **kwargs: Any) -> Any: ...
+class SupportsArray(Protocol):  # an array of numpy, and no Series of pandas
+    @property
+    def __array_interface__(self) -> dict[str, Any]: ...
 
-Array = array[int] | memoryview | bytearray | bytes | SupportsArray
+Array = array[int] | memoryview | SupportsArray
+Numbers = array[int] | Any  # an array of numpy, if one is given
+Mask = memoryview | Any     # the same
 Outputs = tuple[Array, ...] | None
 Fractional = SupportsFraction | tuple[SupportsIndex, SupportsIndex]
 Dated = SupportsDate | tuple[SupportsIndex, SupportsIndex, SupportsIndex]

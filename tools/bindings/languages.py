@@ -1,0 +1,70 @@
+"""Makes docs/LANGUAGES.md: each call of the libraries, and its name in each language, or why a language lacks it."""
+import re
+from pathlib import Path
+
+from tools import ROOT
+from tools.bindings.exports import EXPORTS
+from tools.bindings.python import RENAMED
+
+HEAD = '''# Calls by language
+
+Each call of the libraries, and its name in Rattle, in plain Rust, in C, in C++ and in Python. A call of C begins with `cellarcove_` and has
+a form for each type in braces. If a cell is empty, the last one says what to use instead.
+
+'''
+TRAITS = ('Integer::', 'Average::', 'Roots::')  # whose methods are free functions too
+BY_TRAIT = {'fraction_cmp': 'Ord of `Ratio`', 'fraction_from_text': 'FromStr of `Ratio`'}
+IN_CPP = {'fraction_new': 'fraction::make', 'day_of_year': 'day_of_year'}
+
+
+def paths() -> list[str]:
+    """The calls of plain Rust, without the modules `checked`. A method of a trait is there if no function has its name."""
+    found = re.findall(r'^(?:const )?fn ([\w:]+)', (ROOT / 'rust/api.txt').read_text(), re.M)
+    plain = {path.replace('checked::', '') for path in found}
+    return sorted(path for path in plain if not path.startswith(TRAITS) or path.split('::')[1] not in plain)
+
+
+def data() -> tuple[dict[str, str], dict[str, str]]:
+    """The other names of exports, and the reasons."""
+    lines = [line for line in (Path(__file__).parent / 'languages.txt').read_text().splitlines() if not line.startswith('#')]
+    names = dict(line.split(' = ') for line in lines if ' = ' in line)
+    return names, dict(line.split(': ', 1) for line in lines if ' = ' not in line)
+
+
+def export_of(path: str, names: dict[str, str]) -> str:
+    """The name that the export of a call has."""
+    last = path.split('::')[-1]
+    return names.get(path) or ('fraction_' + last.removeprefix('checked_') if path.startswith('ratio64::Ratio::') else last)
+
+
+def rows() -> list[tuple[str, ...]]:
+    """The cells of each row."""
+    (names, reasons), forms, used, made = data(), EXPORTS().forms(), set[str](), list[tuple[str, ...]]()
+    for path in paths():
+        crate = path.split('::')[0] if path.split('::')[0] in ('calendar', 'modular', 'ratio64') else 'applied' if path[0].islower() and '::' in path \
+            and not path.startswith('counted::') else 'num_integer'
+        rattle = path if path.startswith(crate) else f'{crate}::{path}'
+        reason = next((found for found in (path, *(prefix for prefix in reasons if prefix.endswith('::') and path.startswith(prefix))) if found in reasons), '')
+        export = export_of(path, names)
+        assert reason or export in forms, f'{path}: tools/bindings/languages.txt says neither its export nor why it has none'
+        if reason not in used:  # a reason of several calls has one row
+            shown = reason.removesuffix('::') or path
+            made.append((f'`{rattle.replace(path, shown)}`', f'`cellarcove::{shown}`', *(('', '', '', reasons[reason]) if reason else (*cells(export), ''))))
+        used |= {reason} if reason else {path, export}
+    made += [(where, where, *cells(export), '') for export, where in BY_TRAIT.items()]
+    unknown = (names.keys() | reasons.keys()) - used
+    lost = forms.keys() - used - BY_TRAIT.keys()
+    assert not unknown and not lost, f'tools/bindings/languages.txt: no such call {sorted(unknown)}, no row of {sorted(lost)}'
+    return made
+
+
+def cells(export: str) -> tuple[str, str, str]:
+    """The names of an export in C, in C++ and in Python."""
+    forms = [form.form for form in EXPORTS().forms()[export] if form.form]
+    c = export + (f'_{{{",".join(forms)}}}' if len(forms) > 1 else f'_{forms[0]}' if forms else '')
+    return f'`{c}`', f'`{IN_CPP.get(export, export)}`', f'`{RENAMED.get(export, export)}`'
+
+
+def page() -> str:
+    table = [('Rattle', 'Rust', 'C', 'C++', 'Python', 'instead'), ('---',) * 6, *rows()]
+    return HEAD + ''.join(f'| {" | ".join(cells)} |\n' for cells in table)
