@@ -1,22 +1,17 @@
 //! Functions that call `ratio64`.
 
-ghost use Rattle.std.specs.Prelude.{◌≡◌, ◌≢◌, ◌↔◌, ◌⊎◌, ◌<◌, ◌≤◌, ◌<ℤ◌, ◌+ℤ◌, ◌*ℤ◌, ◌^◌, Err, FitsSigned, IfErr, IfOk, IfSome, IsOk, MatchOption, Ok, neg_ℤ, pos, unsigned_abs, ℤ};
-ghost use Rattle.std.specs.Fmt.{WritesOnOk};
+ghost use Rattle.std.specs.Prelude.{◌≡◌, ◌≢◌, ◌↔◌, ◌⊎◌, ◌<◌, ◌≤◌, ◌<ℤ◌, ◌+ℤ◌, ◌*ℤ◌, ◌^◌, Err, FitsSigned, IfErr, IfOk, IsOk, MatchOption, Ok, neg_ℤ, pos, unsigned_abs, ℤ};
 ghost use Rattle.std.specs.Int.{int_signum, w64};
-ghost use Rattle.num_integer.specs.Checked.{AnswersWhere};
 ghost use Rattle.num_integer.specs.Division.{IsCeiled, IsFloored, IsQuotient, IsRemainder, IsTruncated};
 ghost use Rattle.num_integer.specs.Divisors.{IsGreatestCommonDivisor};
 ghost use Rattle.num_integer.specs.Range.{EachFits};
-ghost use Rattle.ratio64.specs.Decimal.{IsDecimalOf, decimal_text, places_of, units_of};
 ghost use Rattle.ratio64.specs.Fraction.{IsExact, IsFraction, IsOutsideI64};
 ghost use Rattle.ratio64.specs.Ratio.{AnswersFraction, den_of, num_of};
-ghost use Rattle.ratio64.specs.Rounding.{AnswersInParts, IsRounded, IsRoundedEven};
-ghost use Rattle.ratio64.specs.declared.decimal.Decimal.{Decimal};
+ghost use Rattle.ratio64.specs.Rounding.{AnswersInParts, IsRounded};
 ghost use Rattle.ratio64.specs.declared.fraction.Ratio.{Ratio};
 
-use ratio64::{Decimal, ParseRatioError, Ratio, RatioError};
+use ratio64::{ParseRatioError, Ratio, RatioError};
 use std::alloc::{AllocError, Global};
-use std::fmt;
 
 /// The result of parsing a fraction.
 type ParseResult = Result<Ratio, ParseRatioError>;
@@ -229,55 +224,6 @@ pub fn nearest_tenths(x: &Ratio) -> Result<Ratio, RatioError>
     ensures { AnswersInParts (IsRounded (num_of x.now *ℤ pos 10) (den_of x.now)) (pos 10) result }
 {
     x.round_to(10)
-}
-
-/// Returns the nearest integer, of two the even one, and the nearest number of cents.
-pub fn even_and_cents(x: &Ratio) -> (i64, Option<i64>)
-    ensures even { IsRoundedEven (num_of x.now) (den_of x.now) result.0 }
-    ensures cents { AnswersWhere
-        (EachFits (FitsSigned w64) (IsRoundedEven (num_of x.now *ℤ pos 100) (den_of x.now)))
-        (IsRoundedEven (num_of x.now *ℤ pos 100) (den_of x.now)) result.1 }
-{
-    (x.round_even(), x.round_even_times(100))
-}
-
-/// Returns a price in cents, a half to the even one. Returns an error if its parts do not fit.
-pub fn even_cents(price: &Ratio) -> Result<Ratio, RatioError>
-    ensures { AnswersInParts (IsRoundedEven (num_of price.now *ℤ pos 100) (den_of price.now))
-        (pos 100) result }
-{
-    price.round_even_to(100)
-}
-
-/// Returns a price with two decimals, which always fits.
-pub fn amount(price: &Ratio) -> Decimal
-    ensures { IsDecimalOf (num_of price.now) (den_of price.now) 2 result }
-{
-    price.to_decimal(2).unwrap()
-}
-
-/// Returns the cents of a price with so many decimals, or `None` if they are more than 18 or the cents do not fit.
-pub fn units_of_price(price: &Ratio, places: u32) -> Option<i64>
-    ensures { IfSome result (λ units. IsRoundedEven (num_of price.now *ℤ pos (10 ^ places))
-        (den_of price.now) units) }
-{
-    let decimal = price.to_decimal(places)?;
-    i64::try_from(decimal.units()).ok()
-}
-
-/// Writes an amount with its decimals, as `246.80`.
-pub fn write_amount<W: fmt::Write>(amount: &Decimal, f: &mut fmt::Formatter<W>) -> fmt::Result
-    ensures { WritesOnOk W.write_str_gives f.old result
-        (decimal_text (units_of amount.now) (places_of amount.now)) f.new }
-{
-    write!(f, "{amount}")
-}
-
-/// Returns a whole price as a fraction.
-pub fn whole_price(price: i64) -> Ratio
-    ensures { IsExact price (pos 1) (num_of result) (den_of result) }
-{
-    Ratio::from_integer(price)
 }
 
 /// Returns the sum of `a / b` and `c / d`, or an error. The contract does not say when it is an error.

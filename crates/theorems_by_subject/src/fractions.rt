@@ -1,21 +1,20 @@
 //! What is proved of `ratio64` beside the main theorems.
 
-ghost use Rattle.std.specs.Prelude.{◌≡◌, ◌≢◌, ◌↔◌, ◌≤◌, ◌^◌, ◌≤ℤ◌, ◌<ℤ◌, ◌+ℤ◌, ◌*ℤ◌, Err, FitsSigned, IfSome, IsTrue, MatchOption, neg_ℤ, pos, unsigned_abs, ℕ, ℤ};
+ghost use Rattle.std.specs.Prelude.{◌≡◌, ◌≢◌, ◌↔◌, ◌≤ℤ◌, ◌<ℤ◌, ◌+ℤ◌, ◌*ℤ◌, Err, FitsSigned, IfSome, IsTrue, MatchOption, neg_ℤ, pos, unsigned_abs, ℤ};
 ghost use Rattle.std.specs.Fmt.{WritesOnOk};
 ghost use Rattle.std.specs.Int.{int_pow, w64};
 ghost use Rattle.num_integer.specs.Checked.{AnswersWhere};
 ghost use Rattle.num_integer.specs.Division.{IsCeiled, IsFloored, IsQuotient, IsRemainder, IsTruncated};
 ghost use Rattle.num_integer.specs.Only.{IsOnly};
 ghost use Rattle.num_integer.specs.Range.{EachFits};
-ghost use Rattle.ratio64.specs.Decimal.{IsDecimalOf, SpellsDecimal, decimal_text, places_of, units_of};
 ghost use Rattle.ratio64.specs.Fraction.{AreEqual, IsExact, IsFraction, IsOutsideI64, fraction_cmp};
 ghost use Rattle.ratio64.specs.Limiting.{IsNearestWithin};
 ghost use Rattle.ratio64.specs.Ratio.{AnswersFraction, den_of, num_of, text_of};
 ghost use Rattle.ratio64.specs.RatioText.{ReadsFraction};
-ghost use Rattle.ratio64.specs.Rounding.{AnswersInParts, IsRounded, IsRoundedEven};
+ghost use Rattle.ratio64.specs.Rounding.{AnswersInParts, IsRounded};
 
 use num_integer::Integer;
-use ratio64::{Decimal, ParseRatioError, Ratio, RatioError};
+use ratio64::{ParseRatioError, Ratio, RatioError};
 use std::cmp::Ordering;
 use std::fmt;
 
@@ -150,33 +149,6 @@ pub fn printed<W: fmt::Write>(x: &Ratio, f: &mut fmt::Formatter<W>) -> fmt::Resu
     ensures { WritesOnOk W.write_str_gives f.old result (text_of x.now) f.new }
 {
     write!(f, "{x}")
-}
-
-/// Returns the nearest decimal number. Whoever reads its string finds the rounded number and its places.
-pub fn decimal_read_back(x: &Ratio, places: u32) -> Option<Decimal>
-    ensures decimal { AnswersWhere (places ≤ 18) (IsDecimalOf (num_of x.now) (den_of x.now) places)
-        result }
-    ensures read { IfSome result (λ d. (u : ℤ) (p : ℕ)
-        → SpellsDecimal (decimal_text (units_of d) (places_of d)) u p
-        → (p ≡ places) × IsRoundedEven (num_of x.now *ℤ pos (10 ^ places)) (den_of x.now) u) }
-{
-    x.to_decimal(places)
-}
-
-/// Prints the decimal number. If nothing fails, the string of the definition is written.
-pub fn printed_decimal<W: fmt::Write>(x: &Decimal, f: &mut fmt::Formatter<W>) -> fmt::Result
-    ensures { WritesOnOk W.write_str_gives f.old result (decimal_text (units_of x.now) (places_of x.now))
-        f.new }
-{
-    write!(f, "{x}")
-}
-
-/// Rounds to hundredths in both ways: as a fraction, which may not fit, and as a decimal number.
-pub fn hundredths(x: &Ratio) -> (Result<Ratio, RatioError>, Decimal)
-    ensures decimal { IsDecimalOf (num_of x.now) (den_of x.now) 2 result.1 }
-    ensures fraction { AnswersFraction (units_of result.1) (pos 100) result.0 }
-{
-    (x.round_even_to(100), x.to_decimal(2).unwrap())
 }
 
 /// Parses a string. Each string has one result. A law says that the string of a fraction gives that fraction.
