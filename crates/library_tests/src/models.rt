@@ -7,8 +7,7 @@ mod rolling_hash;
 use crate::assertions::holds_at;
 use applied::halving::lower_bound;
 use applied::paging::item_at;
-use applied::schedules::{count, next_meeting_of};
-use applied::shares::{SharesError, shares_by_largest_remainder};
+use applied::schedules::next_meeting_of;
 use modular::CommonSolution::{At, Beyond, Never};
 
 #[test]
@@ -34,26 +33,6 @@ fn meetings_of_several(rt: HostRuntime) {
     holds_at(&rt, found == Never, &"next_meeting_of");
     let found = next_meeting_of(i64::MAX, &[(0, 1), (1, 2)]);
     holds_at(&rt, found == At(i64::MAX), &"next_meeting_of");
-}
-
-#[test]
-fn times_in_a_range(rt: HostRuntime) {
-    assert!(rt; count(4, 15, (3, 6)) == Some(2) && count(-9, 15, (3, 6)) == Some(3));
-    assert!(rt; count(-9, 2, (3, 6)) == Some(0) && count(-128i8, 127, (-128, 1)).is_none());
-}
-
-#[test]
-fn largest_remainders(rt: HostRuntime) {
-    let mut parts = [0; 3];
-    assert!(rt; shares_by_largest_remainder(299, &[5, 3, 2], &mut parts).is_ok());
-    assert!(rt; parts == [149, 90, 60]);
-    assert!(rt;
-        shares_by_largest_remainder(u64::MAX, &[1 << 63, (1 << 63) + 1, 5], &mut parts).is_ok()
-    );
-    assert!(rt; parts == [9223372036854775805, 9223372036854775805, 5]);
-    assert!(rt;
-        shares_by_largest_remainder(1, &[0, 0, 0], &mut parts) == Err(SharesError::ZeroWeights)
-    );
 }
 
 #[test]
