@@ -61,6 +61,6 @@ def test_errors() -> None:
     assert pages.messages_on(golden['page']) == {'the first', 'the second', 'a date, as "2024-02-29"'}
     assert pages.statuses_in(golden['header']) == {'0 CELLARCOVE_ANSWER', '2 CELLARCOVE_NOT_FITTING'}
     assert pages.statuses_on(golden['page']) == {'2 CELLARCOVE_NOT_FITTING'}
-    assert pages.exceptions_in(golden['package'], golden['driver']) == CLASSES | {'OverflowError ', 'TypeError ', 'MemoryError ', 'AttributeError '}
+    assert pages.exceptions_in(golden['package'], golden['driver']) == CLASSES | {'OverflowError ', 'TypeError ', 'MemoryError '}
     assert pages.exceptions_on(golden['page']) == CLASSES | {'TypeError '}
     assert [passed for _, passed in pages.compared({'a', 'b'}, {'b', 'c'})] == [False, True, False]
