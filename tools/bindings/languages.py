@@ -4,7 +4,7 @@ from pathlib import Path
 
 from tools import ROOT
 from tools.bindings.exports import EXPORTS
-from tools.bindings.python import RENAMED
+from tools.bindings.python import ALIASES, RENAMED
 
 HEAD = '''# Calls by language
 
@@ -14,7 +14,6 @@ a form for each type in braces. If a cell is empty, the last one says what to us
 '''
 TRAITS = ('Integer::', 'Average::', 'Roots::')  # whose methods are free functions too
 BY_TRAIT = {'fraction_cmp': 'Ord of `Ratio`', 'fraction_from_text': 'FromStr of `Ratio`'}
-IN_CPP = {'fraction_new': 'fraction::make', 'day_of_year': 'day_of_year'}
 
 
 def paths() -> list[str]:
@@ -45,11 +44,11 @@ def rows() -> list[tuple[str, ...]]:
             and not path.startswith('counted::') else 'num_integer'
         rattle = path if path.startswith(crate) else f'{crate}::{path}'
         reason = next((found for found in (path, *(prefix for prefix in reasons if prefix.endswith('::') and path.startswith(prefix))) if found in reasons), '')
-        export = export_of(path, names)
+        export, *others = export_of(path, names).split(' | ')
         assert reason or export in forms, f'{path}: tools/bindings/languages.txt says neither its export nor why it has none'
         if reason not in used:  # a reason of several calls has one row
             shown = reason.removesuffix('::') or path
-            made.append((f'`{rattle.replace(path, shown)}`', f'`cellarcove::{shown}`', *(('', '', '', reasons[reason]) if reason else (*cells(export), ''))))
+            made.append((f'`{rattle.replace(path, shown)}`', f'`cellarcove::{shown}`', *(('', '', '', reasons[reason]) if reason else (*cells(export, *others), ''))))
         used |= {reason} if reason else {path, export}
     made += [(where, where, *cells(export), '') for export, where in BY_TRAIT.items()]
     unknown = (names.keys() | reasons.keys()) - used
@@ -58,11 +57,12 @@ def rows() -> list[tuple[str, ...]]:
     return made
 
 
-def cells(export: str) -> tuple[str, str, str]:
-    """The names of an export in C, in C++ and in Python."""
+def cells(export: str, in_cpp: str = '', in_python: str = '') -> tuple[str, str, str]:
+    """The names of an export in C, in C++ and in Python, which are the same if no others are given."""
     forms = [form.form for form in EXPORTS().forms()[export] if form.form]
     c = export + (f'_{{{",".join(forms)}}}' if len(forms) > 1 else f'_{forms[0]}' if forms else '')
-    return f'`{c}`', f'`{IN_CPP.get(export, export)}`', f'`{RENAMED.get(export, export)}`'
+    python = in_python or ', '.join([RENAMED.get(export, export), *(alias for alias, name in ALIASES.items() if name == export)])
+    return f'`{c}`', f'`{in_cpp or export}`', f'`{python}`'
 
 
 def page() -> str:

@@ -36,8 +36,9 @@ class Exports(Eraser):
             return self.drop_line(item.first, item.last)
         super().item(item, owner)
         if item.kind == 'fn' and item.open is not None:
-            for name, first, last in self.slices(item):
-                self.slice(item.open, name, first, last)
+            made = [self.slice(name, first, last) for name, first, last in self.slices(item)]
+            if made:
+                self.write(item.open, '{' + ''.join(made))
         return None
 
     def slices(self, item: Item) -> Iterator[tuple[int, int, int]]:
@@ -51,8 +52,8 @@ class Exports(Eraser):
                 yield k, k + 2, stop - 1
             k = stop + 1
 
-    def slice(self, opening: int, name: int, first: int, last: int) -> None:
-        """A slice arrives as a pointer and a length. The pointer of no items is not looked at."""
+    def slice(self, name: int, first: int, last: int) -> str:
+        """A slice arrives as a pointer and a length. The pointer of no items is not looked at. The statement that makes the slice."""
         written = self.at(first + 1) == 'mut'
         if last != first + 3 + written:
             self.refuse(name, 'a slice of a call for C whose items have no type of one word')
@@ -60,13 +61,13 @@ class Exports(Eraser):
         self.write(first, f'*{mut or "const "}{kind}, {word}_len: usize')
         self.drop(first + 1, last)
         promise = 'so many items, which nothing else reads or writes' if written else 'so many items, which do not change'
-        self.write(opening, f'''{{
+        return f'''
             let {word} = if {word}_len == 0 {{
                 &{mut}[]
             }} else {{
                 // SAFETY: the caller promises that the pointer leads to {promise}.
                 unsafe {{ core::slice::from_raw_parts{"_mut" * written}({word}, {word}_len) }}
-            }};''')
+            }};'''
 
 
 def states_laws(item: Item) -> bool:

@@ -18,6 +18,12 @@ pub extern "C" fn cellarcove_shares_i64(
     parts: *mut i64,
     parts_len: usize,
 ) -> u32 {
+    let weights = if weights_len == 0 {
+        &[]
+    } else {
+        // SAFETY: the caller promises that the pointer leads to so many items, which do not change.
+        unsafe { core::slice::from_raw_parts(weights, weights_len) }
+    };
     let parts = if parts_len == 0 {
         &mut []
     } else {
@@ -45,6 +51,12 @@ pub extern "C" fn cellarcove_shares_u64(
     parts: *mut u64,
     parts_len: usize,
 ) -> u32 {
+    let weights = if weights_len == 0 {
+        &[]
+    } else {
+        // SAFETY: the caller promises that the pointer leads to so many items, which do not change.
+        unsafe { core::slice::from_raw_parts(weights, weights_len) }
+    };
     let parts = if parts_len == 0 {
         &mut []
     } else {
@@ -72,6 +84,12 @@ pub extern "C" fn cellarcove_shares_by_largest_remainder_u64(
     parts: *mut u64,
     parts_len: usize,
 ) -> u32 {
+    let weights = if weights_len == 0 {
+        &[]
+    } else {
+        // SAFETY: the caller promises that the pointer leads to so many items, which do not change.
+        unsafe { core::slice::from_raw_parts(weights, weights_len) }
+    };
     let parts = if parts_len == 0 {
         &mut []
     } else {
