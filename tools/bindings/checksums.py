@@ -6,13 +6,15 @@ from tools.bindings.exports import EXPORTS, Call, c_parameters, c_type, filled
 
 def arguments(parameters: list[str]) -> tuple[list[str], list[str]]:
     """The lines that draw the arguments of a call, and their names. Each has a line, for C leaves their order open."""
-    lines, names = [], []
+    lines, names, lengths = list[str](), list[str](), list[str]()
     for number, parameter in enumerate(parameters):
         kind, name = parameter.rsplit(' ', 1)
         if name.startswith('*'):
             kind = kind.removeprefix('const ')
-            lines += [f'{kind} counts[COUNTS] = {{0}};', f'size_t length = fill_{kind}(counts);']
-            names += ['counts', 'length']
+            lines += [f'{kind} counts{number}[COUNTS] = {{0}};', f'size_t length{number} = fill_{kind}(counts{number});']
+            lines += [f'if (random_bits() % 8 > 0) length{number} = {length};' for length in lengths]  # most lists have one length
+            names += [f'counts{number}', f'length{number}']
+            lengths.append(f'length{number}')
         elif kind != 'size_t':
             lines.append(f'{kind} x{number} = any_{kind}();')
             names.append(f'x{number}')
@@ -27,7 +29,7 @@ def function(call: Call) -> str:
     looked = f'look("{call.symbol}", %s, {sum(1 << status for status in allowed)}u, %s);'
     body = ['start_call();', *lines, f'{c_type(call.result)} result = {call.symbol}({", ".join(names)});']
     if call.writes:
-        body += [looked % ('result', 'true'), 'add(result);', 'for (size_t i = 0; i < length; i++) add(counts[i]);']
+        body += [looked % ('result', 'true'), 'add(result);', f'for (size_t i = 0; i < {names[-1]}; i++) add((uint64_t){names[-2]}[i]);']
     elif EXPORTS().has_status(call):
         paths = [path for path, _ in EXPORTS().leaves(call.result)]
         body += [looked % ('result.status', ' && '.join(f'result{path} == 0' for path in paths)), 'add(result.status);']

@@ -50,6 +50,7 @@ def rows() -> list[tuple[str, ...]]:
             shown = reason.removesuffix('::') or path
             made.append((f'`{rattle.replace(path, shown)}`', f'`cellarcove::{shown}`', *(('', '', '', reasons[reason]) if reason else (*cells(export, *others), ''))))
         used |= {reason} if reason else {path, export}
+    made.append(('FromStr of `Date`', 'FromStr of `Date`', '', '', '`Date.fromisoformat`', '`scanf` and `day_of_year`, whose status is `NO_DATE` if there is no such date'))
     made += [(where, where, *cells(export), '') for export, where in BY_TRAIT.items()]
     unknown = (names.keys() | reasons.keys()) - used
     lost = forms.keys() - used - BY_TRAIT.keys()

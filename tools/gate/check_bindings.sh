@@ -202,8 +202,11 @@ has_types() {
     printf '%s\n' 'from array import array' 'import cellarcove as c' 'x: int = c.gcd(12, 18)' \
         "y: array[int] = c.gcd(array('q', [12]), 8)[0]" 'z: c.Date = c.plus_months(c.Date(2000, 1, 31), 1)' \
         "d: array[int] = c.days_between((array('q', [2000]), 1, 1), z)[0]" "m: memoryview = c.is_leap_year(array('q', [2000]))" \
-        'w: c.Date = c.nth_weekday_of_month(2024, 1, z.weekday(), 1)' >"$work/typed.py" &&
-        MYPYPATH=bindings/python mypy --strict --cache-dir="$work/mypy" "$work/typed.py"
+        'w: c.Date = c.nth_weekday_of_month(2024, 1, z.weekday(), 1)' 'k: int = c.gcd(x=4, y=6)' 's: tuple[int, ...] = c.shares(-5, [1, 2])' \
+        "i = c.iso_week(c.plus_months((array('q', [2024]), 1, 31), 1))" >"$work/typed.py" &&
+        MYPYPATH=bindings/python mypy --strict --cache-dir="$work/mypy" "$work/typed.py" &&
+        { printf '%s\n' 'import cellarcove' "cellarcove.gcd(b'ab', 3)" >"$work/wrong.py"
+            ! MYPYPATH=bindings/python mypy --strict --cache-dir="$work/mypy" "$work/wrong.py"; }
 }
 
 # checksums ARCHIVE: a line of checksums for each call.

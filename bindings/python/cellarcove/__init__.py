@@ -20,6 +20,7 @@ import array
 import datetime
 import enum
 import operator
+import re
 from collections.abc import Iterable
 from fractions import Fraction
 from typing import NamedTuple, Protocol, SupportsIndex
@@ -196,6 +197,15 @@ class Date(_Parts):
         if len(parts) != len(cls._fields):
             raise TypeError(f'a date has {len(cls._fields)} parts, and not {len(parts)}')
         return cls(*parts)
+
+    @classmethod
+    def fromisoformat(cls, text: str) -> 'Date':
+        """The date that `isoformat` writes so. Raises `ValueError` for another text, and `Refused` with `NO_DATE` if there is no such date."""
+        parts = re.fullmatch('([+-]?[0-9]+)-([0-9]{2})-([0-9]{2})', text)
+        date = cls(*map(int, parts.groups())) if parts else None
+        if date is None or date.isoformat() != text:
+            raise ValueError(f'no date as `isoformat` writes it: {text[:40]!r}')
+        return date
 
     @classmethod
     def from_date(cls, date: datetime.date) -> 'Date':

@@ -38,6 +38,16 @@ static uint32_t any_uint32_t(void) {
     return (uint32_t)(choice % 4 == 0 ? choice / 4 : choice / 4 % 70);
 }
 
+static uint16_t any_uint16_t(void) {
+    uint64_t choice = random_bits();
+    return (uint16_t)(choice % 4 == 0 ? choice / 4 : choice / 4 % 370);
+}
+
+static int32_t any_int32_t(void) {
+    uint64_t choice = random_bits();
+    return choice % 4 == 0 ? (int32_t)(uint32_t)(choice / 4) : (int32_t)(choice / 4 % 23) - 11;
+}
+
 static uint64_t any_uint64_t(void) { return any(); }
 static int64_t any_int64_t(void) { return (int64_t)any(); }
 
@@ -70,6 +80,15 @@ static size_t fill_int64_t(int64_t *counts) {
     size_t count = random_bits() % (COUNTS + 1);
     for (size_t i = 0; i < count; i++) {
         counts[i] = random_bits() % 16 == 0 ? any_int64_t() : (int64_t)(random_bits() % 23) - 11;
+    }
+    return count;
+}
+
+/* A text of digits and signs. */
+static size_t fill_uint8_t(uint8_t *counts) {
+    size_t count = random_bits() % (COUNTS + 1);
+    for (size_t i = 0; i < count; i++) {
+        counts[i] = (uint8_t)"01234567890//-+x"[random_bits() % 16 * (random_bits() % 16) / 15];
     }
     return count;
 }
