@@ -2,7 +2,9 @@
 diff.
 
 A line has the path by which a caller names the item, and its declaration without the body. An implementation stands by its head,
-if its trait or its type is public or of another crate. What `#[doc(hidden)]` leaves out of the documentation is no line."""
+if its trait or its type is public or of another crate. What `#[doc(hidden)]` leaves out of the documentation is no line.
+
+Copies the changelog into the folder of the crate, whose package has it."""
 import re
 from collections.abc import Iterator
 
@@ -86,4 +88,5 @@ def lines_of(made: Shown) -> Iterator[str]:
 
 
 def made() -> dict[str, str]:
-    return {'rust/api.txt': FIRST + ''.join(line + '\n' for line in sorted(set(lines_of(Shown()))))}
+    return {'rust/api.txt': FIRST + ''.join(line + '\n' for line in sorted(set(lines_of(Shown())))),
+            'rust/CHANGELOG': (ROOT / 'CHANGELOG.md').read_text()}
