@@ -146,8 +146,8 @@ pub extern "C" fn cellarcove_iso_week(date: Date) -> IsoWeekAnswer {
         Some(found) => match found.iso_week() {
             Some(week) => IsoWeekAnswer {
                 status: ANSWER,
-                week: week.week,
-                year: week.year,
+                week: week.week(),
+                year: week.year(),
             },
             None => IsoWeekAnswer::none(NOT_FITTING),
         },
