@@ -2,7 +2,7 @@
 from tools import ROOT, run
 
 SETTINGS = 'tools/settings.cfg'
-SHELL = ('tools/gate/*.sh', '.ci/run', 'bindings/build', 'bindings/install')
+SHELL = ('tools/gate/*.sh', '.ci/run', 'bindings/build', 'bindings/install', 'bindings/js/build')
 
 
 def types(words: list[str]) -> bool:

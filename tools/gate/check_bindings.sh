@@ -17,11 +17,6 @@ archive=$work/by_rattle/libcellarcove_c.a # the one that is looked at
 tests=$PWD/bindings/python/tests
 languages=0
 
-# has PROGRAM LANGUAGE: the program is on the machine, or a line says that the language is skipped.
-has() {
-    command -v "$1" >/dev/null || { echo "$2: skipped, since there is no $1"; return 1; }
-}
-
 build() {
     if [ "$libraries" = --proved ]; then
         mkdir -p crates/cellarcove_c/out && calls_over_proved "$proved"
@@ -157,13 +152,6 @@ passes_its_tests() {
 
 # with_package SCRIPT WORD..: the script runs with the package of the wheel, in an empty folder.
 with_package() { (cd "$work/empty_folder" && PYTHONPATH=$work/site PYTHONDONTWRITEBYTECODE=1 python3 "$@"); }
-
-# counted NAME COMMAND..: the command succeeds. The line has the last one that it printed.
-counted() {
-    local status=0
-    "${@:2}" >"$work/log" 2>&1 || status=$?
-    judge "$1, $(tail -n 1 "$work/log")" "$status"
-}
 
 # fuzz MINUTES [--small]: all exports return what Python computes, for random arguments and for all small ones.
 fuzz() {
