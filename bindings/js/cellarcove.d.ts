@@ -57,6 +57,8 @@ export class Fraction {
   /** The fraction as `-3/4`, and an integer as `3`. */
   toString(): string;
   toJSON(): string;
+  /** It throws: `fractionCmp` compares. */
+  valueOf(): never;
 }
 
 /** A date of the proleptic Gregorian calendar, of any year of 64 bits. */
@@ -70,6 +72,8 @@ export class PlainDate {
   /** The date as `2024-02-29`. The year has a sign if it is not from 0 to 9999. */
   toString(): string;
   toJSON(): string;
+  /** It throws, as those of Temporal: `daysBetween` compares. */
+  valueOf(): never;
 }
 
 /** `a + b`. For 2 and 3 it is 5. `NOT_FITTING` if the sum does not fit. */

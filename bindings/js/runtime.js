@@ -50,6 +50,10 @@ export class Fraction {
     return this.den === 1n ? `${this.num}` : `${this.num}/${this.den}`;
   }
 
+  valueOf() { // or `<` would compare texts
+    throw new TypeError('compare fractions by fractionCmp');
+  }
+
   toJSON() {
     return this.toString();
   }
@@ -74,6 +78,10 @@ export class PlainDate {
     const digits = `${this.year < 0n ? -this.year : this.year}`.padStart(4, '0');
     const sign = this.year < 0n ? '-' : this.year > 9999n ? '+' : '';
     return `${sign}${digits}-${`${this.month}`.padStart(2, '0')}-${`${this.day}`.padStart(2, '0')}`;
+  }
+
+  valueOf() { // as those of Temporal
+    throw new TypeError('compare dates by daysBetween');
   }
 
   toJSON() {
@@ -145,14 +153,13 @@ function integer(x) {
 
 const isSigned = (x) => typeof x === 'bigint' && BigInt.asIntN(64, x) === x, isUnsigned = (x) => BigInt.asUintN(64, x) === x;
 
-/** A number of a type, which `refusal` gets if the type lacks it. The call itself refuses the largest month, week or day. */
-function fitting(x, kind) {
+/** A number of a type. If the type lacks it, `seen` gets the status. The call itself refuses the largest month, week or day. */
+function fitting(x, kind, seen) {
   const bits = 8 * SIZES[kind], big = integer(x);
   const inside = kind[0] === 'i' ? BigInt.asIntN(bits, big) : BigInt.asUintN(bits, big);
-  if (inside !== big && bits > 16) refusal ||= big < 0n && kind[0] === 'u' ? Status.OUTSIDE : Status.NOT_FITTING;
+  if (inside !== big && bits > 16) seen.status ||= big < 0n && kind[0] === 'u' ? Status.OUTSIDE : Status.NOT_FITTING;
   return bits === 64 ? big : inside === big ? Number(big) : 2 ** bits - 1;
 }
-let refusal = 0;
 
 // ---- calls
 
@@ -211,12 +218,12 @@ let value;
 const ENCODER = new TextEncoder();
 
 /** The arguments of a call, as numbers, arrays of the parts of a struct, and lists of such arrays, and the numbers that choose the form. */
-function taken(name, [form, other], given) {
+function taken(name, [form, other], given, seen) {
   const wide = [], hasWritten = form.parameters.filter(({item}) => item).length === 2;
   const parameters = form.parameters.filter(({isWritten}) => !isWritten || !hasWritten);
   if (given.length !== parameters.length) throw new TypeError(`${name} takes ${parameters.map((it) => it.isWritten ? 'count' : it.name).join(', ')}`);
   const number = (x, kind, otherKind) => {
-    if (kind === otherKind) return fitting(x, kind);
+    if (kind === otherKind) return fitting(x, kind, seen);
     wide.push(integer(x));
     return wide.at(-1);
   };
@@ -227,8 +234,8 @@ function taken(name, [form, other], given) {
   const found = parameters.map((parameter, place) => {
     const argument = given[place];
     if (parameter.isWritten) { // as many of the numbers below the argument before it
-      const count = fitting(argument, 'u64');
-      if (count > integer(given[place - 1])) refusal ||= Status.OUTSIDE;
+      const count = fitting(argument, 'u64', seen);
+      if (count > integer(given[place - 1])) seen.status ||= Status.OUTSIDE;
       return Number(count);
     }
     if (parameter.isText) {
@@ -247,10 +254,9 @@ function taken(name, [form, other], given) {
 
 /** The status of a call, whose result is in `value`: that of the signed form, or of the unsigned one if only that fits. */
 function statusOf(name, forms, given) {
-  refusal = 0;
-  const [found, wide] = taken(name, forms, given);
+  const seen = {status: 0}, [found, wide] = taken(name, forms, given, seen);
   value = undefined;
-  if (refusal !== 0) return refusal;
+  if (seen.status !== 0) return seen.status;
   const [signed, unsigned] = forms;
   if (!unsigned) return run(signed, found);
   const status = wide.every(isSigned) ? run(signed, found) : Status.NOT_FITTING;
@@ -309,13 +315,13 @@ function cellsOf([form, other], given) {
 }
 
 /** An array of the items of a cell, which a number fills. */
-function column({given}, kind, length) {
+function column({given}, kind, length, seen) {
   if (ArrayBuffer.isView(given)) {
     if (!(given instanceof ARRAYS[kind])) throw new TypeError(`an array is to be a ${ARRAYS[kind].name}`);
     if (given.length !== length) throw new TypeError(`an array has ${given.length} items, and another ${length}`);
     return given;
   }
-  const x = fitting(given, kind);
+  const x = fitting(given, kind, seen);
   return new ARRAYS[kind](length).fill(x);
 }
 
@@ -323,9 +329,8 @@ function column({given}, kind, length) {
 function ofArrays(name, forms, given) {
   if (given.length !== forms[0].parameters.length) throw new TypeError(`${name} takes ${forms[0].parameters.map((it) => it.name).join(', ')}`);
   const cells = cellsOf(forms, given), form = formOfArrays(forms, cells), length = cells.find((cell) => ArrayBuffer.isView(cell.given)).given.length;
-  refusal = 0;
-  const columns = cells.map((cell) => column(cell, form === forms[0] ? cell.kind : cell.otherKind, length));
-  if (refusal !== 0) throw new Refused(refusal, name);
+  const seen = {status: 0}, columns = cells.map((cell) => column(cell, form === forms[0] ? cell.kind : cell.otherKind, length, seen));
+  if (seen.status !== 0) throw new Refused(seen.status, name);
   const outputs = form.leaves.map(({kind}) => new ARRAYS[kind](length)), status = new Uint8Array(length);
   fill(form, columns, outputs, status);
   const names = form.leaves.length === 1 ? ['value'] : form.leaves.map((leaf) => leaf.name);

@@ -74,6 +74,8 @@ test('fractions and dates are objects with a text', () => {
   assert.throws(() => PlainDate.from('2023-02-29'), {status: Status.NO_DATE});
   assert.throws(() => PlainDate.from('+9223372036854775808-01-01'), {status: Status.NOT_FITTING});
   assert.equal(JSON.stringify([easter(12000), Fraction.from('1/3')]), '["+12000-04-02","1/3"]');
+  assert.throws(() => Fraction.from(1) < Fraction.from(2), TypeError);
+  assert.throws(() => easter(2024) < easter(2025), TypeError);
   const temporal = new class { get year() { return 2004; } get month() { return 12; } get day() { return 31; } }(); // has no own fields
   assert.deepEqual(isoWeek(temporal), {weekOfYear: 53, yearOfWeek: 2004n});
   assert.equal(daysBetween(PlainDate.from(temporal), '2005-01-01'), 1n);
@@ -91,6 +93,7 @@ test('arrays', () => {
   assert.deepEqual(daysBetween(days, '2024-03-01').value, BigInt64Array.of(1n, 367n));
   assert.deepEqual(gcdOf(BigUint64Array.of(12n, 18n)), 6n);
   assert.deepEqual(shares(-100, Uint8Array.of(1, 1, 1)), [-34n, -33n, -33n]);
+  assert.equal(gcdOf((function* numbers() { yield tryLcm(2n ** 64n, 1).status; yield 4; })()), 2n); // a call within a call
   for (const given of [[x, BigUint64Array.of(1n, 1n, 1n)], [x, BigInt64Array.of(1n)], [new Int32Array(3), 1], [new Float64Array(3), 1], [x, 1.5], [x], [x, [1]]]) {
     assert.throws(() => gcd(...given), TypeError);
   }
