@@ -6,6 +6,7 @@ from collections.abc import Iterable
 
 from tools.bindings.c import in_order_of_need
 from tools.bindings.exports import EXPORTS, VERSION, Call, Field, filled, without_returns
+from tools.bindings.python import DOCS
 
 WIDTH = 140
 FIELDS = {'day_of_month': 'day'}
@@ -59,7 +60,8 @@ def module() -> str:
 # ---- types
 
 def comment(call: Call) -> str:
-    text = re.sub('`[a-z_]+`', lambda name: camel(name[0]), ' '.join([without_returns(call.doc), *call.statuses]))
+    said = without_returns(DOCS.get(call.name, call.doc)).replace('as a tuple', 'as an array')
+    text = re.sub('`[a-z_]+`', lambda name: camel(name[0]), ' '.join([said, *call.statuses]))
     lines = textwrap.wrap(text, WIDTH - 6, break_long_words=False, break_on_hyphens=False)
     return f'/** {lines[0]} */\n' if len(lines) == 1 else f'/** {lines[0]}\n' + ''.join(f' *  {line}\n' for line in lines[1:-1]) + f' *  {lines[-1]} */\n'
 
