@@ -106,15 +106,15 @@ TYPES = {
 
 # A call, and what makes its result: a name in by_python.py, and letters for the arguments.
 Calls = dict[str, str]
-LETTERS = "abmsxynz"                            # numbers, a modulus and a size; fractions, a number and 0
+NUMBERS = "abms"                                # two numbers, a modulus and a size
+FRACTIONS = "xynz"                              # two fractions, a number and 0
+DATES = "dne"                                   # a date, a number and the date of that day
 
 
-def model_of(words: str) -> Callable[..., Result]:
-    """What makes the result of the ends of the type and of the arguments of all letters from the first one of the words on."""
+def model_of(given: str, words: str) -> Callable[..., Result]:
+    """What makes the result of the ends of the type and of the arguments of these letters."""
     name, *letters = words.split()
-    made, first = model.RESULTS[name], LETTERS.index("a" if letters[0] in "abms" else "x")
-    places = [LETTERS.index(letter) - first for letter in letters]
-    return lambda ends, *arguments: made(ends, *[arguments[place] for place in places])
+    return lambda ends, *arguments: model.RESULTS[name](ends, *[arguments[given.index(letter)] for letter in letters])
 
 
 # The calls of modular.
@@ -136,12 +136,12 @@ OF_ONE_MODULUS: Calls = {
 
 
 def next_common_solution(ends: Pair, a: int, m: int, b: int, n: int) -> Numbers:
-    found = model.next_common_solution(ends, b, a, m, b, n)
+    found = model.RESULTS["next_common_solution"](ends, b, a, m, b, n)
     return (BEYOND,) if found == model.NOT_FITTING else found
 
 
 def of_one_modulus(shape: Shape, words: str) -> Answered:
-    numbers, call = shape.spread(36), model_of(words)
+    numbers, call = shape.spread(36), model_of(NUMBERS, words)
     return Answered(((a, b, m), call(shape.bounds, a, b, m, abs(b))) for a in numbers for b in numbers for m in numbers if m > 0)
 
 
@@ -155,7 +155,7 @@ def residue_lines() -> Iterator[Line]:
     for name, shape in TYPES.items():
         for call, words in OF_ONE_MODULUS.items():
             yield name, call, of_one_modulus(shape, words)
-        yield name, "ChineseRemainder", of_two_moduli(shape, model.chinese_remainder)
+        yield name, "ChineseRemainder", of_two_moduli(shape, model.RESULTS["chinese_remainder"])
         yield name, "NextSolution", of_two_moduli(shape, next_common_solution)
 
 
@@ -188,7 +188,7 @@ TWO_FRACTIONS: Calls = {
 
 def of_fractions(call: str, words: str, inputs: Iterable[tuple[tuple[int, ...], Pair, Pair, int]]) -> Answered:
     """What is counted of a call: its results, or why there are none. A sign is a fraction."""
-    models = [model_of(each) for each in words.split(",")]
+    models = [model_of(FRACTIONS, each) for each in words.split(",")]
 
     def counted(x: Pair, y: Pair, n: int) -> Numbers:
         if call == "Power" and not -(1 << 31) <= n < 1 << 31:
@@ -224,21 +224,19 @@ def fraction_lines() -> Iterator[Line]:
 # The calls of calendar.
 
 def day(n: int) -> Numbers:
-    own = model.of_day(n)
-    date = model.valid(*own)
-    year, week, weekday = date.isocalendar()
-    return *own, date.timetuple().tm_yday, year + own[0] - date.year, week, n, weekday, *own, *own
+    own = model.of_number(n)
+    return *own, own.near().timetuple().tm_yday, *own.iso_week(), n, own.near().isoweekday(), *own, *own
 
 
 def year(n: int) -> Numbers:
-    leaps = model.days_in(n, 2) == 29
-    return int(leaps), 365 + leaps, model.weeks_in(n), *model.easter(model.I64, n)
+    leaps = model.is_leap(n)
+    return leaps, 365 + leaps, model.weeks_in(n), *model.easter(n)
 
 
 def places(n: int, month: int, weekday: int) -> tuple[int, ...]:
     """The days of the month that have the day of the week, the last one first, and 0 for the fifth if there is
     none."""
-    days = model.weekdays(n, month, weekday)
+    days = [date.day for date in model.weekdays(n, month, weekday)]
     return (days[-1], *days, *[0] * (5 - len(days)))
 
 
@@ -255,12 +253,12 @@ OF_NUMBER: dict[str, Callable[[int], Numbers]] = {
     "NearestWeekdays": nearest_weekdays,
 }
 
-OF_TWO_NUMBERS: dict[str, Callable[[int, int], Result]] = {
-    "PlusDays": lambda d, n: model.within(model.of_day(d + n)),
-    "PlusMonths": lambda d, n: model.within(model.months_later(model.of_day(d), n)),
-    "DaysBetween": lambda d, n: model.fitting(model.I64, n - d),
-    "MonthsBetween": lambda d, n: model.months_between(model.I64, model.of_day(d), model.of_day(n)),
-    "YearsBetween": lambda d, n: model.years_between(model.I64, model.of_day(d), model.of_day(n)),
+OF_TWO_NUMBERS: Calls = {
+    "PlusDays": "plus_days d n",
+    "PlusMonths": "plus_months d n",
+    "DaysBetween": "days_between d e",
+    "MonthsBetween": "months_between d e",
+    "YearsBetween": "years_between d e",
 }
 
 
@@ -270,8 +268,9 @@ def date_lines() -> Iterator[Line]:
         for call, of_one in OF_NUMBER.items():
             yield bits, call, Answered(((n,), of_one(n)) for n in signed(bits).spread(2048))
         numbers = signed(bits).spread(128)
-        for call, of_two in OF_TWO_NUMBERS.items():
-            yield bits, call, Answered(((d, n), of_two(d, n)) for d in numbers for n in numbers)
+        for call, words in OF_TWO_NUMBERS.items():
+            made = model_of(DATES, words)
+            yield bits, call, Answered(((d, n), made(model.I64, model.of_number(d), n, model.of_number(n))) for d in numbers for n in numbers)
 
 
 # The calls of applied.

@@ -11,7 +11,6 @@ from collections.abc import Iterator
 from pathlib import Path
 
 from tools import ROOT, write as write_files
-from tools.erase.bounds import Bounds
 from tools.erase.crate import BY_HAND, Eraser, formatted, made_from, replace
 from tools.erase.documentation import Page
 from tools.erase.library import Module, RustLibrary
@@ -91,10 +90,9 @@ def write(out: Path, crates: Path) -> None:
     """Writes the sources below a folder."""
     library, page = RustLibrary(crates), Page(crates)
     library.read(CRATE, (), crates / CRATE / 'src' / 'lib.rt')
-    bounds, made = Bounds(library), dict[str, str]()
+    made = dict[str, str]()
     for module in [module for module in library.modules.values() if module.crate == CRATE and not only_laws(module)]:
         eraser = Exports(module, library, page)
-        bounds.write(eraser)
         rust, sources = eraser.rust(), str(module.source.path)
         if not module.path:
             rust, sources = head_of_package(rust), f'{sources} and rust/by_hand/exports_head.rs'

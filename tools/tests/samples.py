@@ -11,7 +11,6 @@ from tools import write
 from tools.erase.library import CRATES, RustLibrary
 from tools.erase.crate import Eraser
 from tools.erase.exports import CRATE, Exports
-from tools.erase.bounds import Bounds
 from tools.erase.documentation import Page
 
 GOLDEN = Path(__file__).resolve().parent / 'golden'
@@ -34,7 +33,6 @@ def erased(crate: str, texts: Mapping[str, str]) -> tuple[str, Page]:
             library.read(CRATE, (), crates / CRATE / 'src' / 'lib.rt')
         module, page = library.modules[crate, ()], Page(crates)
         eraser = Exports(module, library, page) if crate == CRATE else Eraser(module, library, page)
-        Bounds(library).write(eraser)
         return eraser.rust(), page
 
 

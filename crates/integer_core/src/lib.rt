@@ -149,7 +149,7 @@ pub trait Integer: Copy + Num + PartialOrd + Ord + Eq {
             (Self.value result) }
     {
         let m = self.mod_floor(other);
-        if is_zero(m) {
+        if is_zero(*&m) {
             *self
         } else {
             sum(*self, difference(*other, m))
