@@ -23,6 +23,13 @@ def cases(name: str) -> list[tuple[str, str]]:
     return [(head, re.sub('^    ', '', text, flags=re.M).rstrip('\n') + '\n') for head, _, text in parts]
 
 
+def change(file: Path, slip: str) -> None:
+    """Puts a new text in the place of an old one: the two stand above and below a line."""
+    text, (old, _, new) = file.read_text(), slip.partition('\n----\n')
+    assert old in text
+    file.write_text(text.replace(old, new.rstrip('\n'), 1))
+
+
 def erased(crate: str, texts: Mapping[str, str]) -> tuple[str, Page]:
     """What is made of a crate of a library, and the pages that it fills. The texts are those of files, or of the roots of crates."""
     with tempfile.TemporaryDirectory() as folder:
