@@ -133,10 +133,9 @@ found_by_pkg_config() {
 found_by_cmake() {
     command -v cmake >/dev/null || { echo 'no cmake'; return 0; }
     rm -rf "$work/project" && mkdir "$work/project" && cp bindings/c/test.c "$work/project" &&
-        printf '%s\n' 'cmake_minimum_required(VERSION 3.10)' 'project(found C)' "find_package(cellarcove ${version%.*} CONFIG REQUIRED)" \
-            'foreach(kind cellarcove shared)' 'add_executable(of_${kind} test.c)' \
-            'target_link_libraries(of_${kind} cellarcove::${kind})' 'endforeach()' >"$work/project/CMakeLists.txt" &&
-        cmake -S "$work/project" -B "$work/project/made" -Dcellarcove_DIR="$work/prefix_moved/$1/cmake/cellarcove" >/dev/null &&
+        cp bindings/c/found.cmake "$work/project/CMakeLists.txt" &&
+        cmake -S "$work/project" -B "$work/project/made" -DVERSION="${version%.*}" \
+            -Dcellarcove_DIR="$work/prefix_moved/$1/cmake/cellarcove" >/dev/null &&
         cmake --build "$work/project/made" >/dev/null && "$work/project/made/of_cellarcove" && "$work/project/made/of_shared"
 }
 
@@ -159,16 +158,11 @@ passes_its_tests() {
 with_package() { (cd "$work/empty_folder" && PYTHONPATH=$work/site PYTHONDONTWRITEBYTECODE=1 python3 "$@"); }
 
 # counted NAME COMMAND..: the command succeeds. The line has the last one that it printed.
-counted() {
-    local status=0
-    "${@:2}" >"$work/log" 2>&1 || status=$?
-    judge "$1, $(tail -n 1 "$work/log")" "$status"
-}
+counted() { note=last_line check "$@"; }
+last_line() { tail -n 1 "$1"; }
 
 # fuzz MINUTES [--small]: all exports return what Python computes, for random arguments and for all small ones.
-fuzz() {
-    with_package "$PWD/tools/cellarcove" check fuzz --minutes "$@"
-}
+fuzz() { with_package "$PWD/tools/cellarcove" check fuzz --minutes "$@"; }
 
 # An editable install leads to the sources, and has the licences.
 installs_editable() {
@@ -187,7 +181,7 @@ passes_with_sanitizers() {
     CFLAGS='-O1 -g -fsanitize=address,undefined -fno-sanitize-recover' CC=gcc makes_a_wheel || return 1
     local -x ASAN_OPTIONS=detect_leaks=0 PYTHONMALLOC=malloc LD_PRELOAD
     LD_PRELOAD="$(gcc -print-file-name=libasan.so) $(gcc -print-file-name=libubsan.so)"
-    passes_its_tests && with_package "$PWD/tools/cellarcove" check fuzz --minutes 0.02
+    passes_its_tests && fuzz 0.02
 }
 
 # A source distribution has all that a wheel is built of by cargo, and its names are those of the package.
@@ -197,16 +191,9 @@ makes_a_wheel_of_the_sources() {
         wheel_of '' "$work/wheel_of_sources" "$work"/sources/*.tar.gz && compgen -G "$work/wheel_of_sources/*.whl"
 }
 
-# The package, and a caller of numbers and of arrays, have the types of the stubs.
+# The package, and a caller of numbers and of arrays, have the types of the stubs. Where the caller says so, they are not those.
 has_types() {
-    printf '%s\n' 'from array import array' 'import cellarcove as c' 'x: int = c.gcd(12, 18)' \
-        "y: array[int] = c.gcd(array('q', [12]), 8)[0]" 'z: c.Date = c.plus_months(c.Date(2000, 1, 31), 1)' \
-        "d: array[int] = c.days_between((array('q', [2000]), 1, 1), z)[0]" "m: memoryview = c.is_leap_year(array('q', [2000]))" \
-        'w: c.Date = c.nth_weekday_of_month(2024, 1, z.weekday(), 1)' 'k: int = c.gcd(x=4, y=6)' 's: tuple[int, ...] = c.shares(-5, [1, 2])' \
-        "i = c.iso_week(c.plus_months((array('q', [2024]), 1, 31), 1))" >"$work/typed.py" &&
-        MYPYPATH=bindings/python mypy --strict --cache-dir="$work/mypy" "$work/typed.py" &&
-        { printf '%s\n' 'import cellarcove' "cellarcove.gcd(b'ab', 3)" >"$work/wrong.py"
-            ! MYPYPATH=bindings/python mypy --strict --cache-dir="$work/mypy" "$work/wrong.py"; }
+    cp "$tests/typed.txt" "$work/typed.py" && MYPYPATH=bindings/python mypy --strict --cache-dir="$work/mypy" "$work/typed.py"
 }
 
 # checksums ARCHIVE: a line of checksums for each call.

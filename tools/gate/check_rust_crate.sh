@@ -23,13 +23,8 @@ at() { (cd "$work/$1" && "${@:2}"); }
 strictly() { RUSTFLAGS=-Dwarnings RUSTDOCFLAGS=-Dwarnings at "$@"; }
 
 # check_tests NAME COMMAND..: the command succeeds and runs tests. The line has their number.
-check_tests() {
-    local status=0 count
-    "${@:2}" >"$work/log" 2>&1 || status=$?
-    count=$(awk '/^test result: ok/ { count += $4 } END { print count + 0 }' "$work/log")
-    [ "$count" -gt 0 ] || status=1
-    judge "$1, $count tests" "$status"
-}
+check_tests() { note=tests check "$@"; }
+tests() { awk '/^test result: ok/ { count += $4 } END { print count + 0, "tests"; exit !count }' "$1"; }
 
 # has COMMAND: the machine has the command.
 has() { command -v "$1" >/dev/null; }
@@ -124,10 +119,7 @@ check_dependents() {
 }
 
 # The lines of a list: type, call, number of inputs and checksum.
-sums() {
-    sed -nE 's/^ *Line\((\w+), (\w+), ([0-9]+), ([0-9]+), ([0-9]+)\),$/\1 \2 \3 \4 \5/p' "$1" |
-        awk '{ print $1, $2, $3 + $4, $5 }'
-}
+sums() { awk -F '[(), ]+' '$2 == "Line" { print $3, $4, $5 + $6, $7 }' "$1"; }
 
 checksums() {
     at compare cargo run --release --features cellarcove >"$work/list" || return 1
@@ -142,9 +134,7 @@ fi
 
 check 'the sources are made anew' is_made_anew
 if has_packages "${originals[@]}"; then
-    mkdir "$work/.cargo"
-    printf '[source.crates-io]\nreplace-with = "debian"\n[source.debian]\ndirectory = "%s"\n' "$registry" \
-        >"$work/.cargo/config.toml"
+    takes_debian "$work"
     mkdir "$work/docs" && cp docs/ERRORS.md "$work/docs" # whose panics the tests see
     cp -r CHANGELOG.md rust compare "$work"
     rm -rf "$work"/{rust,rust/num-integer,rust/c,compare}/{target,Cargo.lock}

@@ -24,7 +24,6 @@ version=$(sed -nE 's/^version = "(.*)"$/\1/p' rust/Cargo.toml)
 original=$(sed -nE 's/^version = "(.*)"$/\1/p' rust/num-integer/Cargo.toml)
 machine=$(uname -m)-$(uname -s | tr 'A-Z' 'a-z')
 proved=crates/cellarcove_c/out/libcellarcove_c.a
-registry=/usr/share/cargo/registry
 export SOURCE_DATE_EPOCH PYTHONDONTWRITEBYTECODE=1 CARGO_TARGET_DIR=$work/target
 SOURCE_DATE_EPOCH=$(git log -1 --format=%ct)
 
@@ -49,10 +48,8 @@ clone() {
 # for_cargo CLONE FOLDER: the package of the crate, and that of num-integer. The packages that cargo finds are Debian's.
 for_cargo() {
     local name=cellarcove-$version.crate
-    [ -d "$registry" ] || { echo "there is no $registry: install librust-num-traits-dev" && return 1; }
-    rm -rf "$CARGO_TARGET_DIR/package" && mkdir -p "$work/.cargo"
-    printf '[source.crates-io]\nreplace-with = "local"\n[source.local]\ndirectory = "%s"\n' "$registry" >"$work/.cargo/config.toml"
-    (cd "$1/rust" && cargo package --quiet --offline --no-verify) && cp "$CARGO_TARGET_DIR/package/$name" "$2" &&
+    [ -d /usr/share/cargo/registry ] || { echo "there are no sources of Debian: install librust-num-traits-dev" && return 1; }
+    rm -rf "$CARGO_TARGET_DIR/package" && takes_debian "$work" && (cd "$1/rust" && cargo package --quiet --offline --no-verify) && cp "$CARGO_TARGET_DIR/package/$name" "$2" &&
         package_num_integer "$1/rust" "$name" "$2"
 }
 
