@@ -105,7 +105,7 @@ TYPES = {
     "U128": Shape(128, 0, (1 << 128) - 1, 0),
 }
 
-
+# By table, each call and what makes its result: a name in by_python.py, and letters for the arguments.
 CALLS = tomllib.loads((ROOT / "compare/libraries.toml").read_text())
 NUMBERS = "abms"                                # two numbers, a modulus and a size
 FRACTIONS = "xynz"                              # two fractions, a number and 0
@@ -118,8 +118,7 @@ def model_of(given: str, words: str) -> Callable[..., Result]:
     return lambda ends, *arguments: model.RESULTS[name](ends, *[arguments[given.index(letter)] for letter in letters])
 
 
-# The calls of modular.
-
+# ---- the calls of modular
 
 def next_common_solution(ends: Pair, a: int, m: int, b: int, n: int) -> Numbers:
     found = model.RESULTS["next_common_solution"](ends, b, a, m, b, n)
@@ -145,8 +144,9 @@ def residue_lines() -> Iterator[Line]:
         yield name, "NextSolution", of_two_moduli(shape, next_common_solution)
 
 
-# The calls of ratio64. Of those in COUNTED, that there is no result is counted too.
+# ---- the calls of ratio64
 
+# Of these, that there is no result is counted too.
 COUNTED = {"Negation", "Magnitude", "Reciprocal", "Power", "Sum", "Difference", "Product", "Quotient"}
 
 def of_fractions(call: str, words: str, inputs: Iterable[tuple[tuple[int, ...], Pair, Pair, int]]) -> Answered:
@@ -184,7 +184,7 @@ def fraction_lines() -> Iterator[Line]:
             yield bits, call, of_fractions(call, words, (((*x, *y), x, y, 0) for x in few for y in few))
 
 
-# The calls of calendar.
+# ---- the calls of calendar
 
 def day(n: int) -> Numbers:
     own = model.of_number(n)
@@ -228,7 +228,7 @@ def date_lines() -> Iterator[Line]:
             yield bits, call, Answered(((d, n), made(model.I64, model.of_number(d), n, model.of_number(n))) for d in numbers for n in numbers)
 
 
-# The calls of applied.
+# ---- the calls of applied
 
 
 def model_lines() -> Iterator[Line]:
