@@ -171,11 +171,7 @@ def call_text(name: str, forms: list[Call]) -> str:
     call, two = forms[0], len(forms) == 2
     follows = [two and a != b for a, b in zip(cells(forms[0]), cells(forms[-1]))]
     named = {form.form: f'&form_{form.symbol.removeprefix("cellarcove_")}' for form in forms}
-    of_many = f'''
-    if (count != 2 && names == NULL) {{
-        return of_any_count(py_{name}_of, "{name}", args, count);
-    }}
-''' if name in OF_MANY else ''
+    of_many = filled('of_many.c', name=name) if name in OF_MANY else ''
     return filled(
         'call.c', name=name, count=str(len(call.parameters)), names=', '.join(f'"{parameter}"' for parameter in parameter_names(call)),
         shapes=''.join('w' if parameter.name == WEEKDAY else SHAPES.get(parameter.kind, 'n') for parameter in call.parameters),
@@ -192,18 +188,9 @@ def list_text(name: str, forms: list[Call]) -> str:
 
     def case(form: Call) -> str:
         others = iter(range(count))
-        passed = ', '.join(f'of.items, (size_t)of.count' if parameter.item else f'others[{next(others)}].{form.form[0]}'
-                           for parameter in form.parameters)
-        return f'''        {c_type(form.result)} r;
-        Py_BEGIN_ALLOW_THREADS
-        r = {form.symbol}({passed});
-        Py_END_ALLOW_THREADS
-        return of_list(&of, r.status, {OBJECTS[form.form]}(r.value));
-'''
-    signed = f'''
-    if (of.is_signed) {{
-{case(forms[0])}    }}
-''' if len(forms) == 2 else ''
+        passed = ', '.join('of.items, (size_t)of.count' if parameter.item else f'others[{next(others)}].{form.form[0]}' for parameter in form.parameters)
+        return filled('list_case.c', type=c_type(form.result), symbol=form.symbol, passed=passed, object=OBJECTS[form.form])
+    signed = f'\n    if (of.is_signed) {{\n{case(forms[0])}    }}\n' if len(forms) == 2 else ''
     return filled('list.c', name=name, parameters='PyObject *const *args, Py_ssize_t given' if count > 1 else 'PyObject *object',
                   taken=f'args, given, {count}' if count > 1 else '&object, 1, 1', count=str(count), place=str(place), width=str(width),
                   has_signed='true' if len(forms) == 2 else 'false', signed=signed, unsigned=case(forms[-1]))
@@ -306,15 +293,7 @@ def stub(name: str, forms: list[Call]) -> str:
         taken = ', '.join(f'{given}: {listed_type(parameter)}' for given, parameter in zip(names, call.parameters))
         return f'def {name}({taken}, /) -> {"tuple[int, ...]" if call.writes else scalar_result(call)}: ...\n'
     if name in OF_MANY:
-        return f'''@overload
-def {name}(x: {ARRAY}, y: {ARRAY} | {NUMBER}, *, out: Outputs = ...) -> {array_result(call)}: ...
-@overload
-def {name}(x: {NUMBER}, y: {ARRAY}, *, out: Outputs = ...) -> {array_result(call)}: ...
-@overload
-def {name}(x: {NUMBER}, y: {NUMBER}) -> int: ...
-@overload
-def {name}(*numbers: {NUMBER}) -> int: ...
-'''
+        return filled('of_many.pyi', name=name, array=ARRAY, number=NUMBER, result=array_result(call))
     overloads = []
     for first in range(len(names)):
         kinds = [scalar_type(parameter) if k < first else array_types(parameter, k == first) for k, parameter in enumerate(call.parameters)]
