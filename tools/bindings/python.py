@@ -4,7 +4,7 @@ import textwrap
 from collections.abc import Callable, Sequence
 
 from tools import ROOT
-from tools.bindings.exports import EXPORTS, Call, Field, c_type, filled, without_returns
+from tools.bindings.exports import EXPORTS, Call, Field, c_type, filled, listed, without_returns
 
 RENAMED = {'fraction_limit_denominator': 'limit_denominator'}
 ALIASES = {'comb': 'binomial', 'isqrt': 'sqrt'}
@@ -12,18 +12,7 @@ PARAMETERS = {'from': 'start', 'to': 'end', 'max': 'max_denominator'}
 OF_MANY = ('gcd', 'lcm')  # which take any count of numbers
 WEEKDAY = 'weekday'        # the parameter that may be a `Weekday`
 WRITTEN = 'count'          # the parameter in place of an array that is written
-# What a call does that returns in Python what C writes.
-DOCS = {
-    'choice_of_rank': 'The choice of `count` numbers below `n` that has the rank, as a tuple: it is the inverse of `rank`.',
-    'fraction_cmp': 'The order of two fractions: -1, 0 or 1 if `a` is less than, equal to or greater than `b`.',
-    'shares': 'The shares of the amount in proportion to the weights, as a tuple. Together they are the amount. The first shares together are their'
-              ' exact share rounded up, and those of a negative amount are the shares of its magnitude with its sign.',
-    'shares_by_largest_remainder': 'The shares of the amount by largest remainders, as a tuple: each is the exact share rounded down, or 1 more for the'
-                                   ' weights with the largest remainders, and of equal ones the first.',
-    'next_common_solution_of': 'Returns the smallest number from `from` on that solves each of up to 64 congruences, which are pairs of a residue and'
-                               ' a modulus. No product of the moduli need fit.',
-}
-
+DOCS = listed('python.txt', ': ')
 # A sentence of a comment with an example, in whose place a docstring has the lines of the call in the last part of rows.txt.
 EXAMPLE = re.compile(r'(?:That of|Those of|Those for|For|From|The date for|February|-?\d).*\d.*')
 ROWS = (ROOT / 'bindings/python/tests/rows.txt').read_text().rpartition('\n\n')[2]
