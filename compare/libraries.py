@@ -4,10 +4,12 @@ crates/replay/src/tests/libraries.rt. `tools/cellarcove make python` writes it.
 Each function stands beside the one of its name in crates/replay, and goes over the same inputs in the same order. Most results are
 those of tools/bindings/by_python.py, with which the exports are compared too.
 """
+import tomllib
 from collections.abc import Callable, Iterable, Iterator, Sequence
 from fractions import Fraction
 from itertools import combinations
 
+from tools import ROOT
 from tools.bindings import by_python as model
 from tools.bindings.by_python import Pair, Result
 
@@ -103,9 +105,8 @@ TYPES = {
     "U128": Shape(128, 0, (1 << 128) - 1, 0),
 }
 
-
-# A call, and what makes its result: a name in by_python.py, and letters for the arguments.
-Calls = dict[str, str]
+# By table, each call and what makes its result: a name in by_python.py, and letters for the arguments.
+CALLS = tomllib.loads((ROOT / "compare/libraries.toml").read_text())
 NUMBERS = "abms"                                # two numbers, a modulus and a size
 FRACTIONS = "xynz"                              # two fractions, a number and 0
 DATES = "dne"                                   # a date, a number and the date of that day
@@ -117,23 +118,7 @@ def model_of(given: str, words: str) -> Callable[..., Result]:
     return lambda ends, *arguments: model.RESULTS[name](ends, *[arguments[given.index(letter)] for letter in letters])
 
 
-# The calls of modular.
-
-OF_ONE_MODULUS: Calls = {
-    "Residue": "residue a m",
-    "Negation": "negation_modulo a m",
-    "Sum": "sum_modulo a b m",
-    "Difference": "difference_modulo a b m",
-    "Product": "product_modulo a b m",
-    "Power": "power_modulo a s m",
-    "Inverse": "inverse_modulo a m",
-    "Quotient": "quotient_modulo a b m",
-    "Solutions": "solutions a b m",
-    "Next": "next_congruent a b m",
-    "Previous": "previous_congruent a b m",
-    "CountCongruent": "count_congruent a b a m",
-}
-
+# ---- the calls of modular
 
 def next_common_solution(ends: Pair, a: int, m: int, b: int, n: int) -> Numbers:
     found = model.RESULTS["next_common_solution"](ends, b, a, m, b, n)
@@ -153,38 +138,16 @@ def of_two_moduli(shape: Shape, call: Callable[..., Numbers]) -> Answered:
 
 def residue_lines() -> Iterator[Line]:
     for name, shape in TYPES.items():
-        for call, words in OF_ONE_MODULUS.items():
+        for call, words in CALLS["modular"].items():
             yield name, call, of_one_modulus(shape, words)
         yield name, "ChineseRemainder", of_two_moduli(shape, model.RESULTS["chinese_remainder"])
         yield name, "NextSolution", of_two_moduli(shape, next_common_solution)
 
 
-# The calls of ratio64. Of those in COUNTED, that there is no result is counted too.
+# ---- the calls of ratio64
 
+# Of these, that there is no result is counted too.
 COUNTED = {"Negation", "Magnitude", "Reciprocal", "Power", "Sum", "Difference", "Product", "Quotient"}
-ONE_FRACTION: Calls = {
-    "Rounded": "fraction_floor x, fraction_ceil x, fraction_trunc x, fraction_round x",
-    "Fract": "fraction_fract x",
-    "Sign": "fraction_cmp x z",
-    "Negation": "fraction_neg x",
-    "Magnitude": "fraction_abs x",
-    "Reciprocal": "fraction_recip x",
-}
-FRACTION_AND_NUMBER: Calls = {
-    "Power": "fraction_pow x n",
-    "FloorTimes": "fraction_floor_times x n",
-    "CeilTimes": "fraction_ceil_times x n",
-    "RoundTimes": "fraction_round_times x n",
-    "Limited": "fraction_limit_denominator x n",
-}
-TWO_FRACTIONS: Calls = {
-    "Sum": "fraction_add x y",
-    "Difference": "fraction_sub x y",
-    "Product": "fraction_mul x y",
-    "Quotient": "fraction_div x y",
-    "Order": "fraction_cmp x y",
-}
-
 
 def of_fractions(call: str, words: str, inputs: Iterable[tuple[tuple[int, ...], Pair, Pair, int]]) -> Answered:
     """What is counted of a call: its results, or why there are none. A sign is a fraction."""
@@ -213,15 +176,15 @@ def fraction_lines() -> Iterator[Line]:
     for bits in (16, 32, 64):
         numbers = signed(bits).spread(52)
         all_fractions, few = fractions_of(numbers), fractions_of(signed(bits).spread(16))
-        for call, words in ONE_FRACTION.items():
+        for call, words in CALLS["fraction"].items():
             yield bits, call, of_fractions(call, words, ((x, x, x, 0) for x in all_fractions))
-        for call, words in FRACTION_AND_NUMBER.items():
+        for call, words in CALLS["fraction_and_number"].items():
             yield bits, call, of_fractions(call, words, (((*x, n), x, x, n) for x in few for n in numbers))
-        for call, words in TWO_FRACTIONS.items():
+        for call, words in CALLS["two_fractions"].items():
             yield bits, call, of_fractions(call, words, (((*x, *y), x, y, 0) for x in few for y in few))
 
 
-# The calls of calendar.
+# ---- the calls of calendar
 
 def day(n: int) -> Numbers:
     own = model.of_number(n)
@@ -253,14 +216,6 @@ OF_NUMBER: dict[str, Callable[[int], Numbers]] = {
     "NearestWeekdays": nearest_weekdays,
 }
 
-OF_TWO_NUMBERS: Calls = {
-    "PlusDays": "plus_days d n",
-    "PlusMonths": "plus_months d n",
-    "DaysBetween": "days_between d e",
-    "MonthsBetween": "months_between d e",
-    "YearsBetween": "years_between d e",
-}
-
 
 def date_lines() -> Iterator[Line]:
     yield 32, "EleventhDays", Answered(((n,), day(n)) for n in range(-719162, 2932897, 11))
@@ -268,27 +223,17 @@ def date_lines() -> Iterator[Line]:
         for call, of_one in OF_NUMBER.items():
             yield bits, call, Answered(((n,), of_one(n)) for n in signed(bits).spread(2048))
         numbers = signed(bits).spread(128)
-        for call, words in OF_TWO_NUMBERS.items():
+        for call, words in CALLS["dates"].items():
             made = model_of(DATES, words)
             yield bits, call, Answered(((d, n), made(model.I64, model.of_number(d), n, model.of_number(n))) for d in numbers for n in numbers)
 
 
-# The calls of applied.
-
-MODELS: Calls = {
-    "Pages": "pages a m",
-    "PlaceOf": "place_of a m",
-    "RangeOfPage": "range_of_page a m b",
-    "RangeOfPart": "range_of_part a m b",
-    "AlignUp": "align_up a m",
-    "Padding": "padding a m",
-    "Midpoint": "average_floor a b",
-}
+# ---- the calls of applied
 
 
 def model_lines() -> Iterator[Line]:
     for name in ("I64", "U64"):
-        for call, words in MODELS.items():
+        for call, words in CALLS["applied"].items():
             yield name, call, of_one_modulus(TYPES[name], words)
 
 
@@ -298,21 +243,6 @@ def ranked_choices() -> Iterator[tuple[Sequence[int], Numbers]]:
         for k in range(n + 1):
             choices = sorted(combinations(range(n), k), key=lambda choice: choice[::-1])
             yield from (((rank,), choice) for rank, choice in enumerate(choices))
-
-
-HEAD = """\
-//! What Python returns, as `compare/libraries.py` printed it.
-
-use super::checksum::Checksum;
-use super::dates::Dates;
-use super::fractions::Fractions;
-use super::lines::LibraryLine;
-use super::models::Models;
-use super::residues::Residues;
-use super::walks::Answered;
-use own_types::types::Type;
-use own_types::types::Type::{I16, I64, I128, U64, U128};
-"""
 
 
 def line(key: str | int, call: str, answered: Answered) -> str:
@@ -330,7 +260,7 @@ def table(name: str, key_type: str, calls: str, lines: Iterable[Line]) -> str:
 def made() -> dict[str, str]:
     """The file."""
     choices = Answered(ranked_choices())
-    text = (HEAD + table("RESIDUES", "Type", "Residues", residue_lines()) + table("FRACTIONS", "u32", "Fractions", fraction_lines())
+    text = ((ROOT / "compare/libraries_head.rt").read_text() + table("RESIDUES", "Type", "Residues", residue_lines()) + table("FRACTIONS", "u32", "Fractions", fraction_lines())
             + table("DATES", "u32", "Dates", date_lines()) + table("MODELS", "Type", "Models", model_lines())
             + "\n/// All choices of the numbers below each number up to 14.\n"
             + f"pub(crate) const CHOICES: Answered = Answered({choices.count}, Checksum({choices.checksum}));\n")

@@ -148,6 +148,12 @@ def without_returns(doc: str) -> str:
     return re.sub('^Returns (.)', lambda found: found[1].upper(), re.sub('^Returns `true` if', 'Whether', doc))
 
 
+def listed(name: str, sign: str) -> dict[str, str]:
+    """The rows of a list beside this file that have the sign: what stands before it, and what after it."""
+    lines = (Path(__file__).parent / name).read_text().splitlines()
+    return dict(line.split(sign, 1) for line in lines if sign in line and not line.startswith('#'))
+
+
 def filled(template: str, **parts: str) -> str:
     """A template with its parts in the place of their names in braces."""
     text = (Path(__file__).parent / 'templates' / template).read_text()

@@ -256,7 +256,7 @@ def run(program: pathlib.Path, command: str, status: int) -> tuple[str, int]:
     """What a command prints, and its status. A page has only calls of the program, or of the examples in a folder of
     programs, and `echo $?`."""
     if not COMMAND.fullmatch(command):
-        return '', 1
+        return 'a command of another form\n', 1
     calls = 'intcalc() { "$PROGRAM" "$@"; }; cargo() { "$PROGRAM/$3" "${@:4}"; }'
     shell = f'{calls}; (exit {status}); {command}'
     ended = subprocess.run(['bash', '-c', shell], env={**os.environ, 'PROGRAM': str(program)}, stdin=subprocess.DEVNULL,
