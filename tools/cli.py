@@ -14,7 +14,7 @@ from tools.erase.source import Unknown
 
 
 SETTINGS = 'tools/settings.cfg'                 # of mypy and pytest, with the files that they read
-SHELL = [str(path) for name in ('tools/gate/*.sh', '.ci/run', 'bindings/build', 'bindings/install') for path in sorted(ROOT.glob(name))]
+SHELL = [str(path) for name in ('tools/gate/*.sh', '.ci/run', 'bindings/build', 'bindings/install', 'bindings/js/build') for path in sorted(ROOT.glob(name))]
 
 
 class Part(NamedTuple):
@@ -28,12 +28,13 @@ PARTS = {
     'make': {
         'rust': Part('rust/src, the crate of plain Rust', 'tools.erase.crate:make'),
         'exports': Part('rust/c/src, its exports for C', 'tools.erase.exports:make'),
-        'bindings': Part('what C, C++ and Python know of the exports', 'tools.bindings.files:made'),
+        'bindings': Part('what C, C++, JavaScript and Python know of the exports', 'tools.bindings.files:made'),
         'api': Part('rust/api.txt, its public items, and rust/CHANGELOG', 'tools.pages.api:made'),
         'reference': Part('docs/reference', 'tools.pages.reference:made'),
         'python': Part('crates/replay/src/tests/libraries.rt, which takes a minute', 'compare.libraries:made'),
         'symbols': Part('prints the symbols of the exports', 'tools.bindings.exports:symbols', False),
         'checksums': Part('prints a program in C that calls each export', 'tools.bindings.checksums:make', False),
+        'rows': Part('SEED COUNT [SECONDS]: prints calls and their results for the tests of JavaScript', 'tools.bindings.rows:make', False),
         'upstream': Part("SOURCE CRATE OUT: a package of num-integer's own tests", 'tools.checks.upstream:make', False),
         'dependents': Part('REGISTRY PACKAGE OUT NAME..: a workspace of packages over num-integer', 'tools.checks.dependents:make', False),
     },

@@ -11,6 +11,7 @@ from __future__ import annotations
 
 import argparse
 import array
+import contextlib
 import datetime
 import itertools
 import random
@@ -21,7 +22,8 @@ from functools import partial
 from types import SimpleNamespace
 from typing import Any
 
-import cellarcove
+with contextlib.suppress(ImportError):  # the rows for JavaScript need only the arguments
+    import cellarcove
 
 from tools.bindings.by_python import BAD_MODULUS, I64, NOT_FITTING, OUTSIDE, PROPERTIES, RESULTS, U64, ZERO_DENOMINATOR
 from tools.bindings.exports import EXPORTS, Call

@@ -17,11 +17,6 @@ archive=$work/by_rattle/libcellarcove_c.a # the one that is looked at
 tests=$PWD/bindings/python/tests
 languages=0
 
-# has PROGRAM LANGUAGE: the program is on the machine, or a line says that the language is skipped.
-has() {
-    command -v "$1" >/dev/null || { echo "$2: skipped, since there is no $1"; return 1; }
-}
-
 build() {
     if [ "$libraries" = --proved ]; then
         mkdir -p crates/cellarcove_c/out && calls_over_proved "$proved"

@@ -27,6 +27,18 @@ check() {
     judge "$1$said" "$status"
 }
 
+# counted NAME COMMAND..: the command succeeds. The line has the last one that it printed.
+counted() {
+    local status=0
+    "${@:2}" >"$work/log" 2>&1 || status=$?
+    judge "$1, $(tail -n 1 "$work/log")" "$status"
+}
+
+# has PROGRAM WHAT: the program is on the machine, or a line says that what needs it is skipped.
+has() {
+    command -v "$1" >/dev/null || { echo "$2: skipped, since there is no $1"; return 1; }
+}
+
 # finish: prints the count, after the name of the script. Its status is 0 if there were checks and none failed.
 finish() {
     echo "${0##*/}: $passed passed, $failed failed"

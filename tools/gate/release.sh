@@ -1,10 +1,10 @@
 #!/usr/bin/env bash
-# Makes the files of a release for cargo, pip and C, and tries each in an empty folder.
+# Makes the files of a release for cargo, pip, npm and C, and tries each in an empty folder.
 #
 # usage: tools/gate/release.sh [--quick] [FOLDER]
 #
 # FOLDER, `dist` if none is given, gets the packages for cargo, the wheel and the source distribution for pip, an archive for C
-# and C++, an archive of the sources, the notes of the release and SHA256SUMS. They are made of a clean clone of the commit
+# and C++, the package for npm, the page on which a call is tried, an archive of the sources, the notes of the release and SHA256SUMS. They are made of a clean clone of the commit
 # that `.ci/run` has passed in this checkout, and once more of a clone in another folder: both have the same sums. The static
 # library is the one that the gate built by Rattle's compiler, or without `rt` on the machine cargo's.
 #
@@ -67,6 +67,14 @@ for_c() {
         cp "$1"/LICENSE-* "$1/bindings/out/made_by" "$work/packed/$top" && packed "$top" "$2/$top-$machine.tar.gz"
 }
 
+# for_npm CLONE FOLDER: the package for Node and browsers, and the page with the package and the reference beside it.
+for_npm() {
+    local top=cellarcove-try-$version
+    rm -rf "$work/packed" && mkdir -p "$work/packed/package" "$work/packed/$top/try" && "$1/bindings/js/build" "$work/packed/package" &&
+        cp "$1/docs/try/index.html" "$work"/packed/package/* "$work/packed/$top/try" &&
+        cp -r "$1"/docs/{reference,CONTRACTS.md} "$work/packed/$top" && packed package "$2/cellarcove-$version.tgz" && packed "$top" "$2/$top.tar.gz"
+}
+
 sources() {
     git -C "$1" archive --format=tar --prefix="cellarcove-$version/" HEAD | gzip -9n >"$2/cellarcove-$version-source.tar.gz"
 }
@@ -75,7 +83,7 @@ sources() {
 make_files() {
     local here=$work/$1/clone there=$work/$1/files
     mkdir -p "$there" && clone "$here" && for_cargo "$here" "$there" && for_pip "$here" "$there" && for_c "$here" "$there" &&
-        sources "$here" "$there" && (cd "$there" && sha256sum -- *) >"$work/$1/SHA256SUMS"
+        for_npm "$here" "$there" && sources "$here" "$there" && (cd "$there" && sha256sum -- *) >"$work/$1/SHA256SUMS"
 }
 
 # ---- each file, in an empty folder
@@ -120,6 +128,21 @@ tries_c() {
             rm "$top"/lib/*.so* && cc test.c "${flags[@]}" -o static && ./static)
 }
 
+# The package, installed by npm without the net and imported by its name, passes its tests, with a minute of random calls.
+tries_the_package_for_npm() {
+    local there minutes=1
+    [ "$quick" = no ] || minutes=0.05
+    there=$(empty npm) && (cd "$there" && npm install --offline --no-audit --no-fund "$files/cellarcove-$version.tgz" &&
+        echo "import {lcm} from 'cellarcove'; if (lcm(4, 6) !== 12n) throw lcm(4, 6);" | node --input-type=module -) &&
+        tools/gate/check_js.sh "$there/node_modules/cellarcove" "$minutes"
+}
+
+# The page, with the package that lies beside it.
+tries_the_page() {
+    local there top=cellarcove-try-$version
+    there=$(empty page) && tar -xzf "$files/$top.tar.gz" -C "$there" && CELLARCOVE=$there/$top/try node --test bindings/js/tests/page.js
+}
+
 tries_the_sources() {
     local there
     there=$(empty sources) && tar -xzf "$files/cellarcove-$version-source.tar.gz" -C "$there" &&
@@ -139,6 +162,8 @@ notes() {
     echo "| \`$(cd "$files" && echo *.whl)\` | the wheel for pip |"
     echo "| \`cellarcove-$version.tar.gz\` | the source distribution for pip, which cargo builds |"
     echo "| \`cellarcove-c-$version-$machine.tar.gz\` | headers and libraries for C and C++, for pkg-config and CMake |"
+    echo "| \`cellarcove-$version.tgz\` | the package for npm, of WebAssembly that cargo made |"
+    echo "| \`cellarcove-try-$version.tar.gz\` | a page on which a call is tried, for any web server |"
     echo "| \`cellarcove-$version-source.tar.gz\` | all sources |"
     printf '\n`.ci/run` has passed:\n\n'
     grep -E '^(rt: ok|gate: |check_[a-z_]+\.sh: )' out/passed | sed 's/^/- /'
@@ -169,6 +194,8 @@ tried 'the two packages for cargo replace num-integer, by the lines of their pag
 tried 'the wheel is installed in a fresh environment and tested' tries_the_wheel
 tried 'the source distribution is installed in a fresh environment' tries_the_source_distribution
 tried 'a program in C is built by pkg-config, with the shared library and with the archive' tries_c
+tried 'the package for npm is installed, tested and called at random' tries_the_package_for_npm
+tried 'the page is served, and calls are tried on it' tries_the_page
 tried 'the sources are those of the commit' tries_the_sources
 if [ "$quick" = no ]; then
     tried 'each guard of plain Rust that is taken out is missed by a test' tools/cellarcove check guards
