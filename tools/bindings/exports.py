@@ -67,6 +67,12 @@ class Call(NamedTuple):
         """Whether the call writes its result through a pointer, and returns the status alone."""
         return any(parameter.is_written for parameter in self.parameters)
 
+    @property
+    def taken(self) -> list[Field]:
+        """The parameters without a list that is written and as long as one that is read."""
+        two_lists = sum(bool(parameter.item) for parameter in self.parameters) == 2
+        return [parameter for parameter in self.parameters if not (parameter.is_written and two_lists)]
+
 
 class Exports(NamedTuple):
     statuses: list[Status]

@@ -35,9 +35,7 @@ def public_calls() -> list[tuple[str, list[Call]]]:
 
 
 def parameter_names(call: Call) -> list[str]:
-    divides_by_weights = sum(bool(parameter.item) for parameter in call.parameters) == 2
-    return [WRITTEN if parameter.is_written else PARAMETERS.get(parameter.name, parameter.name) for parameter in call.parameters
-            if not (parameter.is_written and divides_by_weights)]
+    return [WRITTEN if parameter.is_written else PARAMETERS.get(parameter.name, parameter.name) for parameter in call.taken]
 
 
 def cells(call: Call) -> list[str]:
