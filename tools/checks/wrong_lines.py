@@ -94,12 +94,6 @@ class Bug:
                 f'|| {call}, || {values[0]}, || {values[1]});\n}}\n')
 
 
-def bugs_of(names: Iterable[str]) -> list[Bug]:
-    """The seeded bugs of the crates."""
-    found = [edit for suite in edits.SUITES for edit in ROOT.glob(f'crates/*/{suite}/*.edit') if edit.parent.parent.name in names]
-    return [Bug(number, edit, *edits.apply(edit.parent.parent, edit)) for number, edit in enumerate(sorted(found))]
-
-
 def module_of(bugs: Sequence[Bug]) -> str:
     """The module with the lines of some bugs of one file."""
     tests = ''.join(bug.test() for bug in bugs)
@@ -234,7 +228,9 @@ def judge(bugs: Sequence[Bug]) -> None:
 
 
 def check(words: list[str]) -> bool:
-    bugs = bugs_of(words or dependencies())
+    names = words or dependencies()
+    found = sorted(edit for suite in edits.SUITES for edit in ROOT.glob(f'crates/*/{suite}/*.edit') if edit.parent.parent.name in names)
+    bugs = [Bug(number, edit, *edits.apply(edit.parent.parent, edit)) for number, edit in enumerate(found)]
     with_call = [bug for bug in bugs if bug.part('call')]
     judge(with_call)
     for bug in bugs:

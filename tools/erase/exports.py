@@ -80,12 +80,6 @@ def only_laws(module: Module) -> bool:
     return all(item.kind in ('ghost', 'attribute') or states_laws(item) for item in module.items)
 
 
-def head_of_package(rust: str) -> str:
-    """The root of the package: the head by hand, and the modules."""
-    modules = ''.join(line for line in rust.splitlines(True) if not line.startswith('//!')).lstrip()
-    return (BY_HAND / 'exports_head.rs').read_text() + '\n' + modules
-
-
 def write(out: Path, crates: Path) -> None:
     """Writes the sources below a folder."""
     library, page = RustLibrary(crates), Page(crates)
@@ -94,8 +88,9 @@ def write(out: Path, crates: Path) -> None:
     for module in [module for module in library.modules.values() if module.crate == CRATE and not only_laws(module)]:
         eraser = Exports(module, library, page)
         rust, sources = eraser.rust(), str(module.source.path)
-        if not module.path:
-            rust, sources = head_of_package(rust), f'{sources} and rust/by_hand/exports_head.rs'
+        if not module.path:             # the root: the head by hand, and the modules
+            modules = ''.join(line for line in rust.splitlines(True) if not line.startswith('//!')).lstrip()
+            rust, sources = (BY_HAND / 'exports_head.rs').read_text() + '\n' + modules, f'{sources} and rust/by_hand/exports_head.rs'
         made[f'{"/".join(module.path) or "lib"}.rs'] = made_from(sources, 'exports') + rust
     write_files(out / 'src', made)
     formatted(out)

@@ -142,7 +142,7 @@ if has_packages "${originals[@]}"; then
     check_tests 'its tests' strictly rust cargo test --all-features --tests
     check_tests 'its tests in release' strictly rust cargo test --all-features --release --tests
     check_tests 'the examples of its documentation and its page' documented_examples
-    check 'the example programs print what their heads show' tools/cellarcove check examples "$CARGO_TARGET_DIR/debug/examples"
+    check 'the example programs print what their heads show' tools/cellarcove check sessions "$CARGO_TARGET_DIR/debug/examples"
     # a few of each kind; tools/gate/release.sh takes out all
     check 'a guard that is taken out is missed' tools/cellarcove check guards --sample
     check_tests 'a type that is not Copy, of a package that depends on this crate alone' own_type

@@ -16,11 +16,12 @@ def repository(tmp_path: Path) -> Path:
 
 
 def test_sample(root: Path) -> None:
-    assert laws.missing(root) == (3, [])
+    assert [passed for _, passed in laws.judged(root)] == [True] * 3
 
 
 @pytest.mark.parametrize('head, slip', samples.cases('law_slips'))
 def test_slips(root: Path, head: str, slip: str) -> None:
     name, law, file, _ = head.split(', ', 3)
     samples.change(root / name, slip)
-    assert any(line.startswith(f'{file}: ') and line.endswith(f' ensures `{law}`') for line in laws.missing(root)[1])
+    failed = [line for line, passed in laws.judged(root) if not passed]
+    assert any(line.startswith(f'{file}: ') and line.endswith(f' ensures `{law}`') for line in failed)
