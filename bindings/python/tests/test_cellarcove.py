@@ -9,6 +9,7 @@ import copy
 import ctypes
 import datetime
 import doctest
+import importlib.util
 import itertools
 import pathlib
 import pickle
@@ -25,11 +26,6 @@ from fractions import Fraction
 import cellarcove
 from cellarcove import Date, DivisionByZero, NotFitting, Refused, Status
 
-try:
-    import numpy
-except ImportError:
-    numpy = None
-
 HERE = pathlib.Path(__file__).resolve().parent
 BINDINGS = HERE.parents[1]
 PAGES = (BINDINGS / 'README.md', BINDINGS / 'python/README.md', BINDINGS.parent / 'docs/COOKBOOK.md')
@@ -43,7 +39,8 @@ class Rows(unittest.TestCase):
 
     def test_rows(self):
         for block in (HERE / 'rows.txt').read_text().split('\n\n'):
-            if numpy or 'import numpy' not in block:
+            imported = re.findall('^import (.*)$', block, re.M)
+            if all(importlib.util.find_spec(name) for name in ', '.join(imported).split(', ') if name):
                 with self.subTest(block.splitlines()[0]):
                     self.holds(block, ROW_NAMES.copy(), lambda said, names: repr(eval(said, names)))
 
@@ -187,9 +184,10 @@ class Threads(unittest.TestCase):
 class Shutdown(unittest.TestCase):
     """The end of a program, and a module that is imported again."""
 
-    def ends(self, code):
+    def ends(self, code, said=''):
         ran = subprocess.run([sys.executable, '-c', textwrap.dedent(code)], capture_output=True, text=True, timeout=120)
-        self.assertEqual((ran.returncode, ran.stderr), (0, ''))
+        self.assertEqual(ran.returncode, 0, ran.stderr)
+        self.assertEqual([line for line in ran.stderr.splitlines() if not re.search(said or '$^', line)], [])
 
     def test_running_thread(self):
         """A thread that runs calls when the program ends."""
@@ -240,6 +238,26 @@ class Shutdown(unittest.TestCase):
             except cellarcove.NotFitting:
                 assert cellarcove.easter(2024) == cellarcove.Date(2024, 3, 31)
         ''')
+
+    def test_next_interpreter(self):
+        """So it is after the one that imported it has ended, though its memory may be used again."""
+        self.ends('''
+            try:
+                import _xxsubinterpreters as interpreters
+            except ImportError:
+                import _interpreters as interpreters
+            def imported():
+                other = interpreters.create()
+                try:
+                    return interpreters.run_string(other, 'import cellarcove; assert cellarcove.gcd(12, 18) == 6')
+                except Exception as error:
+                    return error
+                finally:
+                    interpreters.destroy(other)
+            if imported() is None: # from Python 3.12 on an interpreter with a lock of its own imports no such extension
+                failed = imported()
+                assert 'another interpreter of this process has imported cellarcove' in str(failed), failed
+        ''', said='mpd_setminalloc|^$') # the module decimal warns of a second interpreter
 
     def test_import_again(self):
         """The calls raise the errors of the package that was imported last."""
