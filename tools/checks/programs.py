@@ -6,7 +6,7 @@ SHELL = ('tools/gate/*.sh', '.ci/run', 'bindings/build', 'bindings/install')
 
 
 def types(words: list[str]) -> bool:
-    return run('mypy', '--config-file', SETTINGS, *(words or ['tools', 'compare/libraries.py', 'bindings/python/cellarcove_build.py',
+    return run('mypy', '--config-file', SETTINGS, *(words or ['tools', 'compare/libraries.py', 'bindings/python/hatch_build.py',
                                                                     'bindings/python/cellarcove/__init__.py']))
 
 

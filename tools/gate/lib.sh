@@ -32,6 +32,15 @@ finish() {
     [ "$failed" -eq 0 ] && [ "$passed" -gt 0 ]
 }
 
+# builder: the Python that has hatchling, which makes wheels: the first one in the path, or Debian's.
+builder() {
+    local name
+    for name in python3 /usr/bin/python3; do
+        ! "$name" -c 'import hatchling, pip' 2>/dev/null || { echo "$name" && return; }
+    done
+    return 1
+}
+
 # crates_of NAME: the crate and those below it, one a line.
 crates_of() {
     local below

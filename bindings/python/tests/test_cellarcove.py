@@ -27,8 +27,8 @@ import cellarcove
 from cellarcove import Date, DivisionByZero, NotFitting, Refused, Status
 
 HERE = pathlib.Path(__file__).resolve().parent
-BINDINGS = HERE.parents[1]
-PAGES = (BINDINGS / 'README.md', BINDINGS / 'python/README.md', BINDINGS.parent / 'docs/COOKBOOK.md')
+# A source distribution has the first of these pages.
+PAGES = [page for page in (HERE.parent / 'README.md', HERE.parents[1] / 'README.md', HERE.parents[2] / 'docs/COOKBOOK.md') if page.exists()]
 ROW_NAMES = {**vars(cellarcove), 'array': array.array, 'copy': copy, 'date': datetime.date, 'Fraction': Fraction,
              'SimpleNamespace': types.SimpleNamespace, 'addressof': ctypes.addressof, 'c_char': ctypes.c_char}
 random.seed(64)
