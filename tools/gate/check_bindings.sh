@@ -138,11 +138,11 @@ found_by_pkg_config() {
 found_by_cmake() {
     command -v cmake >/dev/null || { echo 'no cmake'; return 0; }
     rm -rf "$work/project" && mkdir "$work/project" && cp bindings/c/test.c "$work/project" &&
-        printf '%s\n' 'cmake_minimum_required(VERSION 3.19)' 'project(found C)' 'find_package(cellarcove 0.1...<0.2 QUIET)' \
-            'if(cellarcove_FOUND)' 'message(FATAL_ERROR "a range without this version")' 'endif()' \
+        printf '%s\n' 'cmake_minimum_required(VERSION 3.19)' 'project(found C)' \
             "find_package(cellarcove 0.2...${version%.*} CONFIG REQUIRED)" "find_package(cellarcove ${version%.*} CONFIG REQUIRED)" \
             'foreach(kind cellarcove shared)' 'add_executable(of_${kind} test.c)' \
-            'target_link_libraries(of_${kind} cellarcove::${kind})' 'endforeach()' >"$work/project/CMakeLists.txt" &&
+            'target_link_libraries(of_${kind} cellarcove::${kind})' 'endforeach()' 'find_package(cellarcove 0.1...<0.2 QUIET)' \
+            'if(cellarcove_FOUND)' 'message(FATAL_ERROR "a range without this version")' 'endif()' >"$work/project/CMakeLists.txt" &&
         cmake -S "$work/project" -B "$work/project/made" -Dcellarcove_DIR="$work/prefix_moved/$1/cmake/cellarcove" >/dev/null &&
         cmake --build "$work/project/made" >/dev/null && "$work/project/made/of_cellarcove" && "$work/project/made/of_shared"
 }
