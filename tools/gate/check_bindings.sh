@@ -214,7 +214,7 @@ has_types() {
         "y: array[int] = c.gcd(array('q', [12]), 8)[0]" 'z: c.Date = c.plus_months(c.Date(2000, 1, 31), 1)' \
         "d: array[int] = c.days_between((array('q', [2000]), 1, 1), z)[0]" "m: memoryview = c.is_leap_year(array('q', [2000]))" \
         'w: c.Date = c.nth_weekday_of_month(2024, 1, z.weekday(), 1)' 'k: int = c.gcd(x=4, y=6)' 's: tuple[int, ...] = c.shares(-5, [1, 2])' \
-        "i = c.iso_week(c.plus_months((array('q', [2024]), 1, 31), 1))" >"$work/typed.py" &&
+        "i = c.iso_week(c.plus_months((array('q', [2024]), 1, 31), 1))" 't: c.Date = 2 + z + 1 - 3' 'u: int = z - t' >"$work/typed.py" &&
         MYPYPATH=bindings/python mypy --strict --cache-dir="$work/mypy" "$work/typed.py" &&
         { printf '%s\n' 'import cellarcove' "cellarcove.gcd(b'ab', 3)" >"$work/wrong.py"
             ! MYPYPATH=bindings/python mypy --strict --cache-dir="$work/mypy" "$work/wrong.py"; }
