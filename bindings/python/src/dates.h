@@ -188,24 +188,19 @@ static PyMethodDef date_methods[] = {
     {NULL, NULL, 0, NULL},
 };
 
-/* Makes the class, below the named tuple of the parts of a date. */
+/* Makes the class, below the named tuple of the parts of a date. A module that is imported again has the same one. */
 static int add_dates(PyObject *module) {
     PyType_Slot slots[] = {{Py_tp_new, (void *)date_new}, {Py_tp_str, (void *)date_str}, {Py_tp_methods, date_methods},
                            {Py_nb_add, (void *)date_plus}, {Py_nb_subtract, (void *)date_minus}, {0, NULL}};
     PyType_Spec spec = {.name = "cellarcove._calls.Dates", .flags = Py_TPFLAGS_DEFAULT | Py_TPFLAGS_BASETYPE, .slots = slots};
-    PyObject *collections = PyImport_ImportModule("collections");
-    PyObject *base = collections == NULL ? NULL : PyObject_CallMethod(collections, "namedtuple", "ss", "Date", "year month day");
-    PyObject *bases = base == NULL ? NULL : PyTuple_New(1);
-    if (bases != NULL) {
-        PyTuple_SetItem(bases, 0, base);
-        Py_XDECREF(class_dates);
-        class_dates = PyType_FromSpecWithBases(&spec, bases);
-        Py_DECREF(bases);
+    if (class_dates == NULL) {
+        PyObject *collections = PyImport_ImportModule("collections");
+        PyObject *base = collections == NULL ? NULL : PyObject_CallMethod(collections, "namedtuple", "ss", "Date", "year month day");
+        PyObject *bases = tuple_of(NULL, 1, &base);
+        class_dates = bases == NULL ? NULL : PyType_FromSpecWithBases(&spec, bases);
+        Py_XDECREF(collections);
+        Py_XDECREF(bases);
     }
-    Py_XDECREF(collections);
-    if (bases == NULL || class_dates == NULL) {
-        return -1;
-    }
-    Py_INCREF(class_dates);
-    return PyModule_AddObject(module, "Dates", class_dates);
+    Py_XINCREF(class_dates);
+    return class_dates == NULL ? -1 : PyModule_AddObject(module, "Dates", class_dates);
 }

@@ -262,13 +262,15 @@ class Shutdown(unittest.TestCase):
     def test_import_again(self):
         """The calls raise the errors of the package that was imported last."""
         self.ends('''
-            import sys, cellarcove
+            import sys, cellarcove as before
             del sys.modules['cellarcove'], sys.modules['cellarcove._calls']
             import cellarcove as again
             try:
                 again.lcm(2**63, 3)
             except again.NotFitting:
                 assert again.easter(2024) == again.Date(2024, 3, 31)
+            date, now = before.Date(2024, 3, 31), again.Date(2024, 3, 31)
+            assert date + 1 == now + 1 and date - now == 0 and date.fromisoformat('2024-03-31') == now
         ''')
 
 
