@@ -44,6 +44,7 @@ static void layout(void) {
 static void words(void) {
     CHECK(strcmp(cellarcove_status_text(CELLARCOVE_NO_DATE), "there is no such date") == 0);
     CHECK(strcmp(cellarcove_status_text(7), "no status") == 0);
+    CHECK(strcmp(cellarcove_version(), CELLARCOVE_VERSION) == 0);
     CHECK(strcmp(cellarcove_built_by(), "rattle") == 0 || strcmp(cellarcove_built_by(), "cargo") == 0);
     CHECK(strcmp(CELLARCOVE_VERSION, "0.1") > 0);
 }
