@@ -19,3 +19,4 @@ pub mod Coefficient
 pub mod Multinomial
 pub mod Row
 pub mod Parts
+pub mod DivisorSums
