@@ -1,19 +1,26 @@
 //! Amounts of money: a divisor that is computed in the call, a wider type and back, and equal parts.
 
-ghost use Rattle.std.specs.Prelude.{◌≡◌, ◌↔◌, ◌<◌, ◌≤◌, ◌+◌, ◌+ℤ◌, ◌*ℤ◌, ◌<ℤ◌, FitsSigned, IsFalse, IsTrue, MatchOption, length, pos, slice_index, sum, ℕ};
+ghost use Rattle.std.specs.Prelude.{◌≡◌, ◌↔◌, ◌<◌, ◌≤◌, ◌+◌, ◌+ℤ◌, ◌*ℤ◌, ◌≤ℤ◌, FitsSigned, IsFalse, IsTrue, MatchOption, length, pos, slice_index, sum, ℕ};
 ghost use Rattle.std.specs.Int.{w64};
 ghost use Rattle.num_integer.specs.Division.{IsFloored, IsQuotient};
 ghost use Rattle.num_integer.specs.Range.{EachFits};
 ghost use Rattle.applied.specs.Rounding.{AnswersQuotient, IsNearestEven};
 
 use applied::rounding::checked::div_round_even;
-use num_integer::{Integer, checked};
+use num_integer::{Integer, checked, operators};
 
-/// Returns the share of each of the guests and of the host, rounded down. The sum in the call is one of the facts that the
-/// function requires.
+/// Returns the share of each of the guests and of the host, rounded down. The sum is a call of `operators`, whose contract
+/// says which number it is.
 pub fn share_with_host(cents: i64, guests: i64) -> i64
-    requires positive { pos 0 <ℤ (guests +ℤ pos 1) }
-    requires fits { FitsSigned w64 (guests +ℤ pos 1) }
+    requires { (pos 0 ≤ℤ guests) × (guests ≤ℤ pos 1000) }
+    ensures { IsQuotient IsFloored cents (guests +ℤ pos 1) result }
+{
+    cents.div_floor(&operators::sum(guests, 1))
+}
+
+/// Returns the same share. The sum is an operator, so the proof file says that it fits.
+pub fn share_by_plus(cents: i64, guests: i64) -> i64
+    requires { (pos 0 ≤ℤ guests) × (guests ≤ℤ pos 1000) }
     ensures { IsQuotient IsFloored cents (guests +ℤ pos 1) result }
 {
     cents.div_floor(&(guests + 1))
@@ -21,13 +28,12 @@ pub fn share_with_host(cents: i64, guests: i64) -> i64
 
 /// Returns the net amount of a gross amount, rounded down, or `None` if it does not fit.
 pub fn net_rounded_down(gross: i64, rate_percent: i64) -> Option<i64>
-    requires positive { pos 0 <ℤ (pos 100 +ℤ rate_percent) }
-    requires fits { FitsSigned w64 (pos 100 +ℤ rate_percent) }
+    requires { (pos 0 ≤ℤ rate_percent) × (rate_percent ≤ℤ pos 1000) }
     ensures { MatchOption result
         (¬ (EachFits (FitsSigned w64) (IsQuotient IsFloored (gross *ℤ pos 100) (pos 100 +ℤ rate_percent))))
         (λ net. IsQuotient IsFloored (gross *ℤ pos 100) (pos 100 +ℤ rate_percent) net) }
 {
-    let (net, _) = checked::product_div_mod_floor(gross, 100, 100 + rate_percent)?;
+    let (net, _) = checked::product_div_mod_floor(gross, 100, operators::sum(100, rate_percent))?;
     Some(net)
 }
 

@@ -6,7 +6,7 @@ ghost use Rattle.modular.specs.Congruences.{IsResidue};
 
 use modular::{power_modulo, product_modulo};
 
-/// Returns `m` to the power `e` modulo `n`, in the word of `modular`.
+/// Returns `m` to the power `e` modulo `n`: the number whose word `modular` has.
 pub fn rsa_round_trip(m: u64, e: u64, n: u64) -> u64
     requires { 0 < n }
     ensures { IsResidue (pos n) (int_pow (pos m) e) (pos result) }
@@ -14,7 +14,7 @@ pub fn rsa_round_trip(m: u64, e: u64, n: u64) -> u64
     power_modulo(m, u128::from(e), n)
 }
 
-/// Returns the same number, by the operators of the natural numbers.
+/// Returns `m` to the power `e` modulo `n`.
 #[tactic(auto, using(modular::proofs::ForCallers::power_is_natural))]
 pub fn power_remainder(m: u64, e: u64, n: u64) -> u64
     requires { 0 < n }
