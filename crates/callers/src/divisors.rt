@@ -25,7 +25,6 @@ pub fn divisor_sum(n: u64) -> u128
 }
 
 /// Returns the first positive time at which both begin together, or `None` if it does not fit.
-#[tactic(auto, using(num_integer::proofs::ForCallers::first_multiple_at_u64))]
 pub fn meet_again_in_pairs(a: u64, b: u64) -> Option<u64>
     requires { (0 < a) × (0 < b) }
     ensures { MatchOption result
@@ -37,7 +36,6 @@ pub fn meet_again_in_pairs(a: u64, b: u64) -> Option<u64>
 
 /// `meet_again(4, 6, 10)` is `Some(60)`. Returns the first positive time that all three divide, or `None` if it does not
 /// fit.
-#[tactic(auto, using(applied::proofs::ForCallers::meeting_of_three_at_u64))]
 pub fn meet_again(a: u64, b: u64, c: u64) -> Option<u64>
     requires { (0 < a) × (0 < b) × (0 < c) }
     ensures { MatchOption result
@@ -48,7 +46,6 @@ pub fn meet_again(a: u64, b: u64, c: u64) -> Option<u64>
 }
 
 /// Returns the largest step that both numbers are multiples of. It is at most 1439 if both are minutes of a day.
-#[tactic(auto, using(num_integer::proofs::ForCallers::natural_gcd_at_most))]
 pub fn common_step(a: u16, b: u16) -> u16
     requires { (a ≤ 1439) × (b ≤ 1439) }
     ensures { result ≤ 1439 }

@@ -16,11 +16,11 @@ pub fn rsa_round_trip(m: u64, e: u64, n: u64) -> u64
 
 /// Returns `m` to the power `e` modulo `n`.
 #[tactic(auto, using(modular::proofs::ForCallers::power_is_natural))]
-pub fn power_remainder(m: u64, e: u64, n: u64) -> u64
+pub fn power_remainder(m: u64, e: u128, n: u64) -> u64
     requires { 0 < n }
     ensures { result ≡ m ^ e % n }
 {
-    power_modulo(m, u128::from(e), n)
+    power_modulo(m, e, n)
 }
 
 /// Returns `true`: a power whose exponent is a sum is the product of two powers, modulo each number.
