@@ -11,5 +11,6 @@ pub mod WeightedShares
 pub mod LargestRemainders
 pub mod NearestQuotients
 pub mod FallingFactorials
+pub mod FirstMultiples
 pub mod Laws
 pub mod ForCallers
