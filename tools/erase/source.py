@@ -273,14 +273,10 @@ class Source:
 
     def read_impl(self, item: Item) -> None:
         brace = self.end(item.word, '{')
-        head = self.angle(item.word + 1)
-        names, depth = [], 0
-        for k in range(head, brace):
-            depth += self.is_sign(k, '<') - (self.is_sign(k, '>') and self.at(k - 1) != '-')
-            if depth == 0 and self.at(k) == 'where':
-                break
-            if depth == 0 and self.kind(k) == 'word':
-                names.append(self.at(k))
+        names, k = list[str](), self.angle(item.word + 1)
+        while k < brace and self.at(k) != 'where':
+            names += [self.at(k)] * (self.kind(k) == 'word')
+            k = max(k + 1, self.angle(k))
         if 'for' in names:
             item.of_trait, names = names[names.index('for') - 1], names[names.index('for') + 1:]
         item.name = names[-1] if names else ''
@@ -343,12 +339,6 @@ class Source:
 
     def next_field(self, k: int, last: int) -> int:
         """The place of the comma after a field, or `last`."""
-        depth = 0
-        while k < last:
-            if self.is_sign(k, '([{'):
-                k = self.close(k)
-            depth += self.is_sign(k, '<') - (self.is_sign(k, '>') and self.at(k - 1) != '-')
-            if depth == 0 and self.is_sign(k, ','):
-                return k
-            k += 1
-        return last
+        while k < last and not self.is_sign(k, ','):
+            k = self.close(k) + 1 if self.is_sign(k, '([{') else max(k + 1, self.angle(k))
+        return min(k, last)
