@@ -242,8 +242,7 @@ class Reference:
             for name, word in words.items():
                 if word.key in self.specs.cited:
                     self.anchors[word.key] = page.word(3, name, word.comment, word.text)
-                    names = {other: (crate, 'specs.' + file) for other in words} | self.specs.read(crate, file)[1]
-                    self.links(page, word.text, {other: path for other, path in names.items() if other != name})
+                    self.links(page, word.text, self.specs.names(word))
 
     def laws_of(self, page: Page) -> None:
         if (CRATES / page.name / 'specs' / 'Laws.antt').is_file():
