@@ -37,8 +37,8 @@ CHANGED = {('integer_core', 'src/native.rt'): ((
     '        assert!(number >= zero() && number.magnitude() == magnitude, "attempt to narrow with overflow");\n'
     '        number\n'),)}
 # By crate and a name: the files of prelude/ that the lines of the crate with that name get.
-PRELUDES = {('integer_core', 'Own('): ('own',), ('integer_roots', 'Own('): ('own', 'roots_of_own'), ('intcalc_core', 'writer('): ('sink', 'writer'),
-            ('intcalc', 'writer('): ('writer',), ('intcalc', 'args('): ('args',)}
+PRELUDES = {('integer_core', 'Own('): ('own',), ('integer_core', 'Padded::'): ('text',), ('integer_roots', 'Own('): ('own', 'roots_of_own'),
+            ('intcalc_core', 'writer('): ('sink', 'writer'), ('intcalc', 'writer('): ('writer',), ('intcalc', 'args('): ('args',)}
 PACKAGE = '[package]\nname = "{name}"\nversion = "0.0.0"\nedition = "2021"\n[dependencies]\nnum-traits = "0.2"\n'
 
 

@@ -45,6 +45,14 @@ has_packages() {
     done
 }
 
+# cargo's shared library has the exports alone, a name for the loader, and no need that nothing meets.
+is_shared_library() {
+    local library=$CARGO_TARGET_DIR/release/libcellarcove_c.so
+    diff <({ tools/cellarcove make symbols && printf 'cellarcove_%s\n' built_by version; } | sort) \
+        <(nm --dynamic --defined-only "$library" | awk '{ print $3 }' | sort) &&
+        readelf -d "$library" | grep -q 'SONAME.*libcellarcove_c.so.[0-9]' && ! nm --dynamic --undefined-only "$library" | grep -v ' w '
+}
+
 # The examples of the documentation, in a copy of edition 2024, which builds them as one program.
 documented_examples() {
     cp -r "$work/rust" "$work/documented"
@@ -62,10 +70,11 @@ own_type() {
     at own cargo test --test boxed_type
 }
 
-# The package has the texts of both licences and the changelog, as the repository has them.
+# The package has the texts of both licences and the changelog, as the repository has them, and that of Python both licences.
 has_texts() {
     local name
     at rust cargo package --allow-dirty --list >"$work/list" || return 1
+    for name in LICENSE-*; do cmp "$name" "bindings/python/$name" || return 1; done
     for name in LICENSE-* CHANGELOG; do
         { cmp "$name"* "rust/$name" && grep -x "$name" "$work/list"; } || { echo "the package has no $name" && return 1; }
     done
@@ -152,6 +161,7 @@ if has_packages "${originals[@]}"; then
     check 'the package num-integer with all features' strictly rust/num-integer cargo build --all-features
     # tools/gate/check_bindings.sh calls them
     check 'the exports for C' strictly rust/c cargo build --release
+    check 'the shared library that cargo makes of them' is_shared_library
     check 'its documentation' strictly rust cargo doc --no-deps --all-features
     check 'its links to contracts and to their words' tools/cellarcove check rust_docs --links "$CARGO_TARGET_DIR/doc/cellarcove"
     if has cargo-clippy; then

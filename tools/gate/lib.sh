@@ -48,6 +48,15 @@ finish() {
 # takes_debian FOLDER: below it cargo takes all packages from those of Debian.
 takes_debian() { mkdir -p "$1/.cargo" && cp tools/gate/debian.toml "$1/.cargo/config.toml"; }
 
+# builder: the Python that has hatchling, which makes wheels: the first one in the path, or Debian's.
+builder() {
+    local name
+    for name in python3 /usr/bin/python3; do
+        ! "$name" -c 'import hatchling, pip' 2>/dev/null || { echo "$name" && return; }
+    done
+    return 1
+}
+
 # crates_of NAME: the crate and those below it, one a line.
 crates_of() {
     local below

@@ -1,5 +1,5 @@
 -- Quotients rounded to the nearest integer: from those rounded down, the only ones, and when they fit.
-use Rattle.std.specs.Prelude.{◌≡◌, ◌⊎◌, ◌↔◌, ◌<◌, ◌≤◌, ◌≤ℤ◌, ◌+◌, ◌*◌, ◌<ℤ◌, ◌+ℤ◌, ◌-ℤ◌, ◌*ℤ◌}
+use Rattle.std.specs.Prelude.{◌≡◌, ◌≢◌, ◌⊎◌, ◌↔◌, ◌<◌, ◌≤◌, ◌≤ℤ◌, ◌+◌, ◌*◌, ◌<ℤ◌, ◌+ℤ◌, ◌-ℤ◌, ◌*ℤ◌}
 use Rattle.std.proofs.Math.Bool.{beq}
 use Rattle.applied.proofs.Common.{Bool, true, false, not, signed, ℕ, ℤ, pos, neg_ℤ, unsigned_abs, ap, arith, inl, inr, le_refl, refl, subst, cases_lt, by_lt_z, unsigned_abs-mul, mul-le, IsDivision, IsFloored, IsQuotient, IsEven, EachFits, IsRange, divides_or_not, expand, from_not_less, linear, other_quotient_fits, products, sizes, zero_or_not, division_exists, NearestEvenQuotientIsOnly, NearestQuotientExists, NearestQuotientFitsExactly, NearestQuotientIsOnly, NoIntegerIsNearer, IsDown, IsNearer, IsNearest, IsNearestEven, LiesWithin}
 
@@ -235,7 +235,7 @@ nearest_even_by_magnitudes = quotient_by_magnitudes nearest_even_turns
 
 -- a divisor other than 0 has a magnitude other than 0
 pub magnitude_nonzero : (u : Bool) (e : ℕ) → signed u e ≢ pos 0 → pos e ≢ pos 0
-magnitude_nonzero true e nonzero = λ none. nonzero (rw none refl)
+magnitude_nonzero true e nonzero = λ none. nonzero (omega (arith, linear))
 magnitude_nonzero false e nonzero = nonzero
 
 -- ---- when they fit

@@ -743,6 +743,18 @@
 //!   result }`
 //! - Words: [`AnswersWhere`](integer_core#answerswhere), [`EachFits`](integer_core#eachfits),
 //!   [`IsLeastCommonMultipleOf`](applied#isleastcommonmultipleof)
+//! ## `lists::checked::sum_of`
+//! - `ensures { AnswersWhere (T.fits (signed_sum (map T.value numbers.now))) (Has T.fits T.value (λ
+//!   s. s ≡ signed_sum (map T.value numbers.now))) result }`
+//! - Words: [`AnswersWhere`](integer_core#answerswhere), [`signed_sum`](applied#signed_sum),
+//!   [`Has`](integer_core#has)
+//! ## `lists::checked::dot_product`
+//! - `requires in_range { All (λ p. T.fits (T.value p.0) × T.fits (T.value p.1)) pairs.now }`
+//! - `ensures { AnswersWhere (T.fits (signed_sum (map (λ p. T.value p.0 *ℤ T.value p.1)
+//!   pairs.now))) (Has T.fits T.value (λ s. s ≡ signed_sum (map (λ p. T.value p.0 *ℤ T.value p.1)
+//!   pairs.now))) result }`
+//! - Words: [`AnswersWhere`](integer_core#answerswhere), [`signed_sum`](applied#signed_sum),
+//!   [`Has`](integer_core#has)
 //! ## `modular::chinese_remainder`
 //! - `requires m_positive { pos 0 <ℤ T.value m }`
 //! - `requires n_positive { pos 0 <ℤ T.value n }`

@@ -3,7 +3,6 @@
 //! divisor is 0 or the quotient does not fit.
 
 use crate::operators::{is_minus_one, is_zero};
-use crate::rounding;
 use crate::sign_magnitude::{number_of, parts_of, parts_of_product};
 use crate::{Fits, NativeInteger};
 
@@ -23,7 +22,7 @@ use crate::{Fits, NativeInteger};
 #[must_use]
 pub fn div_round<T: Fits>(x: T, y: T) -> Option<T> {
     if x.quotient_fits(&y) {
-        Some(rounding::div_round(x, y))
+        Some(crate::rounding::div_round(x, y))
     } else {
         None
     }
@@ -45,7 +44,7 @@ pub fn div_round<T: Fits>(x: T, y: T) -> Option<T> {
 #[must_use]
 pub fn div_round_even<T: Fits>(x: T, y: T) -> Option<T> {
     if x.quotient_fits(&y) {
-        Some(rounding::div_round_even(x, y))
+        Some(crate::rounding::div_round_even(x, y))
     } else {
         None
     }
@@ -78,7 +77,7 @@ pub fn product_div_round<T: NativeInteger<Magnitude = u64>>(a: T, b: T, d: T) ->
         return None;
     }
     match a.checked_mul(&b) {
-        Some(product) if !is_minus_one(d) => Some(rounding::div_round(product, d)),
+        Some(product) if !is_minus_one(d) => Some(crate::rounding::div_round(product, d)),
         _ => wide_product_div_round(a, b, d),
     }
 }
@@ -87,7 +86,7 @@ pub fn product_div_round<T: NativeInteger<Magnitude = u64>>(a: T, b: T, d: T) ->
 /// fit. That of the magnitudes has the magnitude of that of the numbers.
 fn wide_product_div_round<T: NativeInteger<Magnitude = u64>>(a: T, b: T, d: T) -> Option<T> {
     let (product, divisor) = (parts_of_product(a, b), parts_of(d));
-    let magnitude = rounding::div_round(product.1, u128::from(divisor.1));
+    let magnitude = crate::rounding::div_round(product.1, u128::from(divisor.1));
     number_of((product.0 != divisor.0, magnitude))
 }
 
@@ -112,7 +111,7 @@ pub fn product_div_round_even<T: NativeInteger<Magnitude = u64>>(a: T, b: T, d: 
         return None;
     }
     match a.checked_mul(&b) {
-        Some(product) if !is_minus_one(d) => Some(rounding::div_round_even(product, d)),
+        Some(product) if !is_minus_one(d) => Some(crate::rounding::div_round_even(product, d)),
         _ => wide_product_div_round_even(a, b, d),
     }
 }
@@ -121,6 +120,6 @@ pub fn product_div_round_even<T: NativeInteger<Magnitude = u64>>(a: T, b: T, d: 
 /// not fit. That of the magnitudes has the magnitude of that of the numbers.
 fn wide_product_div_round_even<T: NativeInteger<Magnitude = u64>>(a: T, b: T, d: T) -> Option<T> {
     let (product, divisor) = (parts_of_product(a, b), parts_of(d));
-    let magnitude = rounding::div_round_even(product.1, u128::from(divisor.1));
+    let magnitude = crate::rounding::div_round_even(product.1, u128::from(divisor.1));
     number_of((product.0 != divisor.0, magnitude))
 }

@@ -8,7 +8,6 @@ ghost use Rattle.num_integer.specs.Division.{IsQuotient};
 ghost use Rattle.num_integer.specs.Range.{EachFits};
 ghost use Rattle.applied.specs.Rounding.{AnswersQuotient, IsNearest, IsNearestEven};
 
-use crate::rounding;
 use num_integer::operators::{is_minus_one, is_zero};
 use num_integer::sign_magnitude::{number_of, parts_of, parts_of_product};
 use num_integer::{Fits, NativeInteger};
@@ -22,7 +21,7 @@ pub fn div_round<T: Fits>(x: T, y: T) -> Option<T>
     ensures positive { pos 0 <ℤ T.value y → IsSome result }
 {
     if x.quotient_fits(&y) {
-        Some(rounding::div_round(x, y))
+        Some(crate::rounding::div_round(x, y))
     } else {
         None
     }
@@ -36,7 +35,7 @@ pub fn div_round_even<T: Fits>(x: T, y: T) -> Option<T>
     ensures positive { pos 0 <ℤ T.value y → IsSome result }
 {
     if x.quotient_fits(&y) {
-        Some(rounding::div_round_even(x, y))
+        Some(crate::rounding::div_round_even(x, y))
     } else {
         None
     }
@@ -61,7 +60,7 @@ pub fn product_div_round<T: NativeInteger<Magnitude = u64>>(a: T, b: T, d: T) ->
         return None;
     }
     match a.checked_mul(&b) {
-        Some(product) if !is_minus_one(d) => Some(rounding::div_round(product, d)),
+        Some(product) if !is_minus_one(d) => Some(crate::rounding::div_round(product, d)),
         _ => wide_product_div_round(a, b, d),
     }
 }
@@ -77,7 +76,7 @@ fn wide_product_div_round<T: NativeInteger<Magnitude = u64>>(a: T, b: T, d: T) -
         result }
 {
     let (product, divisor) = (parts_of_product(a, b), parts_of(d));
-    let magnitude = rounding::div_round(product.1, u128::from(divisor.1));
+    let magnitude = crate::rounding::div_round(product.1, u128::from(divisor.1));
     number_of((product.0 != divisor.0, magnitude))
 }
 
@@ -95,7 +94,7 @@ pub fn product_div_round_even<T: NativeInteger<Magnitude = u64>>(a: T, b: T, d: 
         return None;
     }
     match a.checked_mul(&b) {
-        Some(product) if !is_minus_one(d) => Some(rounding::div_round_even(product, d)),
+        Some(product) if !is_minus_one(d) => Some(crate::rounding::div_round_even(product, d)),
         _ => wide_product_div_round_even(a, b, d),
     }
 }
@@ -111,6 +110,6 @@ fn wide_product_div_round_even<T: NativeInteger<Magnitude = u64>>(a: T, b: T, d:
         result }
 {
     let (product, divisor) = (parts_of_product(a, b), parts_of(d));
-    let magnitude = rounding::div_round_even(product.1, u128::from(divisor.1));
+    let magnitude = crate::rounding::div_round_even(product.1, u128::from(divisor.1));
     number_of((product.0 != divisor.0, magnitude))
 }
