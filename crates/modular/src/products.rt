@@ -14,7 +14,7 @@ use num_integer::operators::{is_below, is_zero, one, successor, zero};
 /// Products and powers modulo a positive number. The native types have it. Your own type gets it by
 /// `impl Modular for Mine {}`: the default product doubles and adds, and the default power squares and multiplies.
 /// `4.product_modulo(&5, &7)` is `6`.
-pub trait Modular: Integer {
+pub trait Modular: Integer + Copy {
     /// Returns `self * other` modulo `modulus`. The product need not fit the type.
     /// `4.product_modulo(&5, &7)` is `6`.
     ///
@@ -71,7 +71,7 @@ pub trait Modular: Integer {
 /// Returns `a * b` modulo `m`, by [`Modular::product_modulo`]. The product need not fit the type.
 /// `product_modulo(4, 5, 7)` is `6`, and `product_modulo(200u8, 200, 201)` is `1`.
 ///
-/// [`checked::product_modulo`] returns `None` outside the domain.
+/// [`checked::product_modulo`] returns `None` if the precondition does not hold.
 ///
 /// # Panics
 ///
@@ -89,7 +89,7 @@ pub fn product_modulo<T: Modular>(a: T, b: T, m: T) -> T
 /// Returns `a` to the power `exponent` modulo `m`, by squaring. `power_modulo(3, 4, 7)` is `4`, and
 /// `power_modulo(3, 0, 7)` is `1`.
 ///
-/// [`checked::power_modulo`] returns `None` outside the domain.
+/// [`checked::power_modulo`] returns `None` if the precondition does not hold.
 ///
 /// # Panics
 ///
@@ -122,7 +122,7 @@ pub fn power_modulo_counted<T: Modular>(a: T, exponent: u128, m: T) -> (T, u32)
 }
 
 /// Returns the product of two residues: it doubles `x` along the binary digits of `y`, and adds at each digit 1.
-fn product_by_doubling<T: Integer>(x: T, y: T, m: T) -> T
+fn product_by_doubling<T: Integer + Copy>(x: T, y: T, m: T) -> T
     requires in_range { T.fits (T.value y) × T.fits (T.value m) }
     requires x_below { LiesBelow (T.value m) (T.value x) }
     requires y_below { LiesBelow (T.value m) (T.value y) }
