@@ -1,4 +1,5 @@
-"""Writes what C, C++ and Python know of the exports, from the sources of crates/cellarcove_c."""
+"""Writes what C, C++, JavaScript and Python know of the exports, from the sources of crates/cellarcove_c."""
+from tools.bindings import javascript
 from tools.bindings.c import header
 from tools.bindings.cpp import hpp
 from tools.bindings.languages import page
@@ -8,4 +9,4 @@ from tools.bindings.python import calls_c, stubs
 def made() -> dict[str, str]:
     """The files, and what is to be in them."""
     return {'bindings/c/cellarcove.h': header(), 'bindings/c/cellarcove.hpp': hpp(), 'bindings/python/src/calls.c': calls_c(),
-            'bindings/python/cellarcove/_calls.pyi': stubs(), 'docs/LANGUAGES.md': page()}
+            'bindings/python/cellarcove/_calls.pyi': stubs(), 'docs/LANGUAGES.md': page()} | javascript.made()

@@ -1,14 +1,14 @@
 """Makes docs/LANGUAGES.md: each call of the libraries, and its name in each language, or why a language lacks it."""
 import re
-from pathlib import Path
 
 from tools import ROOT
-from tools.bindings.exports import EXPORTS
+from tools.bindings.exports import EXPORTS, listed
+from tools.bindings.javascript import camel
 from tools.bindings.python import ALIASES, RENAMED
 
 HEAD = '''# Calls by language
 
-Each call of the libraries, and its name in Rattle, in plain Rust, in C, in C++ and in Python. A call of C begins with `cellarcove_` and has
+Each call of the libraries, and its name in Rattle, in plain Rust, in C, in C++, in Python and in JavaScript. A call of C begins with `cellarcove_` and has
 a form for each type in braces. If a cell is empty, the last one says what to use instead.
 
 '''
@@ -23,13 +23,6 @@ def paths() -> list[str]:
     return sorted(path for path in plain if not path.startswith(TRAITS) or path.split('::')[1] not in plain)
 
 
-def data() -> tuple[dict[str, str], dict[str, str]]:
-    """The other names of exports, and the reasons."""
-    lines = [line for line in (Path(__file__).parent / 'languages.txt').read_text().splitlines() if not line.startswith('#')]
-    names = dict(line.split(' = ') for line in lines if ' = ' in line)
-    return names, dict(line.split(': ', 1) for line in lines if ' = ' not in line)
-
-
 def export_of(path: str, names: dict[str, str]) -> str:
     """The name that the export of a call has."""
     last = path.split('::')[-1]
@@ -38,7 +31,8 @@ def export_of(path: str, names: dict[str, str]) -> str:
 
 def rows() -> list[tuple[str, ...]]:
     """The cells of each row."""
-    (names, reasons), forms, used, made = data(), EXPORTS().forms(), set[str](), list[tuple[str, ...]]()
+    names, reasons = listed('languages.txt', ' = '), listed('languages.txt', ': ')
+    forms, used, made = EXPORTS().forms(), set[str](), list[tuple[str, ...]]()
     for path in paths():
         crate = path.split('::')[0] if path.split('::')[0] in ('calendar', 'modular', 'ratio64') else 'applied' if path[0].islower() and '::' in path \
             and not path.startswith('counted::') else 'num_integer'
@@ -48,9 +42,9 @@ def rows() -> list[tuple[str, ...]]:
         assert reason or export in forms, f'{path}: tools/bindings/languages.txt says neither its export nor why it has none'
         if reason not in used:  # a reason of several calls has one row
             shown = reason.removesuffix('::') or path
-            made.append((f'`{rattle.replace(path, shown)}`', f'`cellarcove::{shown}`', *(('', '', '', reasons[reason]) if reason else (*cells(export, *others), ''))))
+            made.append((f'`{rattle.replace(path, shown)}`', f'`cellarcove::{shown}`', *(('', '', '', '', reasons[reason]) if reason else (*cells(export, *others), ''))))
         used |= {reason} if reason else {path, export}
-    made.append(('FromStr of `Date`', 'FromStr of `Date`', '', '', '`Date.fromisoformat`', '`scanf` and `day_of_year`, whose status is `NO_DATE` if there is no such date'))
+    made.append(('FromStr of `Date`', 'FromStr of `Date`', '', '', '`Date.fromisoformat`', '`PlainDate.from`', '`scanf` and `day_of_year`, whose status is `NO_DATE` if there is no such date'))
     made += [(where, where, *cells(export), '') for export, where in BY_TRAIT.items()]
     unknown = (names.keys() | reasons.keys()) - used
     lost = forms.keys() - used - BY_TRAIT.keys()
@@ -58,14 +52,14 @@ def rows() -> list[tuple[str, ...]]:
     return made
 
 
-def cells(export: str, in_cpp: str = '', in_python: str = '') -> tuple[str, str, str]:
-    """The names of an export in C, in C++ and in Python, which are the same if no others are given."""
+def cells(export: str, in_cpp: str = '', in_python: str = '', in_javascript: str = '') -> tuple[str, str, str, str]:
+    """The names of an export in C, in C++, in Python and in JavaScript, which are the same if no others are given."""
     forms = [form.form for form in EXPORTS().forms()[export] if form.form]
     c = export + (f'_{{{",".join(forms)}}}' if len(forms) > 1 else f'_{forms[0]}' if forms else '')
     python = in_python or ', '.join([RENAMED.get(export, export), *(alias for alias, name in ALIASES.items() if name == export)])
-    return f'`{c}`', f'`{in_cpp or export}`', f'`{python}`'
+    return f'`{c}`', f'`{in_cpp or export}`', f'`{python}`', f'`{in_javascript or camel(export)}`'
 
 
 def page() -> str:
-    table = [('Rattle', 'Rust', 'C', 'C++', 'Python', 'instead'), ('---',) * 6, *rows()]
+    table = [('Rattle', 'Rust', 'C', 'C++', 'Python', 'JavaScript', 'instead'), ('---',) * 7, *rows()]
     return HEAD + ''.join(f'| {" | ".join(cells)} |\n' for cells in table)

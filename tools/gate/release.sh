@@ -1,10 +1,10 @@
 #!/usr/bin/env bash
-# Makes the files of a release for cargo, pip and C, and tries each in an empty folder.
+# Makes the files of a release for cargo, pip, npm and C, and tries each in an empty folder.
 #
 # usage: tools/gate/release.sh [--quick] [FOLDER]
 #
 # FOLDER, `dist` if none is given, gets the packages for cargo, the wheel and the source distribution for pip, an archive for C
-# and C++, an archive of the sources, the notes of the release and SHA256SUMS. They are made of a clean clone of the commit
+# and C++, the package for npm, the page on which a call is tried, an archive of the sources, the notes of the release and SHA256SUMS. They are made of a clean clone of the commit
 # that `.ci/run` has passed in this checkout, and once more of a clone in another folder: both have the same sums. The static
 # library is the one that the gate built by Rattle's compiler, or without `rt` on the machine cargo's.
 #
@@ -24,7 +24,6 @@ version=$(sed -nE 's/^version = "(.*)"$/\1/p' rust/Cargo.toml)
 original=$(sed -nE 's/^version = "(.*)"$/\1/p' rust/num-integer/Cargo.toml)
 machine=$(uname -m)-$(uname -s | tr 'A-Z' 'a-z')
 proved=crates/cellarcove_c/out/libcellarcove_c.a
-registry=/usr/share/cargo/registry
 export SOURCE_DATE_EPOCH PYTHONDONTWRITEBYTECODE=1 CARGO_TARGET_DIR=$work/target
 SOURCE_DATE_EPOCH=$(git log -1 --format=%ct)
 
@@ -49,18 +48,14 @@ clone() {
 # for_cargo CLONE FOLDER: the package of the crate, and that of num-integer. The packages that cargo finds are Debian's.
 for_cargo() {
     local name=cellarcove-$version.crate
-    [ -d "$registry" ] || { echo "there is no $registry: install librust-num-traits-dev" && return 1; }
-    rm -rf "$CARGO_TARGET_DIR/package" && mkdir -p "$work/.cargo"
-    printf '[source.crates-io]\nreplace-with = "local"\n[source.local]\ndirectory = "%s"\n' "$registry" >"$work/.cargo/config.toml"
-    (cd "$1/rust" && cargo package --quiet --offline --no-verify) && cp "$CARGO_TARGET_DIR/package/$name" "$2" &&
+    [ -d /usr/share/cargo/registry ] || { echo "there are no sources of Debian: install librust-num-traits-dev" && return 1; }
+    rm -rf "$CARGO_TARGET_DIR/package" && takes_debian "$work" && (cd "$1/rust" && cargo package --quiet --offline --no-verify) && cp "$CARGO_TARGET_DIR/package/$name" "$2" &&
         package_num_integer "$1/rust" "$name" "$2"
 }
 
 # for_pip CLONE FOLDER: the wheel and the source distribution.
 for_pip() {
-    (cd "$1/bindings/python" && python3 -c "import cellarcove_build as build
-build.build_wheel('$2')
-build.build_sdist('$2')")
+    (cd "$1/bindings/python" && "$(builder)" -m hatchling build -t wheel -t sdist -d "$2")
 }
 
 # for_c CLONE FOLDER: the headers, the libraries, what pkg-config and CMake read, and the licences.
@@ -68,6 +63,14 @@ for_c() {
     local top=cellarcove-c-$version
     rm -rf "$work/packed" && mkdir -p "$work/packed/$top" && "$1/bindings/install" "$work/packed/$top" &&
         cp "$1"/LICENSE-* "$1/bindings/out/made_by" "$work/packed/$top" && packed "$top" "$2/$top-$machine.tar.gz"
+}
+
+# for_npm CLONE FOLDER: the package for Node and browsers, and the page with the package and the reference beside it.
+for_npm() {
+    local top=cellarcove-try-$version
+    rm -rf "$work/packed" && mkdir -p "$work/packed/package" "$work/packed/$top/try" && "$1/bindings/js/build" "$work/packed/package" &&
+        cp "$1/docs/try/index.html" "$work"/packed/package/* "$work/packed/$top/try" &&
+        cp -r "$1"/docs/{reference,CONTRACTS.md} "$work/packed/$top" && packed package "$2/cellarcove-$version.tgz" && packed "$top" "$2/$top.tar.gz"
 }
 
 sources() {
@@ -78,7 +81,7 @@ sources() {
 make_files() {
     local here=$work/$1/clone there=$work/$1/files
     mkdir -p "$there" && clone "$here" && for_cargo "$here" "$there" && for_pip "$here" "$there" && for_c "$here" "$there" &&
-        sources "$here" "$there" && (cd "$there" && sha256sum -- *) >"$work/$1/SHA256SUMS"
+        for_npm "$here" "$there" && sources "$here" "$there" && (cd "$there" && sha256sum -- *) >"$work/$1/SHA256SUMS"
 }
 
 # ---- each file, in an empty folder
@@ -93,10 +96,10 @@ tries_the_crate() {
     (cd "$there/cellarcove-$version" && cargo build --offline --all-features && cargo test --offline --all-features "${words[@]}")
 }
 
-# with_python NAME FILE: a fresh environment of Python, in which a file is installed without the net. Prints its Python.
+# with_python NAME FILE: a fresh environment of the Python that has hatchling, in which a file is installed without the net. Prints its Python.
 with_python() {
     local there
-    there=$(empty "$1") && python3 -m venv "$there/environment" >&2 &&
+    there=$(empty "$1") && "$(builder)" -m venv --system-site-packages "$there/environment" >&2 &&
         CELLARCOVE_ARCHIVE='' "$there/environment/bin/python" -m pip install --quiet --disable-pip-version-check --no-index \
             --no-build-isolation "$2" >&2 && echo "$there/environment/bin/python"
 }
@@ -109,9 +112,9 @@ tries_the_wheel() (
 )
 
 tries_the_source_distribution() {
-    local python
-    python=$(with_python source "$files/cellarcove-$version.tar.gz") || return 1
-    (cd "$(empty nowhere)" && "$python" -c 'import cellarcove; assert cellarcove.lcm(4, 6) == 12; print(cellarcove.BUILT_BY)')
+    local python there
+    python=$(with_python source "$files/cellarcove-$version.tar.gz") && there=$(empty unpacked) && tar -xzf "$files/cellarcove-$version.tar.gz" -C "$there" &&
+        (cd "$there" && "$python" -c 'import cellarcove; assert cellarcove.BUILT_BY == "cargo"' && "$python" cellarcove-*/tests/test_cellarcove.py)
 }
 
 # A program in C, built by what pkg-config says and nothing else, with the shared library and then with the archive.
@@ -121,6 +124,21 @@ tries_c() {
     flags=$(PKG_CONFIG_PATH=$there/$top/lib/pkgconfig pkg-config --cflags --libs cellarcove) && read -ra flags <<<"$flags" &&
         (cd "$there" && cc test.c "${flags[@]}" -o shared && LD_LIBRARY_PATH=$top/lib ./shared &&
             rm "$top"/lib/*.so* && cc test.c "${flags[@]}" -o static && ./static)
+}
+
+# The package, installed by npm without the net and imported by its name, passes its tests, with a minute of random calls.
+tries_the_package_for_npm() {
+    local there minutes=1
+    [ "$quick" = no ] || minutes=0.05
+    there=$(empty npm) && (cd "$there" && npm install --offline --no-audit --no-fund "$files/cellarcove-$version.tgz" &&
+        echo "import {lcm} from 'cellarcove'; if (lcm(4, 6) !== 12n) throw lcm(4, 6);" | node --input-type=module -) &&
+        tools/gate/check_js.sh "$there/node_modules/cellarcove" "$minutes"
+}
+
+# The page, with the package that lies beside it.
+tries_the_page() {
+    local there top=cellarcove-try-$version
+    there=$(empty page) && tar -xzf "$files/$top.tar.gz" -C "$there" && CELLARCOVE=$there/$top/try node --test bindings/js/tests/page.js
 }
 
 tries_the_sources() {
@@ -142,6 +160,8 @@ notes() {
     echo "| \`$(cd "$files" && echo *.whl)\` | the wheel for pip |"
     echo "| \`cellarcove-$version.tar.gz\` | the source distribution for pip, which cargo builds |"
     echo "| \`cellarcove-c-$version-$machine.tar.gz\` | headers and libraries for C and C++, for pkg-config and CMake |"
+    echo "| \`cellarcove-$version.tgz\` | the package for npm, of WebAssembly that cargo made |"
+    echo "| \`cellarcove-try-$version.tar.gz\` | a page on which a call is tried, for any web server |"
     echo "| \`cellarcove-$version-source.tar.gz\` | all sources |"
     printf '\n`.ci/run` has passed:\n\n'
     grep -E '^(rt: ok|gate: |check_[a-z_]+\.sh: )' out/passed | sed 's/^/- /'
@@ -170,8 +190,10 @@ tried 'the files are made again in another folder, with the same sums' made_agai
 tried 'the package for cargo is built and tested' tries_the_crate
 tried 'the two packages for cargo replace num-integer, by the lines of their pages' replaces_num_integer "$files"
 tried 'the wheel is installed in a fresh environment and tested' tries_the_wheel
-tried 'the source distribution is installed in a fresh environment' tries_the_source_distribution
+tried 'the source distribution is installed in a fresh environment, and its tests pass' tries_the_source_distribution
 tried 'a program in C is built by pkg-config, with the shared library and with the archive' tries_c
+tried 'the package for npm is installed, tested and called at random' tries_the_package_for_npm
+tried 'the page is served, and calls are tried on it' tries_the_page
 tried 'the sources are those of the commit' tries_the_sources
 if [ "$quick" = no ]; then
     tried 'each guard of plain Rust that is taken out is missed by a test' tools/cellarcove check guards

@@ -12,3 +12,6 @@ pub use Rattle.applied.proofs.ListDivisors.{positive_lcm_of}
 pub use Rattle.applied.proofs.FirstMultiples.{lcm_of_is_first, first_multiple_of_answers, first_natural_multiple_of, meeting_of_three_at_u64}
 -- Two natural numbers divided by their gcd, the second of which is not 0, are coprime and in the same ratio.
 pub use Rattle.applied.proofs.ReducedPairs.{reduced_pair}
+-- The sum of no numbers is 0, that of a list with a first number is that number and the sum of the others, and that of two lists after each other
+-- is the sum of both.
+pub use Rattle.applied.proofs.SignedSums.{signed_sum-nil, signed_sum-cons, signed_sum-append}

@@ -6,6 +6,7 @@ pub mod RollingHashes
 pub mod ItemRanges
 pub mod ReducedPairs
 pub mod ListDivisors
+pub mod SignedSums
 pub mod WeightedShares
 pub mod LargestRemainders
 pub mod NearestQuotients

@@ -14,7 +14,7 @@
 //! | `dates.rt` | `calendar`: dates, days of the week, weeks, months |
 //! | `pages.rt` | `applied`: pages and parts, shares, offsets, schedules |
 //! | `combinations.rt` | `applied`: combinations and their ranks |
-//! | `lists.rt` | `applied`: multiples of lists, reduced pairs, a rolling hash |
+//! | `lists.rt` | `applied`: multiples and sums of lists, reduced pairs, a rolling hash |
 //! | `rounding.rt` | `applied`: nearest quotients, roots, powers, logarithms, midpoints, factorials |
 //! | `amounts.rt` | a divisor that is computed in the call, a wider type and back, equal parts |
 //! | `divisors.rt` | sums of divisors, first common multiples, a bound of a gcd |

@@ -13,13 +13,14 @@ pub use Rattle.integer_core.proofs.Quotients.{floored_remainder_within, only_cei
 pub use Rattle.integer_core.proofs.CommonDivisors.{gcd_fits_is}
 pub use Rattle.integer_core.proofs.Ranges.{LiesWithin, no_minus_one, one_fits, within_fits, zero_fits}
 pub use Rattle.num_integer.proofs.FittingAnswers.{fits_below, sum_fits_exactly}
+pub use Rattle.num_integer.proofs.FlooredProducts.{part_fits}
 -- ---- results of a wider type
 
 pub use Rattle.num_integer.proofs.NarrowerTypes.{narrowed, none_narrower}
 -- ---- what tests and checked calls say
 
 pub use Rattle.integer_core.proofs.Whole.{from_not_less, from_test}
-pub use Rattle.num_integer.proofs.CheckedAnswers.{answer_only, answers_as, answers_only}
+pub use Rattle.num_integer.proofs.CheckedAnswers.{answer_only, answers_as, answers_only, some_in_domain}
 pub use Rattle.num_integer.proofs.FittingAnswers.{signed_is}
 -- ---- rulesets, for `omega`, `grind` and `simp`
 -- `omega (arith, linear)` proves equations and inequalities of integers that are linear. `sizes` is `linear` with magnitudes,

@@ -9,6 +9,7 @@ pub use Rattle.integer_core.specs.GcdRuns
 pub use Rattle.integer_core.specs.Least
 pub use Rattle.integer_core.specs.NativeRanges
 pub use Rattle.integer_core.specs.Only
+pub use Rattle.integer_core.specs.Padded
 pub use Rattle.integer_core.specs.Range
 pub use Rattle.integer_core.specs.Runs
 pub use Rattle.integer_roots.specs.Averages

@@ -1,0 +1,128 @@
+// Types into the page docs/try in a headless Chromium, and reads.   node --test bindings/js/tests/page.js
+import assert from 'node:assert/strict';
+import {spawn} from 'node:child_process';
+import {once} from 'node:events';
+import {existsSync, mkdtempSync, readFileSync, rmSync} from 'node:fs';
+import {createServer} from 'node:http';
+import {tmpdir} from 'node:os';
+import {join, resolve} from 'node:path';
+import {after, before, test} from 'node:test';
+import {fileURLToPath} from 'node:url';
+
+const folder = resolve(process.env.CELLARCOVE ?? fileURLToPath(new URL('..', import.meta.url)));
+const docs = existsSync(join(folder, 'index.html')) ? join(folder, '..') : fileURLToPath(new URL('../../../docs', import.meta.url));
+const TYPES = {html: 'text/html', js: 'text/javascript', wasm: 'application/wasm', md: 'text/plain'};
+const missing = [];
+
+/** The page with the package beside it, and the reference. */
+const server = createServer(({url}, response) => {
+  const path = new URL(url, 'http://localhost').pathname, file = path.endsWith('/') ? `${path}index.html` : path;
+  try {
+    const found = readFileSync(file.startsWith('/try/') && !file.endsWith('.html') ? join(folder, file.slice(5)) : join(docs, file));
+    response.writeHead(200, {'content-type': TYPES[file.split('.').pop()]}).end(found);
+  } catch {
+    missing.push(file);
+    response.writeHead(404).end();
+  }
+});
+
+// The protocol of the browser's own tools, over a pipe: each message ends with a zero.
+const profile = mkdtempSync(join(tmpdir(), 'page-'));
+const browser = spawn(process.env.CHROMIUM ?? 'chromium', ['--headless', '--no-sandbox', '--disable-gpu', '--remote-debugging-pipe', `--user-data-dir=${profile}`],
+  {stdio: ['ignore', 'ignore', 'ignore', 'pipe', 'pipe']});
+const waiting = new Map(), errors = [];
+let rest = '', session;
+browser.stdio[4].on('data', (data) => {
+  const messages = (rest + data).split('\0');
+  rest = messages.pop();
+  for (const {id, result, error, method, params} of messages.map((it) => JSON.parse(it))) {
+    if (method === 'Runtime.exceptionThrown') errors.push(params.exceptionDetails.exception?.description);
+    if (error) waiting.get(id)?.reject(new Error(error.message));
+    else waiting.get(id)?.resolve(result);
+  }
+});
+const send = (method, params = {}) => new Promise((done, failed) => {
+  const id = waiting.size + 1;
+  waiting.set(id, {resolve: done, reject: failed});
+  browser.stdio[3].write(`${JSON.stringify({id, method, params, sessionId: session})}\0`);
+});
+const evaluate = async (expression) => (await send('Runtime.evaluate', {expression, awaitPromise: true, returnByValue: true})).result.value;
+const key = async (name, code) => {
+  for (const type of ['rawKeyDown', 'keyUp']) await send('Input.dispatchKeyEvent', {type, key: name, code: name, windowsVirtualKeyCode: code});
+};
+const type = (text) => send('Input.insertText', {text});
+const textOf = (id) => evaluate(`document.getElementById('${id}').innerText`);
+
+/** Waits until an expression is true. */
+async function until(expression) {
+  for (let tries = 0; tries < 200; tries++) {
+    if (await evaluate(expression)) return;
+    await new Promise((done) => setTimeout(done, 50));
+  }
+  assert.fail(`it does not become true: ${expression}`);
+}
+
+before(async () => {
+  await new Promise((done) => server.listen(0, '127.0.0.1', done));
+  const {targetId} = await send('Target.createTarget', {url: 'about:blank'});
+  ({sessionId: session} = await send('Target.attachToTarget', {targetId, flatten: true}));
+  await send('Runtime.enable');
+  await send('Page.enable');
+  await send('Page.navigate', {url: `http://127.0.0.1:${server.address().port}/try/`});
+  await until(`document.querySelector('#contract pre') !== null`);
+});
+
+after(async () => {
+  const ended = once(browser, 'exit');
+  browser.kill();
+  await ended;
+  server.close();
+  rmSync(profile, {recursive: true, force: true, maxRetries: 10});
+});
+
+test('numbers are typed by keyboard alone', async () => {
+  assert.equal(await evaluate('document.activeElement.id'), 'call');
+  await key('Tab', 9);
+  await type('12');
+  await key('Tab', 9);
+  await type('18');
+  assert.equal(await textOf('result'), 'lcm(12, 18) = 36');
+  await type('x');
+  assert.equal(await textOf('result'), '“18x” is no integer');
+});
+
+test('the examples show the result or the reason', async () => {
+  const results = [];
+  for (let place = 0; place < 8; place++) {
+    await evaluate(`document.querySelectorAll('#examples a')[${place}].click()`);
+    await until(`location.hash === document.querySelectorAll('#examples a')[${place}].hash`);
+    await evaluate('new Promise((done) => setTimeout(done, 20))');
+    results.push(await textOf('result'));
+  }
+  const notFitting = 'no result: NOT_FITTING: the result does not fit its type, or a part of a fraction, once reduced, does not';
+  assert.deepEqual(results, ['lcm(9223372036854775807, 2) = 18446744073709551614', notFitting, notFitting, 'modFloor(-9223372036854775808, -1) = 0',
+    'divModFloor(-8, 3) = quotient -3, remainder 1', 'shares(-100, [1, 1, 1]) = [-34, -33, -33]', 'powerModulo(3, 200, 13) = 9',
+    'no result: NO_SOLUTION: no number solves the congruences']);
+});
+
+test('each call can be chosen, and has its contract in words and in symbols', async () => {
+  const names = await evaluate(`[...document.getElementById('call').options].map((it) => it.value)`);
+  for (const name of names) {
+    await evaluate(`(() => { const call = document.getElementById('call'); call.value = '${name}'; call.dispatchEvent(new Event('change')); })()`);
+    const symbol = `cellarcove_${name.replace(/[A-Z]/g, (letter) => `_${letter.toLowerCase()}`)}`;
+    await until(`document.querySelector('#contract pre')?.innerText.includes('fn ${symbol}')`);
+    assert.match(await textOf('contract'), /^[A-Z`][\s\S]*ensures/, name);
+    assert.match(await textOf('result'), /= |^no result: /, name);
+  }
+});
+
+test('a definition opens', async () => {
+  await evaluate(`location.hash = '#lcm&2^63&3'`);
+  await until(`document.querySelector('#contract pre')?.innerText.includes('cellarcove_lcm_u64')`);
+  await evaluate(`document.querySelectorAll('#contract summary')[1].click()`);
+  await until(`document.querySelector('#contract details[open] pre')?.innerText.includes('IsLeastCommonMultiple (a b l')`);
+});
+
+test('the page asks for no file that is missing, and has no error', () => {
+  assert.deepEqual([missing, errors], [[], []]);
+});

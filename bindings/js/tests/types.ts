@@ -1,0 +1,46 @@
+// What compiles, and what does not: each line below `@ts-expect-error` has an error.
+import {easter, fractionAdd, gcd, gcdOf, isLeapYear, isoWeek, nextCommonSolutionOf, nthRoot, PlainDate, plusMonths, Refused, shares, Status, tryLcm, weekday} from 'cellarcove';
+
+const attempt = tryLcm(1, 2);
+const a: bigint = gcd(12n, 18);
+// @ts-expect-error
+const x1: number = gcd(12n, 18);
+const b: {value: BigInt64Array; status: Uint8Array} = gcd(BigInt64Array.of(1n), 2);
+// @ts-expect-error
+gcd(BigInt64Array.of(1n), BigUint64Array.of(2n));
+const c: bigint = attempt.status === Status.ANSWER ? attempt.value : 0n;
+// @ts-expect-error
+const x3: bigint = tryLcm(1, 2).value;
+const d: PlainDate = plusMonths('2024-01-31', 1);
+// @ts-expect-error
+plusMonths(20240131, 1);
+const e: Uint8Array = plusMonths({year: BigInt64Array.of(2024n), month: 1, day: 31}, 1).month;
+// @ts-expect-error
+const x5: number = plusMonths('2024-01-31', 1).year;
+const f: bigint = isoWeek(d).yearOfWeek;
+// @ts-expect-error
+gcd('1', 2);
+const g: string = `${fractionAdd('1/2', [1, 3])}`;
+// @ts-expect-error
+fractionAdd({num: 1}, 2);
+const h: bigint[] = shares(1n, [1, 2]);
+// @ts-expect-error
+shares(1n, 2);
+const i: Uint8Array = isLeapYear(BigInt64Array.of(2024n));
+// @ts-expect-error
+isLeapYear(Float64Array.of(2024));
+const j: bigint = gcdOf(BigInt64Array.of(1n));
+// @ts-expect-error
+gcdOf(['1']);
+const k: BigUint64Array = nthRoot(BigUint64Array.of(1n), 2).value;
+// @ts-expect-error
+nthRoot(1);
+const l: bigint = nextCommonSolutionOf(10, [[1, 4], {residue: 3, modulus: 6}]);
+// @ts-expect-error
+nextCommonSolutionOf(10, [1, 4]);
+const m: number = weekday(4) + easter(2024).day;
+// @ts-expect-error
+new PlainDate(2024, 1, 1);
+const n: 1 | 2 | 3 | 4 | 5 | 6 = new Refused(Status.NO_DATE).status;
+// @ts-expect-error
+new Refused(0);

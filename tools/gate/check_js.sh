@@ -1,0 +1,28 @@
+#!/usr/bin/env bash
+# Makes the package for JavaScript, and calls it from Node and, on the page docs/try, from Chromium. Prints a line for each check and for
+# each program that the machine lacks, and a count at the end.
+#
+# usage: tools/gate/check_js.sh [FOLDER [MINUTES]]
+#
+# It checks the package of FOLDER, or makes one, and calls it at random for so many minutes, a tenth of one if none is given.
+set -uo pipefail
+cd "$(dirname "$0")/../.." || exit
+source tools/gate/lib.sh
+export CELLARCOVE=${1:-$work/package} PYTHONDONTWRITEBYTECODE=1
+tests=bindings/js/tests
+
+# A caller has the types of the package, and what is to have none has an error.
+has_types() {
+    sed "s|'cellarcove'|'$CELLARCOVE/cellarcove.js'|" $tests/types.ts >"$work/types.ts" &&
+        tsc --noEmit --strict --target es2022 --module es2022 --moduleResolution node "$work/types.ts"
+}
+
+has node JavaScript || exit 0
+[ $# -gt 0 ] || check 'the package for JavaScript' bindings/js/build "$CELLARCOVE"
+if [ -e "$CELLARCOVE/cellarcove.wasm" ]; then
+    check "Node $(node --version)" node --test $tests/test.js
+    counted 'random calls' node $tests/fuzz.js "${2:-0.1}"
+    ! has "${CHROMIUM:-chromium}" 'the page in Chromium' || check 'the page in Chromium' node --test $tests/page.js
+fi
+! has tsc 'the types of JavaScript' || check 'the types of JavaScript' has_types
+finish
