@@ -7,8 +7,8 @@
 
 use crate::calendar::days_in_year;
 use crate::calendar::eras::{
-    days_of_eras, days_to_month, era_before_year, eras_in_days, march_year_of_day,
-    parts_from_march, DAYS_PER_ERA, YEARS_PER_ERA,
+    days_to_month, era_before_year, eras_in_days, march_year_of_day, near_year, parts_from_march,
+    DAYS_PER_ERA, YEARS_PER_ERA,
 };
 use crate::calendar::months::{days_before_month, length_of_month, month_and_day_in_year};
 use crate::calendar::years::{at_64_bits, nearby_year};
@@ -151,8 +151,20 @@ impl Date {
     #[must_use]
     #[inline]
     pub fn day_number(&self) -> Option<i64> {
-        let (era, day) = self.day_of_era();
-        days_of_eras(era, i64::from(day) - EPOCH_IN_ERA_0)
+        match near_year(self.year) {
+            Some(year) => {
+                let day = days_to_month(year, self.month) + u32::from(self.day_of_month);
+                Some(i64::from(day) - EPOCH_IN_ERA_0)
+            }
+            None => self.far_day_number(),
+        }
+    }
+
+    /// Returns what `day_number` returns.
+    #[cold]
+    #[inline(never)]
+    fn far_day_number(&self) -> Option<i64> {
+        at_64_bits(self.wide_day_number())
     }
 
     /// Returns the next date, or `None` if it is in the year after `i64::MAX`.
