@@ -91,7 +91,7 @@ impl FromStr for Date {
     }
 }
 
-/// Returns the date that prints as the string, or `None` if there is none.
+/// Returns the date that prints as the string, or `None` if no date does.
 fn parse_date(text: &str) -> Option<Date>
     ensures { (date : Date) → FitsSigned w64 date.year → (result ≡ Some date) ↔ (text.now ≡ text_of date) }
 {
@@ -117,7 +117,7 @@ fn split_last_two_digits(text: &str) -> Option<(&str, u8)>
     Some((front, 10 * (*tens - b'0') + (*ones - b'0')))
 }
 
-/// Returns the year that prints as the string, or `None` if there is none.
+/// Returns the year that prints as the string, or `None` if no year does.
 fn parse_year(text: &str) -> Option<i64>
     ensures { (year : ℤ) → FitsSigned w64 year → (result ≡ Some year) ↔ (text.now ≡ year_text year) }
 {

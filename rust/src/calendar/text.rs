@@ -109,7 +109,7 @@ impl FromStr for Date {
     }
 }
 
-/// Returns the date that prints as the string, or `None` if there is none.
+/// Returns the date that prints as the string, or `None` if no date does.
 fn parse_date(text: &str) -> Option<Date> {
     let (front, day) = split_last_two_digits(text)?;
     let (year, month) = split_last_two_digits(front)?;
@@ -130,7 +130,7 @@ fn split_last_two_digits(text: &str) -> Option<(&str, u8)> {
     Some((front, 10 * (*tens - b'0') + (*ones - b'0')))
 }
 
-/// Returns the year that prints as the string, or `None` if there is none.
+/// Returns the year that prints as the string, or `None` if no year does.
 fn parse_year(text: &str) -> Option<i64> {
     if let Some(digits) = text.strip_prefix('-') {
         Some(-1 - (parse_number(digits, 1, 1 << 63)? - 1) as i64)

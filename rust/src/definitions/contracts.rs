@@ -465,9 +465,12 @@
 //!   last)) (λ last. IsLastWeekday day weekday last) }`
 //! - Words: [`IsLastWeekday`](calendar#islastweekday)
 //! ## `calendar::nth_weekday_of_month`
-//! - `ensures { MatchOption result ((date : Date) → ¬ (IsNthWeekday year month weekday n date)) (λ
-//!   date. IsNthWeekday year month weekday n date) }`
-//! - Words: [`IsNthWeekday`](calendar#isnthweekday)
+//! - `ensures answer { MatchOption result ((date : Date) → ¬ (IsNthWeekday year month weekday n
+//!   date)) (λ date. IsNthWeekday year month weekday n date) }`
+//! - `ensures exists { 1 ≤ month → month ≤ 12 → 1 ≤ n → n ≤ 4 → IsSome result }`
+//! - `ensures fifth { 1 ≤ month → month ≤ 12 → n ≡ 5 → IsSome result ↔ HasFifthWeekday year month
+//!   weekday }`
+//! - Words: [`IsNthWeekday`](calendar#isnthweekday), [`HasFifthWeekday`](calendar#hasfifthweekday)
 //! ## `calendar::last_weekday_of_month`
 //! - `ensures { MatchOption result (¬ ((1 ≤ month) × (month ≤ 12))) (λ date. IsLastWeekdayOfMonth
 //!   year month weekday date) }`
