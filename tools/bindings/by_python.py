@@ -22,6 +22,7 @@ DAY_0 = datetime.date(1970, 1, 1).toordinal()
 CYCLE = 400                                     # years, after which the calendar repeats
 DAYS_OF_CYCLE = 146_097
 MOST_CONGRUENCES = 64                           # of a call with a list of them
+MOST_PLACES = 18                                # of a decimal number
 WIDEST_CHOICE = 34                              # of 2k things, k of them can be chosen in more than 2**64 ways from here on
 
 
@@ -315,6 +316,14 @@ def to_parts(make: Callable[[Fraction], int]) -> Model:
     return lambda bounds, pair, count: OUTSIDE if count <= 0 else of_fractions(lambda a: parts(Fraction(make(a * count), count)))(bounds, pair)
 
 
+def to_decimal(a: Fraction, places: int) -> Result:
+    """The sign, the integer part and the digits after the point."""
+    if places > MOST_PLACES:
+        return OUTSIDE
+    units = round(a * 10**places)
+    return int(units < 0), *divmod(abs(units), 10**places)
+
+
 def limit_denominator(bounds: Pair, pair: Pair, most: int) -> Result:
     return OUTSIDE if most <= 0 else of_fractions(lambda a: parts(a.limit_denominator(most)))(bounds, pair)
 
@@ -373,6 +382,14 @@ def of_dates(make: Model) -> Model:
                 numbers.append(number_of(argument[0], found))
         return make(numbers, *arguments)
     return result
+
+
+def date_from_text(_: Pair, text: str) -> Result:
+    """A year of ISO 8601 has at least four digits, and a sign if it is not from 0 to 9999."""
+    found = re.fullmatch('(-(?!0000)[0-9]{4}|-[1-9][0-9]{4,}|[0-9]{4}|[+][1-9][0-9]{4,})-([0-9]{2})-([0-9]{2})', text, re.ASCII)
+    parts_of_date = tuple(map(int, found.groups())) if found else (0, 0, 0)
+    year, month, day = parts_of_date
+    return parts_of_date if I64[0] <= year <= I64[1] and date(year, month, day) else NO_DATE
 
 
 def months_later(parts_of_date: Triple, months: int) -> Triple:
@@ -540,13 +557,17 @@ RESULTS: dict[str, Model] = {
     'fraction_floor_to': to_parts(math.floor),
     'fraction_ceil_to': to_parts(math.ceil),
     'fraction_round_to': to_parts(away_from_zero),
+    'fraction_round_even_to': to_parts(round),
     'fraction_floor': of_fractions(lambda a: (math.floor(a),)),
     'fraction_ceil': of_fractions(lambda a: (math.ceil(a),)),
     'fraction_round': of_fractions(lambda a: (away_from_zero(a),)),
     'fraction_floor_times': of_fractions(lambda a, n: fitting(I64, math.floor(a * n))),
     'fraction_ceil_times': of_fractions(lambda a, n: fitting(I64, math.ceil(a * n))),
     'fraction_round_times': of_fractions(lambda a, n: fitting(I64, away_from_zero(a * n))),
+    'fraction_round_even_times': of_fractions(lambda a, n: fitting(I64, round(a * n))),
+    'fraction_to_decimal': of_fractions(to_decimal),
     'date_from_day': lambda _, day: of_day(day),
+    'date_from_text': date_from_text,
     'day_from_date': of_dates(lambda days, _: fitting(I64, *days)),
     'plus_months': of_dates(lambda _, parts_of_date, months: within(months_later(parts_of_date, months))),
     'months_between': of_dates(months_between),

@@ -16,6 +16,8 @@ WRITTEN = 'count'          # the parameter in place of an array that is written
 DOCS = {
     'choice_of_rank': 'The choice of `count` numbers below `n` that has the rank, as a tuple: it is the inverse of `rank`.',
     'fraction_cmp': 'The order of two fractions: -1, 0 or 1 if `a` is less than, equal to or greater than `b`.',
+    'fraction_to_decimal': 'The nearest decimal number with so many digits after the point, and of two that are equally near the one whose last digit is'
+                           ' even. For arrays it is whether each is negative, its integer part, and the number that its digits after the point write.',
     'shares': 'The shares of the amount in proportion to the weights, as a tuple. Together they are the amount. The first shares together are their'
               ' exact share rounded up, and those of a negative amount are the shares of its magnitude with its sign.',
     'shares_by_largest_remainder': 'The shares of the amount by largest remainders, as a tuple: each is the exact share rounded down, or 1 more for the'
@@ -83,7 +85,8 @@ def arguments(call: Call, number: Callable[[int, str], str]) -> str:
 
 def object_of(call: Call) -> str:
     """The result in Python of the result `r` in C."""
-    whole = {'FractionAnswer': 'fraction_of(r.value)', 'DateAnswer': 'date_of(r.date)', 'Date': 'date_of(r)'}
+    whole = {'FractionAnswer': 'fraction_of(r.value)', 'DateAnswer': 'date_of(r.date)', 'Date': 'date_of(r)',
+             'DecimalAnswer': f'decimal_of(r, (uint32_t)a[{len(cells(call)) - 1}].u)'}
     items = [f'{OBJECTS[kind]}(r{path})' for path, kind in results(call)]
     if call.result in whole or len(items) == 1:
         return whole.get(call.result, items[0])
@@ -259,6 +262,8 @@ def scalar_result(call: Call) -> str:
         return 'Fraction'
     if call.result.startswith('Date'):
         return 'Date'
+    if call.result.startswith('Decimal'):
+        return 'Decimal'
     if call.result == 'bool':
         return 'bool'
     if len(found) == 1:

@@ -20,6 +20,7 @@ import textwrap
 import threading
 import types
 import unittest
+from decimal import Decimal
 from fractions import Fraction
 
 import cellarcove
@@ -33,7 +34,7 @@ except ImportError:
 HERE = pathlib.Path(__file__).resolve().parent
 BINDINGS = HERE.parents[1]
 PAGES = (BINDINGS / 'README.md', BINDINGS / 'python/README.md', BINDINGS.parent / 'docs/COOKBOOK.md')
-ROW_NAMES = {**vars(cellarcove), 'array': array.array, 'copy': copy, 'date': datetime.date, 'Fraction': Fraction,
+ROW_NAMES = {**vars(cellarcove), 'array': array.array, 'copy': copy, 'date': datetime.date, 'Fraction': Fraction, 'Decimal': Decimal,
              'SimpleNamespace': types.SimpleNamespace, 'addressof': ctypes.addressof, 'c_char': ctypes.c_char}
 random.seed(64)
 
