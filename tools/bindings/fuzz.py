@@ -17,6 +17,7 @@ import itertools
 import random
 import time
 from collections.abc import Callable, Iterable, Iterator, Sequence
+from decimal import Decimal
 from fractions import Fraction
 from functools import partial
 from types import SimpleNamespace
@@ -97,6 +98,10 @@ def plain(result: Any) -> tuple[int, ...]:
     """The numbers of a result."""
     if isinstance(result, Fraction):
         return result.numerator, result.denominator
+    if isinstance(result, Decimal):
+        sign, digits, exponent = result.as_tuple()
+        assert isinstance(exponent, int)
+        return sign, *divmod(int(''.join(map(str, digits))), 10**-exponent)
     return tuple(result) if isinstance(result, tuple) else (int(result),)
 
 

@@ -70,7 +70,8 @@ def arguments(call: Call, number: Callable[[int, str], str]) -> str:
 
 def object_of(call: Call) -> str:
     """The result in Python of the result `r` in C."""
-    whole = {'FractionAnswer': 'fraction_of(r.value)', 'DateAnswer': 'date_of(r.date)', 'Date': 'date_of(r)'}
+    whole = {'FractionAnswer': 'fraction_of(r.value)', 'DateAnswer': 'date_of(r.date)', 'Date': 'date_of(r)',
+             'DecimalAnswer': f'decimal_of(r, (uint32_t)a[{len(cells(call)) - 1}].u)'}
     items = [f'{OBJECTS[kind]}(r{path})' for path, kind in results(call)]
     if call.result in whole or len(items) == 1:
         return whole.get(call.result, items[0])
@@ -233,6 +234,8 @@ def scalar_result(call: Call) -> str:
         return 'Fraction'
     if call.result.startswith('Date'):
         return 'Date'
+    if call.result.startswith('Decimal'):
+        return 'Decimal'
     if call.result == 'bool':
         return 'bool'
     if len(found) == 1:

@@ -21,6 +21,7 @@ import textwrap
 import threading
 import types
 import unittest
+from decimal import Decimal
 from fractions import Fraction
 
 import cellarcove
@@ -29,7 +30,7 @@ from cellarcove import Date, DivisionByZero, NotFitting, Refused, Status
 HERE = pathlib.Path(__file__).resolve().parent
 # A source distribution has the first of these pages.
 PAGES = [page for page in (HERE.parent / 'README.md', HERE.parents[1] / 'README.md', HERE.parents[2] / 'docs/COOKBOOK.md') if page.exists()]
-ROW_NAMES = {**vars(cellarcove), 'array': array.array, 'copy': copy, 'date': datetime.date, 'Fraction': Fraction,
+ROW_NAMES = {**vars(cellarcove), 'array': array.array, 'copy': copy, 'date': datetime.date, 'Fraction': Fraction, 'Decimal': Decimal,
              'SimpleNamespace': types.SimpleNamespace, 'addressof': ctypes.addressof, 'c_char': ctypes.c_char}
 random.seed(64)
 

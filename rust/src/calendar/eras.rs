@@ -34,12 +34,11 @@ const DAYS_TO_EPOCH: u32 = 135080;
 const DAYS_FROM_MARCH_TO_MONTH: [u16; 13] =
     [0, 306, 337, 0, 31, 61, 92, 122, 153, 184, 214, 245, 275];
 
-/// Returns how many years from year -1400000 on come before the year, or `None` if there are none,
-/// or if the year is after 1399999.
+/// Returns the year as a `u32`, or `None` if it is not from 0 to 2799999.
 #[inline]
 pub(crate) const fn near_year(year: i64) -> Option<u32> {
-    if -1400000 <= year && year < 1400000 {
-        Some((year + 1400000) as u32)
+    if 0 <= year && year < 2800000 {
+        Some(year as u32)
     } else {
         None
     }
@@ -50,7 +49,7 @@ pub(crate) const fn near_year(year: i64) -> Option<u32> {
 #[inline]
 pub(crate) const fn era_before_year(year: i64) -> (i64, u32) {
     match near_year(year) {
-        Some(years) => (NEAR_ERA, years),
+        Some(years) => (0, years),
         None => groups_and_rest(year, YEARS_PER_ERA),
     }
 }
