@@ -5239,7 +5239,7 @@ static PyMethodDef methods[] = {
     "Raises `NotFitting` if the sum does not fit.\n"
     "\n"
     ">>> sum_of([2**63 - 1, 1, -1])\n"
-    "9223372036854775807\n"
+    "2**63 - 1\n"
     ">>> sum_of([])\n"
     "0\n"},
     {"comb", (PyCFunction)(void (*)(void))py_binomial, METH_FASTCALL | METH_KEYWORDS,
