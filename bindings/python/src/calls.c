@@ -4033,7 +4033,7 @@ static void many_product_div_round_u64(Py_ssize_t count, char *const *in, const 
 static const form form_product_div_round_u64 = {"QQQ", "QB", true, one_product_div_round_u64, many_product_div_round_u64};
 
 static const call call_product_div_round = {"product_div_round", 3, {"a", "b", "d"}, "nnn",
-    (const bool[]){false, false, false}, (const bool[]){true, true, true}, NULL, &form_product_div_round_i64, &form_product_div_round_u64};
+    (const bool[]){false, false, true}, (const bool[]){true, true, true}, NULL, &form_product_div_round_i64, &form_product_div_round_u64};
 
 static PyObject *py_product_div_round(PyObject *module, PyObject *const *args, Py_ssize_t count, PyObject *names) {
     (void)module;
@@ -4079,7 +4079,7 @@ static void many_product_div_round_even_u64(Py_ssize_t count, char *const *in, c
 static const form form_product_div_round_even_u64 = {"QQQ", "QB", true, one_product_div_round_even_u64, many_product_div_round_even_u64};
 
 static const call call_product_div_round_even = {"product_div_round_even", 3, {"a", "b", "d"}, "nnn",
-    (const bool[]){false, false, false}, (const bool[]){true, true, true}, NULL, &form_product_div_round_even_i64, &form_product_div_round_even_u64};
+    (const bool[]){false, false, true}, (const bool[]){true, true, true}, NULL, &form_product_div_round_even_i64, &form_product_div_round_even_u64};
 
 static PyObject *py_product_div_round_even(PyObject *module, PyObject *const *args, Py_ssize_t count, PyObject *names) {
     (void)module;
@@ -5363,8 +5363,7 @@ static PyMethodDef methods[] = {
     "The quotient of `a * b` by `d`, rounded to the nearest integer, and a half away from 0.\n"
     "The product need not fit. That for -1999, 19 and 100 is -380.\n"
     "\n"
-    "Raises `Refused` with `OUTSIDE` if `d` is 0. Raises `NotFitting` if the quotient does\n"
-    "not fit.\n"
+    "Raises `DivisionByZero` if `d` is 0. Raises `NotFitting` if the quotient does not fit.\n"
     "\n"
     ">>> product_div_round(-1999, 19, 100)\n"
     "-380\n"},
@@ -5375,8 +5374,7 @@ static PyMethodDef methods[] = {
     "The quotient of `a * b` by `d`, rounded to the nearest integer, and a half to the even\n"
     "one. The product need not fit. That for -5, 3 and 6 is -2.\n"
     "\n"
-    "Raises `Refused` with `OUTSIDE` if `d` is 0. Raises `NotFitting` if the quotient does\n"
-    "not fit.\n"
+    "Raises `DivisionByZero` if `d` is 0. Raises `NotFitting` if the quotient does not fit.\n"
     "\n"
     ">>> product_div_round_even(-5, 3, 6)\n"
     "-2\n"},
