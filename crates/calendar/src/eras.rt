@@ -36,8 +36,9 @@ const DAYS_TO_EPOCH: u32 = 135080;
 
 /// The days from a 1 March to the first of each month, from January of the next year on. No month has the
 /// number 0.
-const DAYS_FROM_MARCH_TO_MONTH: [u16; 13] =
-    [0, 306, 337, 0, 31, 61, 92, 122, 153, 184, 214, 245, 275];
+const DAYS_FROM_MARCH_TO_MONTH: [u16; 13] = [
+    0, 306, 337, 0, 31, 61, 92, 122, 153, 184, 214, 245, 275,
+];
 
 /// Returns the year as a `u32`, or `None` if it is not from 0 to 2799999.
 #[inline]
