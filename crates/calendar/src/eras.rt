@@ -131,7 +131,7 @@ const fn days_of_years(years: u32) -> u32
     ensures small { result < 1022900000 }
 {
     let centuries = years / 100;
-    QUARTERS_PER_YEAR * years / 4 - (3 * centuries + 3) / 4
+    QUARTERS_PER_YEAR * years / 4 - 3 * (centuries + 1) / 4
 }
 
 /// Returns the days from the last 1 March to the first of `month`.

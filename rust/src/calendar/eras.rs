@@ -92,7 +92,7 @@ pub(crate) const fn from_march_on(month: u8) -> u16 {
 #[inline]
 const fn days_of_years(years: u32) -> u32 {
     let centuries = years / 100;
-    QUARTERS_PER_YEAR * years / 4 - (3 * centuries + 3) / 4
+    QUARTERS_PER_YEAR * years / 4 - 3 * (centuries + 1) / 4
 }
 
 /// Returns the days from the last 1 March to the first of `month`.
