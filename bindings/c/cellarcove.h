@@ -346,10 +346,10 @@ CELLARCOVE_CONST cellarcove_i64_answer cellarcove_prev_multiple_of_i64(int64_t x
 /** The largest multiple of y that is at most x. For 23 and 8 it is 16. CELLARCOVE_OUTSIDE if y is 0. */
 CELLARCOVE_CONST cellarcove_u64_answer cellarcove_prev_multiple_of_u64(uint64_t x, uint64_t y);
 
-/** Whether x is a multiple of y. Of 0 only 0 is one. */
+/** Whether x is a multiple of y. Only 0 is a multiple of 0. */
 CELLARCOVE_CONST bool cellarcove_is_multiple_of_i64(int64_t x, int64_t y);
 
-/** Whether x is a multiple of y. Of 0 only 0 is one. */
+/** Whether x is a multiple of y. Only 0 is a multiple of 0. */
 CELLARCOVE_CONST bool cellarcove_is_multiple_of_u64(uint64_t x, uint64_t y);
 
 /* ---- Common divisors and multiples ---- */
@@ -400,7 +400,7 @@ CELLARCOVE_CONST cellarcove_u64_pair cellarcove_reduced_u64(uint64_t x, uint64_t
 
 /** The greatest common divisor of the numbers, which is not negative. That of -12, 18 and 8 is 2, and that of no
  *  numbers is 0. numbers points to numbers_len numbers, aligned, which do not change during the call; it may be
- *  null if numbers_len is 0. CELLARCOVE_NOT_FITTING if it is 2^63, as that of -2^63 and 0. */
+ *  null if numbers_len is 0. CELLARCOVE_NOT_FITTING if the result is 2^63, as for -2^63 and 0. */
 CELLARCOVE_PURE cellarcove_i64_answer cellarcove_gcd_of_i64(const int64_t *numbers, size_t numbers_len);
 
 /** The greatest common divisor of the numbers, which always fits. That of 12, 18 and 8 is 2, and that of no

@@ -446,7 +446,7 @@ template <class N0, class N1> [[nodiscard]] auto prev_multiple_of(N0 x, N1 y) {
     }
 }
 
-/// Whether x is a multiple of y. Of 0 only 0 is one.
+/// Whether x is a multiple of y. Only 0 is a multiple of 0.
 template <class N0, class N1> [[nodiscard]] auto is_multiple_of(N0 x, N1 y) {
     if constexpr (detail::is_signed<N0, N1>()) {
         auto r = cellarcove_is_multiple_of_i64(static_cast<std::int64_t>(x), static_cast<std::int64_t>(y));
@@ -526,7 +526,7 @@ template <class N0, class N1> [[nodiscard]] auto reduced(N0 x, N1 y) {
 }
 
 /// The greatest common divisor of the numbers, which is not negative. That of -12, 18 and 8 is 2, and that of no
-/// numbers is 0. status::not_fitting if it is 2^63, as that of -2^63 and 0.
+/// numbers is 0. status::not_fitting if the result is 2^63, as for -2^63 and 0.
 [[nodiscard]] inline result<std::int64_t> gcd_of(const std::int64_t *numbers, detail::checked<std::size_t> numbers_length) {
     if (auto error = detail::error_of(numbers_length); error != status::answer) {
         return result<std::int64_t>(error);

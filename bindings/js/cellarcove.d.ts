@@ -149,7 +149,7 @@ export function prevMultipleOf(x: Integer, y: Integer): bigint;
 export function prevMultipleOf<T extends Integers>(x: Integer | T, y: Integer | T): {value: T; status: Uint8Array};
 export function tryPrevMultipleOf(x: Integer, y: Integer): Attempt<bigint>;
 
-/** Whether `x` is a multiple of `y`. Of 0 only 0 is one. */
+/** Whether `x` is a multiple of `y`. Only 0 is a multiple of 0. */
 export function isMultipleOf(x: Integer, y: Integer): boolean;
 export function isMultipleOf<T extends Integers>(x: Integer | T, y: Integer | T): Uint8Array;
 export function tryIsMultipleOf(x: Integer, y: Integer): Attempt<boolean>;
@@ -187,7 +187,7 @@ export function reduced<T extends Integers>(x: Integer | T, y: Integer | T): {fi
 export function tryReduced(x: Integer, y: Integer): Attempt<{first: bigint; second: bigint}>;
 
 /** The greatest common divisor of the numbers, which is not negative. That of -12, 18 and 8 is 2, and that of no numbers is 0.
- *  `NOT_FITTING` if it is 2^63, as that of -2^63 and 0. */
+ *  `NOT_FITTING` if the result is 2^63, as for -2^63 and 0. */
 export function gcdOf(numbers: Iterable<Integer>): bigint;
 export function tryGcdOf(numbers: Iterable<Integer>): Attempt<bigint>;
 

@@ -10,7 +10,7 @@ use crate::Integer;
 /// Returns the factorial of `n`, the product of the numbers from 1 to `n`: in how many ways `n`
 /// things stand in a row.
 ///
-/// [`checked::factorial`] returns `None` outside the domain.
+/// [`checked::factorial`] returns `None` if the precondition does not hold.
 ///
 /// # Examples
 ///
@@ -36,7 +36,7 @@ pub fn factorial<T: Integer + Copy>(n: T) -> T {
 /// Returns the falling factorial of `n` and `k`, the product `n * (n - 1) * ..` of `k` factors: in
 /// how many ways `k` of `n` things stand in a row.
 ///
-/// [`checked::falling`] returns `None` outside the domain.
+/// [`checked::falling`] returns `None` if the precondition does not hold.
 ///
 /// # Examples
 ///

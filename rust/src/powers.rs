@@ -82,7 +82,7 @@ pub fn is_perfect_power(n: u64) -> bool {
 /// Returns the square root, rounded down, and what is left: the number minus the square of the
 /// root.
 ///
-/// [`checked::sqrt_rem`] returns `None` outside the domain.
+/// [`checked::sqrt_rem`] returns `None` if the precondition does not hold.
 ///
 /// # Examples
 ///
@@ -109,7 +109,7 @@ pub fn sqrt_rem<T: Roots + Copy>(n: T) -> (T, T) {
 /// Returns the integer logarithm of `number` to the base: the largest degree of a power of the base
 /// that is at most the number.
 ///
-/// [`checked::ilog`] returns `None` outside the domain.
+/// [`checked::ilog`] returns `None` if the precondition does not hold.
 ///
 /// # Examples
 ///

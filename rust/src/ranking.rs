@@ -61,8 +61,8 @@ fn checked_rank(choice: &[u64]) -> Option<u64> {
 /// Returns the rank of a choice of numbers below `n`: how many choices of the same length come
 /// before it. They are ordered by their last number, then by the one before it, and so on.
 ///
-/// [`is_choice`] and [`rank_fits`] test the domain. The rank fits a `u64` if the number of all
-/// these choices does.
+/// [`is_choice`] and [`rank_fits`] test the precondition. The rank fits a `u64` if the number of
+/// all these choices does.
 ///
 /// # Examples
 ///
@@ -154,7 +154,7 @@ fn is_within(n: u64, k: u64, limit: u64) -> bool {
 /// Replaces a choice of numbers below `n` by the choice of the next rank and returns `true`, or
 /// returns `false` if the choice is the last.
 ///
-/// [`is_choice`] tests the domain.
+/// [`is_choice`] tests the precondition.
 ///
 /// # Examples
 ///

@@ -8,8 +8,8 @@ use crate::{div_mod_floor, Integer};
 
 /// Returns the quotient rounded to the nearest integer, and a half away from zero.
 ///
-/// [`Fits::quotient_fits`](crate::Fits::quotient_fits) tests the domain, and [`checked::div_round`]
-/// returns `None` outside it.
+/// [`Fits::quotient_fits`](crate::Fits::quotient_fits) tests the precondition, and
+/// [`checked::div_round`] returns `None` if it does not hold.
 ///
 /// # Examples
 ///
@@ -35,8 +35,8 @@ pub fn div_round<T: Integer + Copy>(x: T, y: T) -> T {
 
 /// Returns the quotient rounded to the nearest integer, and a half to the even one.
 ///
-/// [`Fits::quotient_fits`](crate::Fits::quotient_fits) tests the domain, and
-/// [`checked::div_round_even`] returns `None` outside it.
+/// [`Fits::quotient_fits`](crate::Fits::quotient_fits) tests the precondition, and
+/// [`checked::div_round_even`] returns `None` if it does not hold.
 ///
 /// # Examples
 ///

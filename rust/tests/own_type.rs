@@ -288,7 +288,8 @@ fn outside_the_domain() {
     );
 }
 
-/// The functions and the method `sqrt` test the domain of a root before they call the type's own method, which has no test.
+/// The functions and the method `sqrt` test the precondition of a root before they call the type's
+/// own method, which has no test.
 #[test]
 fn roots_outside_the_domain() {
     let (degree, even) = (

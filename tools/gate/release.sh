@@ -8,9 +8,9 @@
 # that `.ci/run` has passed in this checkout, and once more of a clone in another folder: both have the same sums. The static
 # library is the one that the gate built by Rattle's compiler, or without `rt` on the machine cargo's.
 #
-# It also runs the slow checks: the second suite of seeded bugs, which takes most of an hour, the first lines of both suites, each guard
-# of plain Rust taken out, and all tests of the package for cargo. With --quick it leaves these out, but for some of the tests, and the
-# notes say so.
+# It also runs the slow checks: the second suite of mutants, which takes most of an hour, the first lines of both suites, each guard of
+# plain Rust taken out, and all tests of the package for cargo. With --quick it leaves these out, but for some of the tests, and the notes
+# say so.
 set -uo pipefail
 cd "$(dirname "$0")/../.." || exit
 source tools/gate/lib.sh

@@ -12,7 +12,7 @@ use num_integer::operators::{difference, is_below, is_negative, one, successor, 
 /// Returns the factorial of `n`, the product of the numbers from 1 to `n`: in how many ways `n` things stand in
 /// a row. `factorial(5)` is `120`, and `factorial(0)` is `1`.
 ///
-/// [`checked::factorial`] returns `None` outside the domain.
+/// [`checked::factorial`] returns `None` if the precondition does not hold.
 ///
 /// # Panics
 ///
@@ -32,7 +32,7 @@ pub fn factorial<T: Integer + Copy>(n: T) -> T
 /// Returns the falling factorial of `n` and `k`, the product `n * (n - 1) * ..` of `k` factors: in how many ways
 /// `k` of `n` things stand in a row. `falling(8, 3)` is `336`, and `falling(2, 3)` is `0`.
 ///
-/// [`checked::falling`] returns `None` outside the domain.
+/// [`checked::falling`] returns `None` if the precondition does not hold.
 ///
 /// # Panics
 ///

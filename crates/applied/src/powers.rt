@@ -62,7 +62,7 @@ pub fn is_perfect_power(n: u64) -> bool
 /// Returns the square root, rounded down, and what is left: the number minus the square of the root.
 /// `sqrt_rem(99)` is `(9, 18)`, and `sqrt_rem(81)` is `(9, 0)`.
 ///
-/// [`checked::sqrt_rem`] returns `None` outside the domain.
+/// [`checked::sqrt_rem`] returns `None` if the precondition does not hold.
 ///
 /// # Panics
 ///
@@ -84,7 +84,7 @@ pub fn sqrt_rem<T: Roots + Copy>(n: T) -> (T, T)
 /// Returns the integer logarithm of `number` to the base: the largest degree of a power of the base that is at
 /// most the number. `ilog(1000, 10)` is `3`, `ilog(999, 10)` is `2`, and `ilog(255u8, 2)` is `7`.
 ///
-/// [`checked::ilog`] returns `None` outside the domain.
+/// [`checked::ilog`] returns `None` if the precondition does not hold.
 ///
 /// # Panics
 ///

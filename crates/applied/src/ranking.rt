@@ -51,8 +51,8 @@ fn checked_rank(choice: &[u64]) -> Option<u64>
 /// Returns the rank of a choice of numbers below `n`: how many choices of the same length come before it. They
 /// are ordered by their last number, then by the one before it, and so on. `rank(&[0, 2, 3], 5)` is `2`.
 ///
-/// [`is_choice`] and [`rank_fits`] test the domain. The rank fits a `u64` if the number of all these choices
-/// does.
+/// [`is_choice`] and [`rank_fits`] test the precondition. The rank fits a `u64` if the number of
+/// all these choices does.
 ///
 /// # Panics
 ///
@@ -139,7 +139,7 @@ fn is_within(n: u64, k: u64, limit: u64) -> bool
 /// `{ let mut choice = [0, 1, 4]; (next_choice(&mut choice, 5), choice) }` is `(true, [0, 2, 4])`, and
 /// `next_choice(&mut [2, 3, 4], 5)` is `false`.
 ///
-/// [`is_choice`] tests the domain.
+/// [`is_choice`] tests the precondition.
 ///
 /// # Panics
 ///

@@ -13,7 +13,8 @@ use num_integer::{Integer, div_mod_floor};
 /// Returns the quotient rounded to the nearest integer, and a half away from zero. `div_round(8, 3)` is `3`,
 /// `div_round(5, 2)` is `3`, and `div_round(-5, 2)` is `-3`.
 ///
-/// [`Fits::quotient_fits`] tests the domain, and [`checked::div_round`] returns `None` outside it.
+/// [`Fits::quotient_fits`] tests the precondition, and [`checked::div_round`] returns `None` if it
+/// does not hold.
 ///
 /// # Panics
 ///
@@ -32,7 +33,8 @@ pub fn div_round<T: Integer + Copy>(x: T, y: T) -> T
 /// Returns the quotient rounded to the nearest integer, and a half to the even one. `div_round_even(8, 3)` is
 /// `3`, `div_round_even(5, 2)` is `2`, and `div_round_even(7, 2)` is `4`.
 ///
-/// [`Fits::quotient_fits`] tests the domain, and [`checked::div_round_even`] returns `None` outside it.
+/// [`Fits::quotient_fits`] tests the precondition, and [`checked::div_round_even`] returns `None`
+/// if it does not hold.
 ///
 /// # Panics
 ///

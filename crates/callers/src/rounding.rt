@@ -53,7 +53,8 @@ pub fn natural_mean(total: u64, count: u64) -> u64
     div_round_even(total, count)
 }
 
-/// Returns the nearest quotient, or `None`, but not if the divisor is positive. An `if` tests the domain.
+/// Returns the nearest quotient, or `None`, but not if the divisor is positive. An `if` tests the
+/// precondition.
 pub fn nearest_or_none(total: i64, count: i64) -> Option<i64>
     ensures { MatchOption result
         (count ≤ℤ pos 0) (λ q. IsQuotient IsNearest total count q) }
@@ -65,8 +66,8 @@ pub fn nearest_or_none(total: i64, count: i64) -> Option<i64>
     }
 }
 
-/// Returns the nearest quotient, or `None` if the divisor is 0 or the quotient does not fit. The call tests the
-/// domain.
+/// Returns the nearest quotient, or `None` if the divisor is 0 or the quotient does not fit. The
+/// call tests the precondition.
 pub fn nearest_checked(total: i64, count: i64) -> Option<i64>
     ensures { MatchOption result
         (¬ ((count ≢ pos 0) × EachFits (FitsSigned w64) (IsQuotient IsNearest total count)))

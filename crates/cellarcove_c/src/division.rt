@@ -244,7 +244,7 @@ pub extern "C" fn cellarcove_prev_multiple_of_u64(x: u64, y: u64) -> U64Answer
     U64Answer::of(checked::prev_multiple_of(x, y), OUTSIDE)
 }
 
-/// Returns `true` if `x` is a multiple of `y`. Of 0 only 0 is one.
+/// Returns `true` if `x` is a multiple of `y`. Only 0 is a multiple of 0.
 #[unsafe(no_mangle)]
 pub extern "C" fn cellarcove_is_multiple_of_i64(x: i64, y: i64) -> bool
     ensures { IsTrue result ↔ Divides y x }
@@ -252,7 +252,7 @@ pub extern "C" fn cellarcove_is_multiple_of_i64(x: i64, y: i64) -> bool
     Integer::is_multiple_of(&x, &y)
 }
 
-/// Returns `true` if `x` is a multiple of `y`. Of 0 only 0 is one.
+/// Returns `true` if `x` is a multiple of `y`. Only 0 is a multiple of 0.
 #[unsafe(no_mangle)]
 pub extern "C" fn cellarcove_is_multiple_of_u64(x: u64, y: u64) -> bool
     ensures { IsTrue result ↔ Divides (pos y) (pos x) }

@@ -1,4 +1,4 @@
-//! The laws of what the calls say.
+//! The laws of the definitions that the contracts of the exports use.
 
 ghost use Rattle.std.specs.Prelude.{◌≡◌, ◌≤ℤ◌, ◌*ℤ◌, pos, Err};
 ghost use Rattle.calendar.specs.Dates.{IsLastWeekdayOfMonth};

@@ -12,7 +12,7 @@ use applied::lists::{checked, gcd_of};
 /// Returns the greatest common divisor of the numbers, which is not negative. That of -12, 18 and 8 is
 /// 2, and that of no numbers is 0.
 ///
-/// `NOT_FITTING` if it is 2^63, as that of -2^63 and 0.
+/// `NOT_FITTING` if the result is 2^63, as for -2^63 and 0.
 #[unsafe(no_mangle)]
 pub extern "C" fn cellarcove_gcd_of_i64(numbers: &[i64]) -> I64Answer
     ensures { I64Fitting (IsGreatestCommonDivisorOf numbers.now) result }

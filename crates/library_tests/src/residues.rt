@@ -86,7 +86,7 @@ fn residues_of_own_numbers(rt: HostRuntime) {
     }
 }
 
-/// Checks common solutions in and outside the domain: by trial, 8 is the first number that leaves 2 by 3 and 3 by 5.
+/// Checks common solutions, and when there is no result: by trial, 8 is the first number that leaves 2 by 3 and 3 by 5.
 #[test]
 fn checked_congruences(rt: HostRuntime) {
     for (found, expected) in [

@@ -50,7 +50,7 @@
 //! `u128` have no roots. Clauses speak of integers without limit, so nothing in them overflows. A clause
 //! `in_range` says that an argument is in the range of its type. The prover knows this of an argument that is an
 //! `i64` or a `u64`, and of the items of a `&[u64]`, but not of those of a `&[i64]`. The other `requires` are the
-//! domain of the call. [`divisions`] and [`quotients`] require that the quotients of all three kinds fit, and each
+//! precondition of the call. [`divisions`] and [`quotients`] require that the quotients of all three kinds fit, and each
 //! call only that its own does. By [`domain_of_quotients`] this is the same. The `specs/` of each crate define the
 //! words, with examples. Some of them surprise:
 //!
@@ -531,7 +531,7 @@ pub fn averages_of_i64(a: i64, b: i64) -> (i64, i64)
     (a.average_floor(&b), a.average_ceil(&b))
 }
 
-/// Returns `true` exactly in the domain of a division: the divisor is not 0, and the quotient fits. The quotients of all
+/// Returns `true` exactly if the precondition of a division holds: the divisor is not 0, and the quotient fits. The quotients of all
 /// three kinds fit, or none does: each does unless the divisor is -1 and the negation of the number does not fit.
 pub fn domain_of_quotients<T: Fits>(n: T, d: T) -> bool
     requires in_range { T.fits (T.value n) × T.fits (T.value d) }
@@ -543,7 +543,7 @@ pub fn domain_of_quotients<T: Fits>(n: T, d: T) -> bool
     n.quotient_fits(&d)
 }
 
-/// Returns `true` exactly in the domain of the next and in that of the previous multiple: the divisor is not 0, and the
+/// Returns `true` exactly if the preconditions of the next and of the previous multiple hold: the divisor is not 0, and the
 /// multiple fits.
 pub fn domains_of_multiples<T: Fits>(n: T, d: T) -> (bool, bool)
     requires in_range { T.fits (T.value n) × T.fits (T.value d) }
@@ -555,7 +555,7 @@ pub fn domains_of_multiples<T: Fits>(n: T, d: T) -> (bool, bool)
     (n.next_multiple_fits(&d), n.prev_multiple_fits(&d))
 }
 
-/// Returns `true` exactly in the domain of `gcd` and in that of `lcm`: the number fits.
+/// Returns `true` exactly if the preconditions of `gcd` and of `lcm` hold: the number fits.
 pub fn domains_of_divisors<T: Fits>(a: T, b: T) -> (bool, bool)
     requires in_range { T.fits (T.value a) × T.fits (T.value b) }
     ensures gcd { IsTrue result.0 ↔ EachFits T.fits
@@ -586,7 +586,7 @@ pub fn domains_of_operators<T: Fits>(a: T, b: T) -> (bool, bool, bool)
     (a.sum_fits(&b), a.difference_fits(&b), a.product_fits(&b))
 }
 
-/// Returns `true` exactly in the domain of `binomial`: neither number is negative, and the coefficient fits.
+/// Returns `true` exactly if the precondition of `binomial` holds: neither number is negative, and the coefficient fits.
 pub fn domain_of_binomial<T: Fits>(n: T, k: T) -> bool
     requires in_range { T.fits (T.value n) × T.fits (T.value k) }
     ensures binomial { IsTrue result ↔ ((pos 0 ≤ℤ T.value n) × (pos 0 ≤ℤ T.value k)
@@ -595,7 +595,7 @@ pub fn domain_of_binomial<T: Fits>(n: T, k: T) -> bool
     n.binomial_fits(&k)
 }
 
-/// Returns `true` exactly in the domain of `multinomial`: no count is negative, and the coefficient fits.
+/// Returns `true` exactly if the precondition of `multinomial` holds: no count is negative, and the coefficient fits.
 pub fn domain_of_multinomial<T: Fits>(counts: &[T]) -> bool
     requires in_range { All (λ count. T.fits (T.value count)) counts.now }
     ensures multinomial { IsTrue result ↔ (All (λ count. pos 0 ≤ℤ T.value count) counts.now
