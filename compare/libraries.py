@@ -260,7 +260,7 @@ def table(name: str, key_type: str, calls: str, lines: Iterable[Line]) -> str:
 def made() -> dict[str, str]:
     """The file."""
     choices = Answered(ranked_choices())
-    text = ((ROOT / "compare/libraries_head.rt").read_text() + table("RESIDUES", "Type", "Residues", residue_lines()) + table("FRACTIONS", "u32", "Fractions", fraction_lines())
+    text = ((ROOT / "compare/libraries_head.rattle").read_text() + table("RESIDUES", "Type", "Residues", residue_lines()) + table("FRACTIONS", "u32", "Fractions", fraction_lines())
             + table("DATES", "u32", "Dates", date_lines()) + table("MODELS", "Type", "Models", model_lines())
             + "\n/// All choices of the numbers below each number up to 14.\n"
             + f"pub(crate) const CHOICES: Answered = Answered({choices.count}, Checksum({choices.checksum}));\n")
