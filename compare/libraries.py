@@ -4,10 +4,12 @@ crates/replay/src/tests/libraries.rt. `tools/cellarcove make python` writes it.
 Each function stands beside the one of its name in crates/replay, and goes over the same inputs in the same order. Most results are
 those of tools/bindings/by_python.py, with which the exports are compared too.
 """
+import tomllib
 from collections.abc import Callable, Iterable, Iterator, Sequence
 from fractions import Fraction
 from itertools import combinations
 
+from tools import ROOT
 from tools.bindings import by_python as model
 from tools.bindings.by_python import Pair, Result
 
@@ -103,45 +105,28 @@ TYPES = {
     "U128": Shape(128, 0, (1 << 128) - 1, 0),
 }
 
+# By table, each call and what makes its result: a name in by_python.py, and letters for the arguments.
+CALLS = tomllib.loads((ROOT / "compare/libraries.toml").read_text())
+NUMBERS = "abms"                                # two numbers, a modulus and a size
+FRACTIONS = "xynz"                              # two fractions, a number and 0
+DATES = "dne"                                   # a date, a number and the date of that day
 
-# A call, and what makes its result: a name in by_python.py, and letters for the arguments.
-Calls = dict[str, str]
-LETTERS = "abmsxynz"                            # numbers, a modulus and a size; fractions, a number and 0
 
-
-def model_of(words: str) -> Callable[..., Result]:
-    """What makes the result of the ends of the type and of the arguments of all letters from the first one of the words on."""
+def model_of(given: str, words: str) -> Callable[..., Result]:
+    """What makes the result of the ends of the type and of the arguments of these letters."""
     name, *letters = words.split()
-    made, first = model.RESULTS[name], LETTERS.index("a" if letters[0] in "abms" else "x")
-    places = [LETTERS.index(letter) - first for letter in letters]
-    return lambda ends, *arguments: made(ends, *[arguments[place] for place in places])
+    return lambda ends, *arguments: model.RESULTS[name](ends, *[arguments[given.index(letter)] for letter in letters])
 
 
-# The calls of modular.
-
-OF_ONE_MODULUS: Calls = {
-    "Residue": "residue a m",
-    "Negation": "negation_modulo a m",
-    "Sum": "sum_modulo a b m",
-    "Difference": "difference_modulo a b m",
-    "Product": "product_modulo a b m",
-    "Power": "power_modulo a s m",
-    "Inverse": "inverse_modulo a m",
-    "Quotient": "quotient_modulo a b m",
-    "Solutions": "solutions a b m",
-    "Next": "next_congruent a b m",
-    "Previous": "previous_congruent a b m",
-    "CountCongruent": "count_congruent a b a m",
-}
-
+# ---- the calls of modular
 
 def next_common_solution(ends: Pair, a: int, m: int, b: int, n: int) -> Numbers:
-    found = model.next_common_solution(ends, b, a, m, b, n)
+    found = model.RESULTS["next_common_solution"](ends, b, a, m, b, n)
     return (BEYOND,) if found == model.NOT_FITTING else found
 
 
 def of_one_modulus(shape: Shape, words: str) -> Answered:
-    numbers, call = shape.spread(36), model_of(words)
+    numbers, call = shape.spread(36), model_of(NUMBERS, words)
     return Answered(((a, b, m), call(shape.bounds, a, b, m, abs(b))) for a in numbers for b in numbers for m in numbers if m > 0)
 
 
@@ -153,42 +138,20 @@ def of_two_moduli(shape: Shape, call: Callable[..., Numbers]) -> Answered:
 
 def residue_lines() -> Iterator[Line]:
     for name, shape in TYPES.items():
-        for call, words in OF_ONE_MODULUS.items():
+        for call, words in CALLS["modular"].items():
             yield name, call, of_one_modulus(shape, words)
-        yield name, "ChineseRemainder", of_two_moduli(shape, model.chinese_remainder)
+        yield name, "ChineseRemainder", of_two_moduli(shape, model.RESULTS["chinese_remainder"])
         yield name, "NextSolution", of_two_moduli(shape, next_common_solution)
 
 
-# The calls of ratio64. Of those in COUNTED, that there is no result is counted too.
+# ---- the calls of ratio64
 
+# Of these, that there is no result is counted too.
 COUNTED = {"Negation", "Magnitude", "Reciprocal", "Power", "Sum", "Difference", "Product", "Quotient"}
-ONE_FRACTION: Calls = {
-    "Rounded": "fraction_floor x, fraction_ceil x, fraction_trunc x, fraction_round x",
-    "Fract": "fraction_fract x",
-    "Sign": "fraction_cmp x z",
-    "Negation": "fraction_neg x",
-    "Magnitude": "fraction_abs x",
-    "Reciprocal": "fraction_recip x",
-}
-FRACTION_AND_NUMBER: Calls = {
-    "Power": "fraction_pow x n",
-    "FloorTimes": "fraction_floor_times x n",
-    "CeilTimes": "fraction_ceil_times x n",
-    "RoundTimes": "fraction_round_times x n",
-    "Limited": "fraction_limit_denominator x n",
-}
-TWO_FRACTIONS: Calls = {
-    "Sum": "fraction_add x y",
-    "Difference": "fraction_sub x y",
-    "Product": "fraction_mul x y",
-    "Quotient": "fraction_div x y",
-    "Order": "fraction_cmp x y",
-}
-
 
 def of_fractions(call: str, words: str, inputs: Iterable[tuple[tuple[int, ...], Pair, Pair, int]]) -> Answered:
     """What is counted of a call: its results, or why there are none. A sign is a fraction."""
-    models = [model_of(each) for each in words.split(",")]
+    models = [model_of(FRACTIONS, each) for each in words.split(",")]
 
     def counted(x: Pair, y: Pair, n: int) -> Numbers:
         if call == "Power" and not -(1 << 31) <= n < 1 << 31:
@@ -213,32 +176,30 @@ def fraction_lines() -> Iterator[Line]:
     for bits in (16, 32, 64):
         numbers = signed(bits).spread(52)
         all_fractions, few = fractions_of(numbers), fractions_of(signed(bits).spread(16))
-        for call, words in ONE_FRACTION.items():
+        for call, words in CALLS["fraction"].items():
             yield bits, call, of_fractions(call, words, ((x, x, x, 0) for x in all_fractions))
-        for call, words in FRACTION_AND_NUMBER.items():
+        for call, words in CALLS["fraction_and_number"].items():
             yield bits, call, of_fractions(call, words, (((*x, n), x, x, n) for x in few for n in numbers))
-        for call, words in TWO_FRACTIONS.items():
+        for call, words in CALLS["two_fractions"].items():
             yield bits, call, of_fractions(call, words, (((*x, *y), x, y, 0) for x in few for y in few))
 
 
-# The calls of calendar.
+# ---- the calls of calendar
 
 def day(n: int) -> Numbers:
-    own = model.of_day(n)
-    date = model.valid(*own)
-    year, week, weekday = date.isocalendar()
-    return *own, date.timetuple().tm_yday, year + own[0] - date.year, week, n, weekday, *own, *own
+    own = model.of_number(n)
+    return *own, own.near().timetuple().tm_yday, *own.iso_week(), n, own.near().isoweekday(), *own, *own
 
 
 def year(n: int) -> Numbers:
-    leaps = model.days_in(n, 2) == 29
-    return int(leaps), 365 + leaps, model.weeks_in(n), *model.easter(model.I64, n)
+    leaps = model.is_leap(n)
+    return leaps, 365 + leaps, model.weeks_in(n), *model.easter(n)
 
 
 def places(n: int, month: int, weekday: int) -> tuple[int, ...]:
     """The days of the month that have the day of the week, the last one first, and 0 for the fifth if there is
     none."""
-    days = model.weekdays(n, month, weekday)
+    days = [date.day for date in model.weekdays(n, month, weekday)]
     return (days[-1], *days, *[0] * (5 - len(days)))
 
 
@@ -255,14 +216,6 @@ OF_NUMBER: dict[str, Callable[[int], Numbers]] = {
     "NearestWeekdays": nearest_weekdays,
 }
 
-OF_TWO_NUMBERS: dict[str, Callable[[int, int], Result]] = {
-    "PlusDays": lambda d, n: model.within(model.of_day(d + n)),
-    "PlusMonths": lambda d, n: model.within(model.months_later(model.of_day(d), n)),
-    "DaysBetween": lambda d, n: model.fitting(model.I64, n - d),
-    "MonthsBetween": lambda d, n: model.months_between(model.I64, model.of_day(d), model.of_day(n)),
-    "YearsBetween": lambda d, n: model.years_between(model.I64, model.of_day(d), model.of_day(n)),
-}
-
 
 def date_lines() -> Iterator[Line]:
     yield 32, "EleventhDays", Answered(((n,), day(n)) for n in range(-719162, 2932897, 11))
@@ -270,26 +223,17 @@ def date_lines() -> Iterator[Line]:
         for call, of_one in OF_NUMBER.items():
             yield bits, call, Answered(((n,), of_one(n)) for n in signed(bits).spread(2048))
         numbers = signed(bits).spread(128)
-        for call, of_two in OF_TWO_NUMBERS.items():
-            yield bits, call, Answered(((d, n), of_two(d, n)) for d in numbers for n in numbers)
+        for call, words in CALLS["dates"].items():
+            made = model_of(DATES, words)
+            yield bits, call, Answered(((d, n), made(model.I64, model.of_number(d), n, model.of_number(n))) for d in numbers for n in numbers)
 
 
-# The calls of applied.
-
-MODELS: Calls = {
-    "Pages": "pages a m",
-    "PlaceOf": "place_of a m",
-    "RangeOfPage": "range_of_page a m b",
-    "RangeOfPart": "range_of_part a m b",
-    "AlignUp": "align_up a m",
-    "Padding": "padding a m",
-    "Midpoint": "average_floor a b",
-}
+# ---- the calls of applied
 
 
 def model_lines() -> Iterator[Line]:
     for name in ("I64", "U64"):
-        for call, words in MODELS.items():
+        for call, words in CALLS["applied"].items():
             yield name, call, of_one_modulus(TYPES[name], words)
 
 
@@ -299,21 +243,6 @@ def ranked_choices() -> Iterator[tuple[Sequence[int], Numbers]]:
         for k in range(n + 1):
             choices = sorted(combinations(range(n), k), key=lambda choice: choice[::-1])
             yield from (((rank,), choice) for rank, choice in enumerate(choices))
-
-
-HEAD = """\
-//! What Python returns, as `compare/libraries.py` printed it.
-
-use super::checksum::Checksum;
-use super::dates::Dates;
-use super::fractions::Fractions;
-use super::lines::LibraryLine;
-use super::models::Models;
-use super::residues::Residues;
-use super::walks::Answered;
-use own_types::types::Type;
-use own_types::types::Type::{I16, I64, I128, U64, U128};
-"""
 
 
 def line(key: str | int, call: str, answered: Answered) -> str:
@@ -331,7 +260,7 @@ def table(name: str, key_type: str, calls: str, lines: Iterable[Line]) -> str:
 def made() -> dict[str, str]:
     """The file."""
     choices = Answered(ranked_choices())
-    text = (HEAD + table("RESIDUES", "Type", "Residues", residue_lines()) + table("FRACTIONS", "u32", "Fractions", fraction_lines())
+    text = ((ROOT / "compare/libraries_head.rt").read_text() + table("RESIDUES", "Type", "Residues", residue_lines()) + table("FRACTIONS", "u32", "Fractions", fraction_lines())
             + table("DATES", "u32", "Dates", date_lines()) + table("MODELS", "Type", "Models", model_lines())
             + "\n/// All choices of the numbers below each number up to 14.\n"
             + f"pub(crate) const CHOICES: Answered = Answered({choices.count}, Checksum({choices.checksum}));\n")

@@ -8,6 +8,8 @@ import subprocess
 from collections.abc import Iterable, Iterator, Mapping
 
 ROOT = pathlib.Path(__file__).resolve().parent.parent
+REGISTRY = pathlib.Path('/usr/share/cargo/registry')         # Debian's sources of packages for cargo
+DEBIAN = (ROOT / 'tools/gate/debian.toml').read_text() if REGISTRY.is_dir() else ''
 
 
 def dependencies(root: pathlib.Path = ROOT) -> dict[str, list[str]]:
@@ -36,12 +38,12 @@ def run(*words: str | pathlib.Path) -> bool:
 
 
 def write(root: pathlib.Path, made: Mapping[str, str | None]) -> bool:
-    """Writes the made files, by their names below a folder. Where there is to be no text, a file goes."""
+    """Writes the files that have another text, by their names below a folder. Where there is to be no text, a file goes."""
     for name, text in made.items():
         (root / name).parent.mkdir(parents=True, exist_ok=True)
         if text is None:
             (root / name).unlink()
-        else:
+        elif not (root / name).is_file() or (root / name).read_text() != text:
             (root / name).write_text(text)
     return True
 

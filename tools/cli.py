@@ -13,10 +13,14 @@ from tools import ROOT, as_made, run, write
 from tools.erase.source import Unknown
 
 
+SETTINGS = 'tools/settings.cfg'                 # of mypy and pytest, with the files that they read
+SHELL = [str(path) for name in ('tools/gate/*.sh', '.ci/run', 'bindings/build', 'bindings/install', 'bindings/js/build') for path in sorted(ROOT.glob(name))]
+
+
 class Part(NamedTuple):
-    """A part: its function, as `module:function`, or its script; what it does; and whether it runs if no part is named."""
+    """A part: what it does, its function, as `module:function`, or a command, and whether it runs if no part is named."""
     does: str
-    function: str
+    function: str | tuple[str, ...]
     always: bool = True
 
 
@@ -38,18 +42,18 @@ PARTS = {
         'pages': Part('the pages quote files, their links lead somewhere, and docs/ERRORS.md has each message', 'tools.checks.pages:check'),
         'edits': Part('each seeded bug fits its file, and its first line has a form', 'tools.checks.edits:check'),
         'laws': Part('each law is a clause that the gate proves', 'tools.checks.laws:check'),
-        'erased': Part('plain Rust is its source with its contracts deleted, but for a table', 'tools/checks/erased.py'),
+        'erased': Part('plain Rust is its source with its contracts deleted, but for a table', (sys.executable, 'tools/checks/erased.py')),
         'rust_docs': Part('[--links DOC]: each public item of plain Rust has an example, and says when it panics', 'tools.checks.rust_docs:check'),
         'bindings': Part('the files of `make bindings` are what it makes', 'tools.bindings.files:made'),
         'api': Part('so is what `make api` writes', 'tools.pages.api:made'),
         'reference': Part('so are those of `make reference`', 'tools.pages.reference:made'),
-        'types': Part('mypy --strict on the tools', 'tools.checks.programs:types'),
-        'shell': Part('shellcheck on the scripts of the shell', 'tools.checks.programs:shell'),
-        'tests': Part('pytest on the tools', 'tools.checks.programs:tests'),
+        'types': Part('mypy --strict on the tools', ('mypy', '--config-file', SETTINGS)),
+        'shell': Part('shellcheck on the scripts of the shell', ('shellcheck', '-x', '--severity', 'warning', *SHELL)),
+        'tests': Part('pytest on the tools', ('pytest-3', '-q', '-c', SETTINGS, '--rootdir', '.', '-p', 'no:cacheprovider')),
         'python': Part('so is that of `make python`, which takes a minute', 'compare.libraries:made', False),
         'trust': Part('LOG: docs/TESTING.md says of the axioms what `rt ci` printed', 'tools.checks.trust:check', False),
-        'sessions': Part('PROGRAM: it prints what the sessions of the pages show', 'tools.checks.pages:sessions_of_pages', False),
-        'examples': Part('FOLDER: its programs print what the heads of rust/examples show', 'tools.checks.pages:sessions_of_examples', False),
+        'sessions': Part('PROGRAM|FOLDER: it prints what the sessions of the pages show, or its programs what the heads of rust/examples do',
+                         'tools.checks.pages:check_sessions', False),
         'wrong_lines': Part('[NAME..]: the first line of each seeded bug is true, as plain Rust', 'tools.checks.wrong_lines:check', False),
         'guards': Part('[--sample]: a test misses each guard of plain Rust that is taken out', 'tools.checks.guards:check', False),
         'fuzz': Part('[--small ..]: the package for Python returns what Python computes', 'tools.bindings.fuzz:check', False),
@@ -59,8 +63,8 @@ PARTS = {
 
 def run_part(verb: str, part: Part, words: list[str]) -> int:
     """The status of a part. One whose function is `made` has the files that are to be made, or that are compared with what is made."""
-    if '/' in part.function:
-        return 0 if run(sys.executable, ROOT / part.function, *words) else 1
+    if isinstance(part.function, tuple):
+        return 0 if run(*part.function, *words) else 1
     name, function = part.function.split(':')
     module = importlib.import_module(name)
     if words == ['--help']:

@@ -1,15 +1,19 @@
-# A program that asks for a version gets that one, or a later one of the same minor version.
+# A program that asks for a version gets that one, or a later one of the same minor version; one that asks for a range gets each of it.
 set(PACKAGE_VERSION "@VERSION@")
 string(REGEX REPLACE "^([0-9]+\\.[0-9]+)\\..*" "\\1" cellarcove_minor "${PACKAGE_VERSION}")
+set(PACKAGE_VERSION_COMPATIBLE FALSE)
 if(PACKAGE_FIND_VERSION_COUNT EQUAL 0)
     set(PACKAGE_VERSION_COMPATIBLE TRUE)
-elseif("${PACKAGE_FIND_VERSION_MAJOR}.${PACKAGE_FIND_VERSION_MINOR}" STREQUAL cellarcove_minor
-        AND NOT PACKAGE_VERSION VERSION_LESS PACKAGE_FIND_VERSION)
+elseif(PACKAGE_VERSION VERSION_LESS PACKAGE_FIND_VERSION)
+elseif(PACKAGE_FIND_VERSION_RANGE)
+    if(PACKAGE_VERSION VERSION_LESS PACKAGE_FIND_VERSION_MAX
+            OR (PACKAGE_FIND_VERSION_RANGE_MAX STREQUAL "INCLUDE" AND PACKAGE_VERSION VERSION_EQUAL PACKAGE_FIND_VERSION_MAX))
+        set(PACKAGE_VERSION_COMPATIBLE TRUE)
+    endif()
+elseif("${PACKAGE_FIND_VERSION_MAJOR}.${PACKAGE_FIND_VERSION_MINOR}" STREQUAL cellarcove_minor)
     set(PACKAGE_VERSION_COMPATIBLE TRUE)
     if(PACKAGE_VERSION VERSION_EQUAL PACKAGE_FIND_VERSION)
         set(PACKAGE_VERSION_EXACT TRUE)
     endif()
-else()
-    set(PACKAGE_VERSION_COMPATIBLE FALSE)
 endif()
 unset(cellarcove_minor)

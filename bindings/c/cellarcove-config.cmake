@@ -1,15 +1,23 @@
 # The targets cellarcove::cellarcove, the archive, and cellarcove::shared, the shared library, for C and C++.
-get_filename_component(cellarcove_prefix "${CMAKE_CURRENT_LIST_DIR}/@FROM_CMAKE@" ABSOLUTE)
+get_filename_component(cellarcove_prefix "${CMAKE_CURRENT_LIST_DIR}/@UP@" ABSOLUTE)
+set(cellarcove_library "${cellarcove_prefix}/@LIBDIR@/libcellarcove_c${CMAKE_SHARED_LIBRARY_SUFFIX}")
+if(WIN32)
+    set(cellarcove_library "${cellarcove_prefix}/bin/cellarcove_c.dll")
+endif()
 if(NOT TARGET cellarcove::cellarcove)
     add_library(cellarcove::cellarcove STATIC IMPORTED)
     set_target_properties(cellarcove::cellarcove PROPERTIES
         IMPORTED_LOCATION "${cellarcove_prefix}/@LIBDIR@/libcellarcove_c.a"
         INTERFACE_INCLUDE_DIRECTORIES "${cellarcove_prefix}/include")
 endif()
-if(NOT TARGET cellarcove::shared AND EXISTS "${cellarcove_prefix}/@LIBDIR@/libcellarcove_c.so")
+if(NOT TARGET cellarcove::shared AND EXISTS "${cellarcove_library}")
     add_library(cellarcove::shared SHARED IMPORTED)
     set_target_properties(cellarcove::shared PROPERTIES
-        IMPORTED_LOCATION "${cellarcove_prefix}/@LIBDIR@/libcellarcove_c.so"
+        IMPORTED_LOCATION "${cellarcove_library}"
         INTERFACE_INCLUDE_DIRECTORIES "${cellarcove_prefix}/include")
+    if(WIN32)
+        set_target_properties(cellarcove::shared PROPERTIES IMPORTED_IMPLIB "${cellarcove_prefix}/@LIBDIR@/libcellarcove_c.dll.a")
+    endif()
 endif()
+unset(cellarcove_library)
 unset(cellarcove_prefix)

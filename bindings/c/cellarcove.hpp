@@ -1503,6 +1503,56 @@ template <class N0, class N1, class N2, class N3> [[nodiscard]] auto count_times
     return r.status == CELLARCOVE_ANSWER ? result<fraction>(fraction::from_c(r.value)) : result<fraction>(static_cast<status>(r.status));
 }
 
+/// The quotient of a * b by d, rounded to the nearest integer, and a half away from 0. The product need not fit. That
+/// for -1999, 19 and 100 is -380. status::outside if d is 0. status::not_fitting if the quotient does not fit.
+template <class N0, class N1, class N2> [[nodiscard]] auto product_div_round(N0 a, N1 b, N2 d) {
+    if constexpr (detail::is_signed<N0, N1, N2>()) {
+        auto r = cellarcove_product_div_round_i64(static_cast<std::int64_t>(a), static_cast<std::int64_t>(b), static_cast<std::int64_t>(d));
+        return r.status == CELLARCOVE_ANSWER ? result<std::int64_t>(r.value) : result<std::int64_t>(static_cast<status>(r.status));
+    } else {
+        auto r = cellarcove_product_div_round_u64(static_cast<std::uint64_t>(a), static_cast<std::uint64_t>(b), static_cast<std::uint64_t>(d));
+        return r.status == CELLARCOVE_ANSWER ? result<std::uint64_t>(r.value) : result<std::uint64_t>(static_cast<status>(r.status));
+    }
+}
+
+/// The quotient of a * b by d, rounded to the nearest integer, and a half to the even one. The product need not fit.
+/// That for -5, 3 and 6 is -2. status::outside if d is 0. status::not_fitting if the quotient does not fit.
+template <class N0, class N1, class N2> [[nodiscard]] auto product_div_round_even(N0 a, N1 b, N2 d) {
+    if constexpr (detail::is_signed<N0, N1, N2>()) {
+        auto r = cellarcove_product_div_round_even_i64(static_cast<std::int64_t>(a), static_cast<std::int64_t>(b), static_cast<std::int64_t>(d));
+        return r.status == CELLARCOVE_ANSWER ? result<std::int64_t>(r.value) : result<std::int64_t>(static_cast<status>(r.status));
+    } else {
+        auto r = cellarcove_product_div_round_even_u64(static_cast<std::uint64_t>(a), static_cast<std::uint64_t>(b), static_cast<std::uint64_t>(d));
+        return r.status == CELLARCOVE_ANSWER ? result<std::uint64_t>(r.value) : result<std::uint64_t>(static_cast<status>(r.status));
+    }
+}
+
+/// The sum of the numbers. The sum of the first of them need not fit. That of 2^63 - 1, 1 and -1 is 2^63 - 1, and
+/// that of no numbers is 0. status::not_fitting if the sum does not fit.
+[[nodiscard]] inline result<std::int64_t> sum_of(const std::int64_t *numbers, detail::checked<std::size_t> numbers_length) {
+    if (auto error = detail::error_of(numbers_length); error != status::answer) {
+        return result<std::int64_t>(error);
+    }
+    auto r = cellarcove_sum_of_i64(numbers, numbers_length.value);
+    return r.status == CELLARCOVE_ANSWER ? result<std::int64_t>(r.value) : result<std::int64_t>(static_cast<status>(r.status));
+}
+
+/// The sum of the numbers. That of 12, 18 and 8 is 38, and that of no numbers is 0. status::not_fitting if the sum
+/// does not fit.
+[[nodiscard]] inline result<std::uint64_t> sum_of(const std::uint64_t *numbers, detail::checked<std::size_t> numbers_length) {
+    if (auto error = detail::error_of(numbers_length); error != status::answer) {
+        return result<std::uint64_t>(error);
+    }
+    auto r = cellarcove_sum_of_u64(numbers, numbers_length.value);
+    return r.status == CELLARCOVE_ANSWER ? result<std::uint64_t>(r.value) : result<std::uint64_t>(static_cast<status>(r.status));
+}
+
+/// The same for a container of `std::int64_t` or `std::uint64_t` in one piece.
+template <class Items0>
+[[nodiscard]] auto sum_of(const Items0 &numbers) -> decltype(sum_of(numbers.data(), numbers.size())) {
+    return sum_of(numbers.data(), numbers.size());
+}
+
 // ---- operators
 
 [[nodiscard]] inline result<fraction> operator+(const fraction &a, const fraction &b) { return fraction_add(a, b); }

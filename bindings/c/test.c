@@ -44,6 +44,7 @@ static void layout(void) {
 static void words(void) {
     CHECK(strcmp(cellarcove_status_text(CELLARCOVE_NO_DATE), "there is no such date") == 0);
     CHECK(strcmp(cellarcove_status_text(7), "no status") == 0);
+    CHECK(strcmp(cellarcove_version(), CELLARCOVE_VERSION) == 0);
     CHECK(strcmp(cellarcove_built_by(), "rattle") == 0 || strcmp(cellarcove_built_by(), "cargo") == 0);
     CHECK(strcmp(CELLARCOVE_VERSION, "0.1") > 0);
 }
@@ -142,6 +143,8 @@ static void divisors(void) {
 static void lists(void) {
     uint64_t some[] = {4, 6, 10}, large[] = {UINT64_MAX, 2, 0};
     ANSWERS(cellarcove_gcd_of_u64(some, 3), 2);
+    ANSWERS(cellarcove_sum_of_u64(NULL, 0), 0);
+    ANSWERS(cellarcove_sum_of_u64(large, 1), UINT64_MAX);
     ANSWERS(cellarcove_gcd_of_u64(large, 1), UINT64_MAX);
     ANSWERS(cellarcove_gcd_of_u64(NULL, 0), 0);
     ANSWERS(cellarcove_lcm_of_u64(some, 3), 60);
@@ -151,6 +154,8 @@ static void lists(void) {
     ANSWERS(cellarcove_lcm_of_u64(NULL, 0), 1);
     int64_t mixed[] = {-12, 18, 8}, lowest[] = {INT64_MIN, 0, 6};
     ANSWERS(cellarcove_gcd_of_i64(mixed, 3), 2);
+    ANSWERS(cellarcove_sum_of_i64(NULL, 0), 0);
+    ANSWERS(cellarcove_sum_of_i64(lowest, 1), INT64_MIN);
     REFUSES(cellarcove_gcd_of_i64(lowest, 2), CELLARCOVE_NOT_FITTING);
     ANSWERS(cellarcove_gcd_of_i64(lowest, 3), 2);
     ANSWERS(cellarcove_gcd_of_i64(NULL, 0), 0);
@@ -462,6 +467,14 @@ static void last_and_first_week(void) {
 }
 
 static void rounded_quotients(void) {
+    ANSWERS(cellarcove_product_div_round_i64(INT64_MAX, 5, 10), INT64_MAX / 2 + 1);
+    ANSWERS(cellarcove_product_div_round_u64(UINT64_MAX, UINT64_MAX, UINT64_MAX), UINT64_MAX);
+    ANSWERS(cellarcove_product_div_round_even_i64(-5, 3, 6), -2);
+    ANSWERS(cellarcove_product_div_round_even_u64(7, 3, 6), 4);
+    REFUSES(cellarcove_product_div_round_i64(INT64_MIN, -1, 1), CELLARCOVE_NOT_FITTING);
+    REFUSES(cellarcove_product_div_round_u64(UINT64_MAX, 3, 2), CELLARCOVE_NOT_FITTING);
+    REFUSES(cellarcove_product_div_round_even_i64(1, 1, 0), CELLARCOVE_OUTSIDE);
+    REFUSES(cellarcove_product_div_round_even_u64(1, 1, 0), CELLARCOVE_OUTSIDE);
     ANSWERS(cellarcove_div_round_i64(-5, 2), -3);
     ANSWERS(cellarcove_div_round_u64(5, 2), 3);
     ANSWERS(cellarcove_div_round_even_i64(-5, 2), -2);

@@ -279,23 +279,19 @@ export function tryFalling(n: Integer, k: Integer): Attempt<bigint>;
 export function rank(choice: Iterable<Integer>, n: Integer): bigint;
 export function tryRank(choice: Iterable<Integer>, n: Integer): Attempt<bigint>;
 
-/** Writes the choice of numbers below `n` that has the rank, of as many numbers as `choice` has, and returns the status. For 2, 5 and
- *  three numbers it is 0, 2 and 3. If the status is not 0, `choice` stays as it is. `OUTSIDE` if the rank is not below the number of
- *  these choices. */
+/** The choice of `count` numbers below `n` that has the rank, as an array: it is the inverse of `rank`. `OUTSIDE` if the rank is not
+ *  below the number of these choices. */
 export function choiceOfRank(rank: Integer, n: Integer, count: Integer): bigint[];
 export function tryChoiceOfRank(rank: Integer, n: Integer, count: Integer): Attempt<bigint[]>;
 
-/** Writes the shares of the amount in proportion to the weights, and returns the status. Together the shares are the amount. The first
- *  shares together are their exact share rounded up; those of a negative amount are the shares of its magnitude with its sign. For -100
- *  and the weights 1, 1 and 1 they are -34, -33 and -33. If the status is not 0, `parts` stays as it is. `OUTSIDE` if there is not one
+/** The shares of the amount in proportion to the weights, as an array. Together they are the amount. The first shares together are their
+ *  exact share rounded up, and those of a negative amount are the shares of its magnitude with its sign. `OUTSIDE` if there is not one
  *  part for each weight, or if the weights are all 0. */
 export function shares(amount: Integer, weights: Iterable<Integer>): bigint[];
 export function tryShares(amount: Integer, weights: Iterable<Integer>): Attempt<bigint[]>;
 
-/** Writes the shares of the amount by largest remainders, and returns the status. Each is the exact share rounded down, or 1 more for the
- *  weights with the largest remainders, and of equal ones the first, so that together they are the amount. For 2 and the weights 1, 1 and
- *  98 they are 0, 0 and 2. If the status is not 0, `parts` stays as it is. `OUTSIDE` if there is not one part for each weight, or if the
- *  weights are all 0. */
+/** The shares of the amount by largest remainders, as an array: each is the exact share rounded down, or 1 more for the weights with the
+ *  largest remainders, and of equal ones the first. `OUTSIDE` if there is not one part for each weight, or if the weights are all 0. */
 export function sharesByLargestRemainder(amount: Integer, weights: Iterable<Integer>): bigint[];
 export function trySharesByLargestRemainder(amount: Integer, weights: Iterable<Integer>): Attempt<bigint[]>;
 
@@ -418,9 +414,9 @@ export function nextCommonSolution(from: Integer, a: Integer, m: Integer, b: Int
 export function nextCommonSolution<T extends Integers>(from: Integer | T, a: Integer | T, m: Integer | T, b: Integer | T, n: Integer | T): {value: T; status: Uint8Array};
 export function tryNextCommonSolution(from: Integer, a: Integer, m: Integer, b: Integer, n: Integer): Attempt<bigint>;
 
-/** The smallest number from `from` on that solves each of up to 64 congruences. No product of their moduli need fit. For 10, and 1 modulo
- *  4, 3 modulo 6 and 0 modulo 7, it is 21. `OUTSIDE` if there are more congruences. `BAD_MODULUS` if a modulus is not positive.
- *  `NO_SOLUTION` if there is no such number. `NOT_FITTING` if it does not fit. */
+/** The smallest number from `from` on that solves each of up to 64 congruences, which are pairs of a residue and a modulus. No product of
+ *  the moduli need fit. `OUTSIDE` if there are more congruences. `BAD_MODULUS` if a modulus is not positive. `NO_SOLUTION` if there is no
+ *  such number. `NOT_FITTING` if it does not fit. */
 export function nextCommonSolutionOf(from: Integer, congruences: Iterable<Congruence>): bigint;
 export function tryNextCommonSolutionOf(from: Integer, congruences: Iterable<Congruence>): Attempt<bigint>;
 
@@ -499,7 +495,7 @@ export function fractionTimes(a: Fractional, n: Integer, d: Integer): Fraction;
 export function fractionTimes(a: Fractional | FractionColumns, n: Integer | BigInt64Array, d: Integer | BigInt64Array): {num: BigInt64Array; den: BigInt64Array; status: Uint8Array};
 export function tryFractionTimes(a: Fractional, n: Integer, d: Integer): Attempt<Fraction>;
 
-/** -1, 0 or 1 if `a` is less than, equal to or greater than `b`. For 1/2 and 1/3 it is 1. `ZERO_DENOMINATOR` if a denominator is 0.
+/** The order of two fractions: -1, 0 or 1 if `a` is less than, equal to or greater than `b`. `ZERO_DENOMINATOR` if a denominator is 0.
  *  `NOT_FITTING` if a part of an argument, reduced, does not fit. */
 export function fractionCmp(a: Fractional, b: Fractional): number;
 export function fractionCmp(a: Fractional | FractionColumns, b: Fractional | FractionColumns): {value: Int32Array; status: Uint8Array};
@@ -710,3 +706,20 @@ export function tryDayOfYear(date: Dated): Attempt<bigint>;
  *  `NOT_FITTING` if a part of the reduced fraction does not fit. */
 export function fractionFromText(text: string): Fraction;
 export function tryFractionFromText(text: string): Attempt<Fraction>;
+
+/** The quotient of `a * b` by `d`, rounded to the nearest integer, and a half away from 0. The product need not fit. That for -1999, 19
+ *  and 100 is -380. `OUTSIDE` if `d` is 0. `NOT_FITTING` if the quotient does not fit. */
+export function productDivRound(a: Integer, b: Integer, d: Integer): bigint;
+export function productDivRound<T extends Integers>(a: Integer | T, b: Integer | T, d: Integer | T): {value: T; status: Uint8Array};
+export function tryProductDivRound(a: Integer, b: Integer, d: Integer): Attempt<bigint>;
+
+/** The quotient of `a * b` by `d`, rounded to the nearest integer, and a half to the even one. The product need not fit. That for -5, 3
+ *  and 6 is -2. `OUTSIDE` if `d` is 0. `NOT_FITTING` if the quotient does not fit. */
+export function productDivRoundEven(a: Integer, b: Integer, d: Integer): bigint;
+export function productDivRoundEven<T extends Integers>(a: Integer | T, b: Integer | T, d: Integer | T): {value: T; status: Uint8Array};
+export function tryProductDivRoundEven(a: Integer, b: Integer, d: Integer): Attempt<bigint>;
+
+/** The sum of the numbers. The sum of the first of them need not fit. That of 2^63 - 1, 1 and -1 is 2^63 - 1, and that of no numbers is
+ *  0. `NOT_FITTING` if the sum does not fit. */
+export function sumOf(numbers: Iterable<Integer>): bigint;
+export function trySumOf(numbers: Iterable<Integer>): Attempt<bigint>;

@@ -112,3 +112,6 @@ export const weeksInYear = call('weeksInYear'), tryWeeksInYear = attempt('weeksI
 export const daysInMonth = call('daysInMonth'), tryDaysInMonth = attempt('daysInMonth');
 export const dayOfYear = call('dayOfYear'), tryDayOfYear = attempt('dayOfYear');
 export const fractionFromText = call('fractionFromText'), tryFractionFromText = attempt('fractionFromText');
+export const productDivRound = call('productDivRound'), tryProductDivRound = attempt('productDivRound');
+export const productDivRoundEven = call('productDivRoundEven'), tryProductDivRoundEven = attempt('productDivRoundEven');
+export const sumOf = call('sumOf'), trySumOf = attempt('sumOf');

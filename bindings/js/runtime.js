@@ -171,7 +171,7 @@ function formOf([symbol, parameters, result]) {
     : (values) => Object.fromEntries(leaves.map(({name}, place) => [name, values[place]])));
   return {
     raw, leaves, made, inMemory: whole !== null, hasStatus: whole !== null && whole.leaves.length > leaves.length,
-    result, bits: symbol.slice(-3),
+    result,
     parameters: parameters.split(' ').map((parameter) => {
       const [name, kind] = parameter.split(':'), item = /\[(\w+)\]$/.exec(kind)?.[1];
       return {name, kind, item, isWritten: kind.startsWith('&mut'), isText: item === 'u8', ...layout(item ?? kind)};
@@ -286,8 +286,13 @@ export function call(name) {
 export function attempt(name) {
   const forms = formsOf(name);
   return (...given) => {
-    const status = statusOf(name, forms, given);
-    return {status, value};
+    try {
+      const status = statusOf(name, forms, given);
+      return {status, value};
+    } catch (error) { // of the text of an argument
+      if (error instanceof Refused) return {status: error.status, value: undefined};
+      throw error;
+    }
   };
 }
 

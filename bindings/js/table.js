@@ -153,4 +153,7 @@ export const CALLS = {
   daysInMonth: [['days_in_month', 'year:i64 month:u8', 'U64Answer']],
   dayOfYear: [['day_of_year', 'date:Date', 'U64Answer']],
   fractionFromText: [['fraction_from_text', 'text:&[u8]', 'FractionAnswer']],
+  productDivRound: [['product_div_round_i64', 'a:i64 b:i64 d:i64', 'I64Answer'], ['product_div_round_u64', 'a:u64 b:u64 d:u64', 'U64Answer']],
+  productDivRoundEven: [['product_div_round_even_i64', 'a:i64 b:i64 d:i64', 'I64Answer'], ['product_div_round_even_u64', 'a:u64 b:u64 d:u64', 'U64Answer']],
+  sumOf: [['sum_of_i64', 'numbers:&[i64]', 'I64Answer'], ['sum_of_u64', 'numbers:&[u64]', 'U64Answer']],
 };

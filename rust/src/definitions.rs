@@ -1164,6 +1164,17 @@ pub mod calendar {
     //!   pub after_weeks : 7 * n < date.day_of_month + 7
     //!   pub within_weeks : date.day_of_month ≤ 7 * n
     //! ```
+    //! ## `HasFifthWeekday`
+    //! A day of the month that 28 more days of the month follow has this day of the week. Examples:
+    //! 2026, 10: Thursday (2026-10-01), Saturday (2026-10-03); not Sunday (2026-10-04); 2026, 2:
+    //! none.
+    //! ```text
+    //! pub record HasFifthWeekday (year : ℤ) (month : ℕ) (weekday : Weekday) : Type 0 where
+    //!   pub day : ℕ
+    //!   pub from_one : 1 ≤ day
+    //!   pub before_four_weeks : day + 28 ≤ days_in_month year month
+    //!   pub has_weekday : HasWeekday (day_number year month day) weekday
+    //! ```
     //! ## `IsWeekdayOfMonth`
     //! The date has this year, this month and this day of the week. Examples: 2026, 11, Thursday:
     //! 2026-11-05; 2026-11-26; not 2026-11-27.

@@ -47,8 +47,8 @@ use operators::{difference, is_zero, predecessor, successor, sum};
 pub trait Integer: Sized + Num + PartialOrd + Ord + Eq {
     /// Returns the quotient rounded toward zero, and its remainder.
     ///
-    /// [`Fits::quotient_fits`](crate::Fits::quotient_fits) tests the domain, and
-    /// [`checked::div_rem`](crate::checked::div_rem) returns `None` outside it.
+    /// [`Fits::quotient_fits`](crate::Fits::quotient_fits) tests the precondition, and
+    /// [`checked::div_rem`](crate::checked::div_rem) returns `None` if it does not hold.
     ///
     /// # Examples
     ///
@@ -69,8 +69,8 @@ pub trait Integer: Sized + Num + PartialOrd + Ord + Eq {
 
     /// Returns the quotient rounded down.
     ///
-    /// [`Fits::quotient_fits`](crate::Fits::quotient_fits) tests the domain, and
-    /// [`checked::div_floor`](crate::checked::div_floor) returns `None` outside it.
+    /// [`Fits::quotient_fits`](crate::Fits::quotient_fits) tests the precondition, and
+    /// [`checked::div_floor`](crate::checked::div_floor) returns `None` if it does not hold.
     ///
     /// # Examples
     ///
@@ -91,7 +91,8 @@ pub trait Integer: Sized + Num + PartialOrd + Ord + Eq {
 
     /// Returns the remainder of the quotient rounded down, which is 0 or has the sign of `other`.
     ///
-    /// [`checked::mod_floor`](crate::checked::mod_floor) returns `None` outside the domain.
+    /// [`checked::mod_floor`](crate::checked::mod_floor) returns `None` if the precondition does
+    /// not hold.
     ///
     /// # Examples
     ///
@@ -112,8 +113,9 @@ pub trait Integer: Sized + Num + PartialOrd + Ord + Eq {
 
     /// Returns the quotient rounded down, and its remainder.
     ///
-    /// [`Fits::quotient_fits`](crate::Fits::quotient_fits) tests the domain, and
-    /// [`checked::div_mod_floor`](crate::checked::div_mod_floor) returns `None` outside it.
+    /// [`Fits::quotient_fits`](crate::Fits::quotient_fits) tests the precondition, and
+    /// [`checked::div_mod_floor`](crate::checked::div_mod_floor) returns `None` if it does not
+    /// hold.
     ///
     /// # Examples
     ///
@@ -136,8 +138,8 @@ pub trait Integer: Sized + Num + PartialOrd + Ord + Eq {
 
     /// Returns the quotient rounded up.
     ///
-    /// [`Fits::quotient_fits`](crate::Fits::quotient_fits) tests the domain, and
-    /// [`checked::div_ceil`](crate::checked::div_ceil) returns `None` outside it.
+    /// [`Fits::quotient_fits`](crate::Fits::quotient_fits) tests the precondition, and
+    /// [`checked::div_ceil`](crate::checked::div_ceil) returns `None` if it does not hold.
     ///
     /// # Examples
     ///
@@ -165,8 +167,9 @@ pub trait Integer: Sized + Num + PartialOrd + Ord + Eq {
 
     /// Returns the quotient rounded up, times `other`.
     ///
-    /// [`Fits::next_multiple_fits`](crate::Fits::next_multiple_fits) tests the domain, and
-    /// [`checked::next_multiple_of`](crate::checked::next_multiple_of) returns `None` outside it.
+    /// [`Fits::next_multiple_fits`](crate::Fits::next_multiple_fits) tests the precondition, and
+    /// [`checked::next_multiple_of`](crate::checked::next_multiple_of) returns `None` if it does
+    /// not hold.
     ///
     /// # Examples
     ///
@@ -198,8 +201,9 @@ pub trait Integer: Sized + Num + PartialOrd + Ord + Eq {
 
     /// Returns the quotient rounded down, times `other`.
     ///
-    /// [`Fits::prev_multiple_fits`](crate::Fits::prev_multiple_fits) tests the domain, and
-    /// [`checked::prev_multiple_of`](crate::checked::prev_multiple_of) returns `None` outside it.
+    /// [`Fits::prev_multiple_fits`](crate::Fits::prev_multiple_fits) tests the precondition, and
+    /// [`checked::prev_multiple_of`](crate::checked::prev_multiple_of) returns `None` if it does
+    /// not hold.
     ///
     /// # Examples
     ///
@@ -285,7 +289,7 @@ pub trait Integer: Sized + Num + PartialOrd + Ord + Eq {
 
     /// Adds one.
     ///
-    /// [`checked::inc`](crate::checked::inc) returns `None` outside the domain.
+    /// [`checked::inc`](crate::checked::inc) returns `None` if the precondition does not hold.
     ///
     /// # Examples
     ///
@@ -312,7 +316,7 @@ pub trait Integer: Sized + Num + PartialOrd + Ord + Eq {
 
     /// Subtracts one.
     ///
-    /// [`checked::dec`](crate::checked::dec) returns `None` outside the domain.
+    /// [`checked::dec`](crate::checked::dec) returns `None` if the precondition does not hold.
     ///
     /// # Examples
     ///
@@ -339,8 +343,8 @@ pub trait Integer: Sized + Num + PartialOrd + Ord + Eq {
 
     /// Returns the greatest common divisor, which is never negative.
     ///
-    /// [`Fits::gcd_fits`](crate::Fits::gcd_fits) tests the domain, and
-    /// [`checked::gcd`](crate::checked::gcd) returns `None` outside it.
+    /// [`Fits::gcd_fits`](crate::Fits::gcd_fits) tests the precondition, and
+    /// [`checked::gcd`](crate::checked::gcd) returns `None` if it does not hold.
     ///
     /// # Examples
     ///
@@ -362,8 +366,8 @@ pub trait Integer: Sized + Num + PartialOrd + Ord + Eq {
 
     /// Returns the least common multiple, which is never negative.
     ///
-    /// [`Fits::lcm_fits`](crate::Fits::lcm_fits) tests the domain, and
-    /// [`checked::lcm`](crate::checked::lcm) returns `None` outside it.
+    /// [`Fits::lcm_fits`](crate::Fits::lcm_fits) tests the precondition, and
+    /// [`checked::lcm`](crate::checked::lcm) returns `None` if it does not hold.
     ///
     /// # Examples
     ///
@@ -386,7 +390,8 @@ pub trait Integer: Sized + Num + PartialOrd + Ord + Eq {
     /// Returns the greatest common divisor and the least common multiple.
     ///
     /// [`Fits::gcd_fits`](crate::Fits::gcd_fits) and [`Fits::lcm_fits`](crate::Fits::lcm_fits) test
-    /// the domain, and [`checked::gcd_lcm`](crate::checked::gcd_lcm) returns `None` outside it.
+    /// the precondition, and [`checked::gcd_lcm`](crate::checked::gcd_lcm) returns `None` if it
+    /// does not hold.
     ///
     /// # Examples
     ///
@@ -410,8 +415,8 @@ pub trait Integer: Sized + Num + PartialOrd + Ord + Eq {
     /// Returns the greatest common divisor `gcd` and Bezout's coefficients `x` and `y`: computed
     /// without overflow, `self * x + other * y` equals `gcd`.
     ///
-    /// At a signed type [`Fits::gcd_fits`](crate::Fits::gcd_fits) tests the domain;
-    /// [`checked::extended_gcd`](crate::checked::extended_gcd) returns `None` outside it.
+    /// At a signed type [`Fits::gcd_fits`](crate::Fits::gcd_fits) tests the precondition;
+    /// [`checked::extended_gcd`](crate::checked::extended_gcd) returns `None` if it does not hold.
     ///
     /// # Examples
     ///
@@ -440,8 +445,8 @@ pub trait Integer: Sized + Num + PartialOrd + Ord + Eq {
     /// Returns [`Integer::extended_gcd`] and [`Integer::lcm`].
     ///
     /// [`Fits::gcd_fits`](crate::Fits::gcd_fits) and [`Fits::lcm_fits`](crate::Fits::lcm_fits) test
-    /// the domain, and [`checked::extended_gcd_lcm`](crate::checked::extended_gcd_lcm) returns
-    /// `None` outside it.
+    /// the precondition, and [`checked::extended_gcd_lcm`](crate::checked::extended_gcd_lcm)
+    /// returns `None` if it does not hold.
     ///
     /// # Examples
     ///
@@ -502,7 +507,7 @@ pub trait Integer: Sized + Num + PartialOrd + Ord + Eq {
 
 /// Returns the quotient rounded toward zero, and its remainder.
 ///
-/// [`checked::div_rem`](crate::checked::div_rem) returns `None` outside the domain.
+/// [`checked::div_rem`](crate::checked::div_rem) returns `None` if the precondition does not hold.
 ///
 /// # Examples
 ///
@@ -525,7 +530,8 @@ pub fn div_rem<T: Integer>(x: T, y: T) -> (T, T) {
 
 /// Returns the quotient rounded down.
 ///
-/// [`checked::div_floor`](crate::checked::div_floor) returns `None` outside the domain.
+/// [`checked::div_floor`](crate::checked::div_floor) returns `None` if the precondition does not
+/// hold.
 ///
 /// # Examples
 ///
@@ -548,7 +554,8 @@ pub fn div_floor<T: Integer>(x: T, y: T) -> T {
 
 /// Returns the remainder of the quotient rounded down.
 ///
-/// [`checked::mod_floor`](crate::checked::mod_floor) returns `None` outside the domain.
+/// [`checked::mod_floor`](crate::checked::mod_floor) returns `None` if the precondition does not
+/// hold.
 ///
 /// # Examples
 ///
@@ -571,7 +578,8 @@ pub fn mod_floor<T: Integer>(x: T, y: T) -> T {
 
 /// Returns the quotient rounded down, and its remainder.
 ///
-/// [`checked::div_mod_floor`](crate::checked::div_mod_floor) returns `None` outside the domain.
+/// [`checked::div_mod_floor`](crate::checked::div_mod_floor) returns `None` if the precondition
+/// does not hold.
 ///
 /// # Examples
 ///
@@ -594,7 +602,8 @@ pub fn div_mod_floor<T: Integer>(x: T, y: T) -> (T, T) {
 
 /// Returns the quotient rounded up.
 ///
-/// [`checked::div_ceil`](crate::checked::div_ceil) returns `None` outside the domain.
+/// [`checked::div_ceil`](crate::checked::div_ceil) returns `None` if the precondition does not
+/// hold.
 ///
 /// # Examples
 ///
@@ -617,7 +626,7 @@ pub fn div_ceil<T: Integer>(x: T, y: T) -> T {
 
 /// Returns the greatest common divisor.
 ///
-/// [`checked::gcd`](crate::checked::gcd) returns `None` outside the domain.
+/// [`checked::gcd`](crate::checked::gcd) returns `None` if the precondition does not hold.
 ///
 /// # Examples
 ///
@@ -640,7 +649,7 @@ pub fn gcd<T: Integer>(x: T, y: T) -> T {
 
 /// Returns the least common multiple.
 ///
-/// [`checked::lcm`](crate::checked::lcm) returns `None` outside the domain.
+/// [`checked::lcm`](crate::checked::lcm) returns `None` if the precondition does not hold.
 ///
 /// # Examples
 ///
@@ -663,7 +672,7 @@ pub fn lcm<T: Integer>(x: T, y: T) -> T {
 
 /// Returns the greatest common divisor and the least common multiple.
 ///
-/// [`checked::gcd_lcm`](crate::checked::gcd_lcm) returns `None` outside the domain.
+/// [`checked::gcd_lcm`](crate::checked::gcd_lcm) returns `None` if the precondition does not hold.
 ///
 /// # Examples
 ///

@@ -40,7 +40,7 @@ mod rows;
 pub mod schedules;
 mod serde_strings;
 pub mod shares;
-mod sign_magnitude;
+pub(crate) mod sign_magnitude;
 
 pub(crate) use crate::integer_core::padded;
 pub use crate::integer_core::{

@@ -2,6 +2,7 @@
 //! The greatest common divisor and the least common multiple of a list of integers.
 
 pub mod checked;
+mod total;
 
 use crate::guards::some;
 use crate::Fits;

@@ -93,6 +93,17 @@ fn one_import_of_checked_calls() {
         (Some(2), None)
     );
     assert_eq!(
+        (
+            checked::product_div_round(5, 1, 2),
+            checked::product_div_round_even(5, 1, 2)
+        ),
+        (Some(3), Some(2))
+    );
+    assert_eq!(
+        (checked::sum_of(&[2, -5]), checked::dot_product(&[(2, -5)])),
+        (Some(-3), Some(-10))
+    );
+    assert_eq!(
         (checked::factorial(5u8), checked::falling(5u8, 2)),
         (Some(120), Some(20))
     );

@@ -3,6 +3,7 @@
 
 use cellarcove::counting::{self, factorial, falling};
 use cellarcove::powers::{self, ilog, sqrt_rem};
+use cellarcove::rounding::checked::{product_div_round, product_div_round_even};
 use cellarcove::rounding::{self, div_round, div_round_even};
 use std::ops::RangeInclusive;
 
@@ -56,6 +57,133 @@ macro_rules! all_pairs {
 }
 
 all_pairs! { pairs_of_i8 i8 pairs_of_u8 u8 }
+
+/// Every fifth number, the numbers near 0, and the ends of the type with their neighbours.
+fn some(least: i32, most: i32) -> Vec<i32> {
+    (least..=most)
+        .filter(|x| x % 5 == 0 || x.abs() < 4 || x - least < 2 || most - x < 2)
+        .collect()
+}
+
+macro_rules! products {
+    ($($name:ident $number:ident)*) => {$(
+        #[test]
+        fn $name() {
+            let few = some($number::MIN.into(), $number::MAX.into());
+            for (a, b) in few.iter().flat_map(|a| few.iter().map(move |b| (*a, *b))) {
+                for d in $number::MIN..=$number::MAX {
+                    let fit = |q: i32| $number::try_from(q).ok();
+                    let (x, y, n) = (a as $number, b as $number, a * b);
+                    let wanted = if d == 0 { None } else { fit(away(n, d.into())) };
+                    assert_eq!(product_div_round(x, y, d), wanted, "{x} {y} {d}");
+                    let wanted = if d == 0 { None } else { fit(even(n, d.into())) };
+                    assert_eq!(product_div_round_even(x, y, d), wanted, "{x} {y} {d}");
+                }
+            }
+        }
+    )*};
+}
+
+products! { products_of_i8 i8 products_of_u8 u8 }
+
+/// Two factors, a divisor, the quotient with a half away from zero, and that with a half to the even number, by the fractions of Python.
+type Row<T> = (T, T, T, Option<T>, Option<T>);
+
+#[rustfmt::skip]
+const SIGNED: [Row<i64>; 55] = [
+    (1999, 19, 100, Some(380), Some(380)),
+    (i64::MAX, 19, 100, Some(1752440687002407403), Some(1752440687002407403)),
+    (i64::MAX, 3, 2, None, None),
+    (i64::MIN, -1, 1, None, None),
+    (i64::MIN, -1, -1, Some(i64::MIN), Some(i64::MIN)),
+    (i64::MIN, i64::MIN, i64::MIN, Some(i64::MIN), Some(i64::MIN)),
+    (i64::MIN, i64::MAX, i64::MIN, Some(i64::MAX), Some(i64::MAX)),
+    (i64::MAX, i64::MAX, i64::MIN, Some(-9223372036854775806), Some(-9223372036854775806)),
+    (i64::MIN, 3, -6, Some(4611686018427387904), Some(4611686018427387904)),
+    (i64::MAX, i64::MAX, 2, None, None),
+    (i64::MAX, i64::MAX, 9223372036854775806, None, None),
+    (i64::MIN, i64::MAX, i64::MAX, Some(i64::MIN), Some(i64::MIN)),
+    (i64::MIN, 9223372036854775806, i64::MAX, Some(-9223372036854775807), Some(-9223372036854775807)),
+    (i64::MIN, 5, 4, None, None),
+    (i64::MAX, 5, 10, Some(4611686018427387904), Some(4611686018427387904)),
+    (i64::MIN, 1, 2, Some(-4611686018427387904), Some(-4611686018427387904)),
+    (i64::MAX, 1, 2, Some(4611686018427387904), Some(4611686018427387904)),
+    (i64::MAX, 1, -2, Some(-4611686018427387904), Some(-4611686018427387904)),
+    (i64::MIN, -4611686018427387905, -4611686018427387904, None, None),
+    (-9223372036854775807, 4611686018427387905, i64::MAX, Some(-4611686018427387905), Some(-4611686018427387905)),
+    (0, i64::MIN, -1, Some(0), Some(0)),
+    (1, 1, 0, None, None),
+    (i64::MIN, 9223372036854775805, 9223372036854775806, Some(-9223372036854775807), Some(-9223372036854775807)),
+    (4294967297, 4294967297, 8589934592, Some(2147483649), Some(2147483649)),
+    (6917529027641081856, 4294967297, 4294967296, Some(6917529029251694592), Some(6917529029251694592)),
+    (-4611686018427387904, i64::MAX, 4611686018427387904, Some(-9223372036854775807), Some(-9223372036854775807)),
+    (-5534023222112865485, 5, 3, Some(i64::MIN), Some(i64::MIN)),
+    (2515465100960393402, 11, 3, Some(i64::MAX), Some(i64::MAX)),
+    (-2128470470043409802, 13, 3, None, None),
+    (88971434439113593, 311, 3, None, None),
+    (-3353953467947191203, 11, 4, Some(i64::MIN), Some(i64::MIN)),
+    (784967832923810707, 47, 4, Some(i64::MAX), Some(i64::MAX)),
+    (7378697629483820646, 5, 4, None, None),
+    (-7378697629483820647, 5, 4, None, None),
+    (1190112520884487201, 31, 4, None, None),
+    (-1124801467909119001, 41, 5, Some(i64::MIN), Some(i64::MIN)),
+    (7686143364045646506, 6, 5, Some(i64::MAX), Some(i64::MAX)),
+    (-175349278267201061, 263, 5, None, None),
+    (1590236558078409622, 29, 5, None, None),
+    (-7905747460161236407, 7, 6, Some(i64::MIN), Some(i64::MIN)),
+    (6148914691236517205, 9, 6, None, None),
+    (-4256940940086819604, 13, 6, None, None),
+    (177942868878227186, 311, 6, None, None),
+    (-1136503093840473, 56809, 7, Some(i64::MIN), Some(i64::MIN)),
+    (6456360425798343065, 10, 7, Some(i64::MAX), Some(i64::MAX)),
+    (-6456360425798343066, 10, 7, None, None),
+    (-5675921253449092805, 13, 8, Some(i64::MIN), Some(i64::MIN)),
+    (1392207099902607669, 53, 8, Some(i64::MAX), Some(i64::MAX)),
+    (7378697629483820646, 10, 8, None, None),
+    (-407662852457669649, 181, 8, None, None),
+    (1209622562210462401, 61, 8, None, None),
+    (6148914691236517205, 3, 2, None, None),
+    (6148914691236517205, 3, 2, None, None),
+    (-6148914691236517206, 3, 2, None, None),
+    (4611686018427387904, 4, 2, None, None),
+];
+
+#[rustfmt::skip]
+const UNSIGNED: [Row<u64>; 21] = [
+    (u64::MAX, u64::MAX, u64::MAX, Some(u64::MAX), Some(u64::MAX)),
+    (u64::MAX, u64::MAX, 18446744073709551614, None, None),
+    (u64::MAX, 10, 11, Some(16769767339735956014), Some(16769767339735956014)),
+    (u64::MAX, 0, 1, Some(0), Some(0)),
+    (0, 0, 0, None, None),
+    (u64::MAX, 1, 2, Some(9223372036854775808), Some(9223372036854775808)),
+    (18446744073709551613, 1, 2, Some(9223372036854775807), Some(9223372036854775806)),
+    (u64::MAX, 3, 6, Some(9223372036854775808), Some(9223372036854775808)),
+    (u64::MAX, 18446744073709551614, u64::MAX, Some(18446744073709551614), Some(18446744073709551614)),
+    (9223372036854775808, 3, 4, Some(6917529027641081856), Some(6917529027641081856)),
+    (9223372036854775809, 3, 2, Some(13835058055282163714), Some(13835058055282163714)),
+    (1190112520884487201, 31, 2, None, None),
+    (1190112520884487201, 31, 2, None, None),
+    (177942868878227186, 311, 3, Some(u64::MAX), Some(u64::MAX)),
+    (177942868878227186, 311, 3, Some(u64::MAX), Some(u64::MAX)),
+    (1209622562210462401, 61, 4, Some(u64::MAX), Some(u64::MAX)),
+    (2380225041768974402, 31, 4, None, None),
+    (15811494920322472813, 7, 6, Some(u64::MAX), Some(u64::MAX)),
+    (3570337562653461603, 31, 6, None, None),
+    (4985606506407986923, 37, 10, Some(u64::MAX), Some(u64::MAX)),
+    (5950562604422436005, 31, 10, None, None),
+];
+
+#[test]
+fn products_at_the_ends() {
+    for (a, b, d, away, even) in SIGNED {
+        assert_eq!(product_div_round(a, b, d), away, "{a} {b} {d}");
+        assert_eq!(product_div_round_even(a, b, d), even, "{a} {b} {d}");
+    }
+    for (a, b, d, away, even) in UNSIGNED {
+        assert_eq!(product_div_round(a, b, d), away, "{a} {b} {d}");
+        assert_eq!(product_div_round_even(a, b, d), even, "{a} {b} {d}");
+    }
+}
 
 #[test]
 fn quotients_at_the_ends() {

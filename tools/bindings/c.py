@@ -7,9 +7,9 @@ from tools.bindings.exports import EXPORTS, VERSION, Call, Struct, c_parameters,
 WIDTH = 118
 
 
-def comment(text: str, indent: str = '') -> str:
+def comment(text: str, indent: str = '', width: int = WIDTH) -> str:
     """A comment for documentation."""
-    lines = textwrap.wrap(text, WIDTH - len(indent) - 7, break_long_words=False, break_on_hyphens=False)
+    lines = textwrap.wrap(text, width - len(indent) - 7, break_long_words=False, break_on_hyphens=False)
     if len(lines) == 1:
         return f'{indent}/** {lines[0]} */\n'
     return f'{indent}/** {lines[0]}\n' + ''.join(f'{indent} *  {line}\n' for line in lines[1:-1]) + f'{indent} *  {lines[-1]} */\n'

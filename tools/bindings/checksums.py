@@ -36,14 +36,7 @@ def function(call: Call) -> str:
         body += [f'add((uint64_t)result{path});' for path in paths]
     else:
         body += ['results++;'] + [f'add((uint64_t)result{path});' for path, _ in EXPORTS().leaves(call.result)]
-    return f'''
-static void sum_{call.symbol}(uint64_t seed) {{
-    start(seed);
-    for (int call = 0; call < CALLS; call++) {{
-{"".join(f"        {line}{chr(10)}" for line in body)}    }}
-    finish("{call.symbol}");
-}}
-'''
+    return filled('sum.c', symbol=call.symbol, body='\n'.join(f'        {line}' for line in body))
 
 
 def make(_: list[str]) -> bool:

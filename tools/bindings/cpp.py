@@ -107,12 +107,8 @@ def slice_functions(forms: list[Call]) -> str:
             parameters.append(f'N{k} {p.name}' if p.kind != q.kind else taken(call, p))
             passed.append(p.name)
     items = ' or '.join(f'`{PLAIN[p.item]}`' for form in forms for p in form.parameters if p.item)
-    return text + f'''/// The same for a container of {items} in one piece.
-template <{", ".join("class " + kind for kind in types)}>
-[[nodiscard]] auto {call.name}({", ".join(parameters)}) -> decltype({call.name}({", ".join(passed)})) {{
-    return {call.name}({", ".join(passed)});
-}}
-'''
+    return text + filled('container.hpp', items=items, types=', '.join(f'class {kind}' for kind in types), name=call.name,
+                         parameters=', '.join(parameters), passed=', '.join(passed))
 
 
 def template(signed: Call, unsigned: Call) -> str:
@@ -121,19 +117,12 @@ def template(signed: Call, unsigned: Call) -> str:
     types = [f'N{k}' for k, follow in enumerate(follows) if follow]
     parameters = ', '.join(f'N{k} {p.name}' if follow else taken(signed, p) for k, (p, follow) in enumerate(zip(signed.parameters, follows)))
     others = [p for p, follow in zip(signed.parameters, follows) if not follow]
-    uses = f'detail::is_signed<{", ".join(types)}>()'
 
     def statements(call: Call) -> str:
         arguments = ', '.join(f'static_cast<{PLAIN[p.kind]}>({p.name})' if follow else given(p) for p, follow in zip(call.parameters, follows))
         return '\n        '.join([*refusal(call, others), f'auto r = {call.symbol}({arguments});', f'return {of(call)[1]};'])
-    return f'''{comment(signed)}template <{", ".join("class " + kind for kind in types)}> [[nodiscard]] auto {signed.name}({parameters}) {{
-    if constexpr ({uses}) {{
-        {statements(signed)}
-    }} else {{
-        {statements(unsigned)}
-    }}
-}}
-'''
+    return filled('both_forms.hpp', comment=comment(signed), types=', '.join(f'class {kind}' for kind in types), name=signed.name,
+                  parameters=parameters, uses=f'detail::is_signed<{", ".join(types)}>()', signed=statements(signed), unsigned=statements(unsigned))
 
 
 def hpp() -> str:

@@ -67,6 +67,12 @@ class Call(NamedTuple):
         """Whether the call writes its result through a pointer, and returns the status alone."""
         return any(parameter.is_written for parameter in self.parameters)
 
+    @property
+    def taken(self) -> list[Field]:
+        """The parameters without a list that is written and as long as one that is read."""
+        two_lists = sum(bool(parameter.item) for parameter in self.parameters) == 2
+        return [parameter for parameter in self.parameters if not (parameter.is_written and two_lists)]
+
 
 class Exports(NamedTuple):
     statuses: list[Status]
@@ -146,6 +152,12 @@ def read() -> Exports:
 def without_returns(doc: str) -> str:
     """The comment of a call without its first word, for readers of other languages."""
     return re.sub('^Returns (.)', lambda found: found[1].upper(), re.sub('^Returns `true` if', 'Whether', doc))
+
+
+def listed(name: str, sign: str) -> dict[str, str]:
+    """The rows of a list beside this file that have the sign: what stands before it, and what after it."""
+    lines = (Path(__file__).parent / name).read_text().splitlines()
+    return dict(line.split(sign, 1) for line in lines if sign in line and not line.startswith('#'))
 
 
 def filled(template: str, **parts: str) -> str:

@@ -170,44 +170,6 @@ def listed(call: Call) -> list[Any]:
     return [(solution % m if m > 0 and random.random() < 0.97 else some(), m) for m in moduli]
 
 
-def of_list(name: str, forms: list[Call]) -> int:
-    """A call with a list of numbers, or with an array of them, and of the numbers beside it."""
-    call = random.choice(forms)
-    items, width = listed(call), random.randint(1, 64)
-    others = [number(parameter.kind, width) for parameter in call.parameters if not parameter.item]
-    if call.name == 'rank' and random.random() < 0.7:
-        items = sorted(set(items))
-    place = next(k for k, parameter in enumerate(call.parameters) if parameter.item)
-    in_buffer = call.parameters[place].item in RANGES and random.random() < 0.5
-    given: Any = array.array(LETTERS[call.form], items) if in_buffer else items if random.random() < 0.5 else iter(items)
-    if not in_buffer and len(forms) == 2:
-        flat = [value for item in [*items, tuple(others)] for value in (item if isinstance(item, tuple) else (item,))]
-        call = next(form for form in forms if (form.form == 'i64') == any(value < 0 for value in flat))
-        if not all(RANGES[call.form][0] <= value <= RANGES[call.form][1] for value in flat):
-            return 0
-        if call.name in ('gcd_of', 'lcm_of') and random.random() < 0.5:
-            judge_one(call.name.removesuffix('_of'), call, items, [items])
-    judge_one(name, call, [*others[:place], given, *others[place:]], [*others[:place], items, *others[place:]])
-    return 1
-
-
-def of_written(name: str, call: Call) -> int:
-    """A call that writes as many numbers as its last argument says."""
-    width = random.randint(1, 64)
-    arguments = [number('u64', random.choice((width, 64, 8))) for _ in call.parameters[:-1]] + [random.choice((0, 1, 2, 3, 5, 20))]
-    judge_one(name, call, arguments, arguments)
-    return 1
-
-
-def of_weights(name: str, forms: list[Call]) -> int:
-    """A call that divides a number by weights, which are a list or an array."""
-    width = random.choice((3, 64))
-    amount, weights = number(random.choice(forms).form, random.randint(1, 64)), [number('u64', width) for _ in range(random.randrange(6))]
-    call = next(form for form in forms if len(forms) == 1 or (form.form == 'i64') == (amount < 0))
-    judge_one(name, call, [amount, array.array('Q', weights) if random.random() < 0.5 else weights], [amount, weights])
-    return 1
-
-
 def text() -> str:
     """A text of a date or of a fraction, of which a character may be another."""
     high = 10 ** random.choice((1, 4, 5, 18, 19, 20, 38, 40))
@@ -218,10 +180,42 @@ def text() -> str:
     return found[:place] + random.choice('0129+-/x \xe9') + found[place + random.randrange(2):] if random.random() < 0.3 else found
 
 
-def of_text(name: str, call: Call) -> int:
-    """A call of a text."""
-    given = text()
-    judge_one(name, call, [given], [given])
+def with_lists(call: Call) -> list[Any]:
+    """Random arguments of a call with lists or with a text. The last one of a call that writes is the count, and not of one with weights."""
+    lists, width = [parameter.item for parameter in call.parameters if parameter.item], random.randint(1, 64)
+    if lists == ['u8']:
+        return [text()]
+    if len(lists) == 2:
+        return [number(call.form, width), [number('u64', random.choice((3, width))) for _ in range(random.randrange(6))]]
+    if call.writes:
+        return [*(number('u64', random.choice((width, 64, 8))) for _ in call.parameters[1:]), random.choice((0, 1, 2, 3, 5, 20))]
+    items = listed(call)
+    items = sorted(set(items)) if call.name == 'rank' and random.random() < 0.7 else items
+    return [items if parameter.item else number(parameter.kind, width) for parameter in call.parameters]
+
+
+def flat(arguments: Any) -> Iterator[int]:
+    """All numbers of some arguments."""
+    for argument in arguments:
+        yield from flat(argument) if isinstance(argument, (list, tuple)) else [argument]
+
+
+def of_slice(name: str, forms: list[Call]) -> int:
+    """A call with a list, or with an array, whose type is that of the form; or with a text."""
+    call, in_buffer = random.choice(forms), random.random() < 0.5
+    arguments, lists = with_lists(call), [parameter.item for parameter in call.parameters if parameter.item]
+    in_buffer &= lists[0] in RANGES
+    given = list[Any](arguments)
+    for place in (place for place, value in enumerate(arguments) if isinstance(value, list)):
+        given[place] = array.array(LETTERS[lists[0]], given[place]) if in_buffer else iter(given[place]) if random.random() < 0.5 else given[place]
+    if len(forms) == 2 and not (in_buffer and lists == [call.form]):
+        numbers = list(flat(arguments[:1] if len(lists) == 2 else arguments))
+        call = next(form for form in forms if (form.form == 'i64') == any(value < 0 for value in numbers))
+        if not all(RANGES[call.form][0] <= value <= RANGES[call.form][1] for value in numbers):
+            return 0
+        if call.name in ('gcd_of', 'lcm_of') and random.random() < 0.5:
+            judge_one(call.name.removesuffix('_of'), call, arguments[0], arguments)
+    judge_one(name, call, given, arguments)
     return 1
 
 
@@ -248,15 +242,8 @@ def judge_one(name: str, call: Call, given: Sequence[Any], arguments: Sequence[A
 
 def of_package(name: str, forms: list[Call]) -> int:
     """Some calls of the package, and how many."""
-    lists = [parameter.item for parameter in forms[0].parameters if parameter.item]
-    if len(lists) == 2:
-        return sum(of_weights(name, forms) for _ in range(COUNT // 10))
-    if lists == ['u8']:
-        return sum(of_text(name, forms[0]) for _ in range(COUNT // 2))
-    if forms[0].writes:
-        return sum(of_written(name, forms[0]) for _ in range(COUNT // 10))
     if forms[0].has_slice:
-        return sum(of_list(name, forms) for _ in range(COUNT // 10))
+        return sum(of_slice(name, forms) for _ in range(COUNT // 4))
     done = 0
     for call in forms:
         taken = columns(call)

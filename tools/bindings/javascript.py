@@ -1,13 +1,13 @@
 """What JavaScript knows of the exports: their table, the functions of the module, and their types."""
 import json
 import re
-import textwrap
 from collections.abc import Iterable
 
-from tools.bindings.c import in_order_of_need
+from tools.bindings.c import comment, in_order_of_need
 from tools.bindings.exports import EXPORTS, VERSION, Call, Field, filled, without_returns
+from tools.bindings.python import DOCS
 
-WIDTH = 140
+WIDTH = 141
 FIELDS = {'day_of_month': 'day'}
 OF_WEEK = {'week': 'weekOfYear', 'year': 'yearOfWeek'}  # the names of Temporal
 CLASSES = {'Fraction': 'Fraction', 'FractionAnswer': 'Fraction', 'Date': 'PlainDate', 'DateAnswer': 'PlainDate'}
@@ -58,10 +58,9 @@ def module() -> str:
 
 # ---- types
 
-def comment(call: Call) -> str:
-    text = re.sub('`[a-z_]+`', lambda name: camel(name[0]), ' '.join([without_returns(call.doc), *call.statuses]))
-    lines = textwrap.wrap(text, WIDTH - 6, break_long_words=False, break_on_hyphens=False)
-    return f'/** {lines[0]} */\n' if len(lines) == 1 else f'/** {lines[0]}\n' + ''.join(f' *  {line}\n' for line in lines[1:-1]) + f' *  {lines[-1]} */\n'
+def comment_of(call: Call) -> str:
+    said = without_returns(DOCS.get(call.name, call.doc)).replace('as a tuple', 'as an array')
+    return comment(re.sub('`[a-z_]+`', lambda name: camel(name[0]), ' '.join([said, *call.statuses])), width=WIDTH)
 
 
 def members(kinds: Iterable[tuple[str, str]]) -> str:
@@ -111,10 +110,9 @@ def of_array(parameter: Field, call: Call, wide: str) -> str:
 
 def declaration(name: str, forms: list[Call]) -> str:
     call = forms[0]
-    divides = sum(bool(parameter.item) for parameter in call.parameters) == 2
-    shown = [(COUNT if parameter.is_written else camel(parameter.name), parameter) for parameter in call.parameters if not (parameter.is_written and divides)]
+    shown = [(COUNT if parameter.is_written else camel(parameter.name), parameter) for parameter in call.taken]
     plain = ', '.join(f'{word}: {"Integer" if parameter.is_written else taken(parameter)}' for word, parameter in shown)
-    text = f'{comment(call)}export function {camel(name)}({plain}): {result(call)};\n'
+    text = f'{comment_of(call)}export function {camel(name)}({plain}): {result(call)};\n'
     if not call.has_slice:
         wide = 'T' if len(forms) == 2 else ARRAYS.get(call.form, '')
         arrays = ', '.join(f'{word}: {of_array(parameter, call, wide)}' for word, parameter in shown)

@@ -1,9 +1,8 @@
 """Makes docs/LANGUAGES.md: each call of the libraries, and its name in each language, or why a language lacks it."""
 import re
-from pathlib import Path
 
 from tools import ROOT
-from tools.bindings.exports import EXPORTS
+from tools.bindings.exports import EXPORTS, listed
 from tools.bindings.javascript import camel
 from tools.bindings.python import ALIASES, RENAMED
 
@@ -24,13 +23,6 @@ def paths() -> list[str]:
     return sorted(path for path in plain if not path.startswith(TRAITS) or path.split('::')[1] not in plain)
 
 
-def data() -> tuple[dict[str, str], dict[str, str]]:
-    """The other names of exports, and the reasons."""
-    lines = [line for line in (Path(__file__).parent / 'languages.txt').read_text().splitlines() if not line.startswith('#')]
-    names = dict(line.split(' = ') for line in lines if ' = ' in line)
-    return names, dict(line.split(': ', 1) for line in lines if ' = ' not in line)
-
-
 def export_of(path: str, names: dict[str, str]) -> str:
     """The name that the export of a call has."""
     last = path.split('::')[-1]
@@ -39,7 +31,8 @@ def export_of(path: str, names: dict[str, str]) -> str:
 
 def rows() -> list[tuple[str, ...]]:
     """The cells of each row."""
-    (names, reasons), forms, used, made = data(), EXPORTS().forms(), set[str](), list[tuple[str, ...]]()
+    names, reasons = listed('languages.txt', ' = '), listed('languages.txt', ': ')
+    forms, used, made = EXPORTS().forms(), set[str](), list[tuple[str, ...]]()
     for path in paths():
         crate = path.split('::')[0] if path.split('::')[0] in ('calendar', 'modular', 'ratio64') else 'applied' if path[0].islower() and '::' in path \
             and not path.startswith('counted::') else 'num_integer'

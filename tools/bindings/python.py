@@ -4,7 +4,7 @@ import textwrap
 from collections.abc import Callable, Sequence
 
 from tools import ROOT
-from tools.bindings.exports import EXPORTS, Call, Field, c_type, filled, without_returns
+from tools.bindings.exports import EXPORTS, Call, Field, c_type, filled, listed, without_returns
 
 RENAMED = {'fraction_limit_denominator': 'limit_denominator'}
 ALIASES = {'comb': 'binomial', 'isqrt': 'sqrt'}
@@ -12,18 +12,7 @@ PARAMETERS = {'from': 'start', 'to': 'end', 'max': 'max_denominator'}
 OF_MANY = ('gcd', 'lcm')  # which take any count of numbers
 WEEKDAY = 'weekday'        # the parameter that may be a `Weekday`
 WRITTEN = 'count'          # the parameter in place of an array that is written
-# What a call does that returns in Python what C writes.
-DOCS = {
-    'choice_of_rank': 'The choice of `count` numbers below `n` that has the rank, as a tuple: it is the inverse of `rank`.',
-    'fraction_cmp': 'The order of two fractions: -1, 0 or 1 if `a` is less than, equal to or greater than `b`.',
-    'shares': 'The shares of the amount in proportion to the weights, as a tuple. Together they are the amount. The first shares together are their'
-              ' exact share rounded up, and those of a negative amount are the shares of its magnitude with its sign.',
-    'shares_by_largest_remainder': 'The shares of the amount by largest remainders, as a tuple: each is the exact share rounded down, or 1 more for the'
-                                   ' weights with the largest remainders, and of equal ones the first.',
-    'next_common_solution_of': 'Returns the smallest number from `from` on that solves each of up to 64 congruences, which are pairs of a residue and'
-                               ' a modulus. No product of the moduli need fit.',
-}
-
+DOCS = listed('python.txt', ': ')
 # A sentence of a comment with an example, in whose place a docstring has the lines of the call in the last part of rows.txt.
 EXAMPLE = re.compile(r'(?:That of|Those of|Those for|For|From|The date for|February|-?\d).*\d.*')
 ROWS = (ROOT / 'bindings/python/tests/rows.txt').read_text().rpartition('\n\n')[2]
@@ -46,9 +35,7 @@ def public_calls() -> list[tuple[str, list[Call]]]:
 
 
 def parameter_names(call: Call) -> list[str]:
-    divides_by_weights = sum(bool(parameter.item) for parameter in call.parameters) == 2
-    return [WRITTEN if parameter.is_written else PARAMETERS.get(parameter.name, parameter.name) for parameter in call.parameters
-            if not (parameter.is_written and divides_by_weights)]
+    return [WRITTEN if parameter.is_written else PARAMETERS.get(parameter.name, parameter.name) for parameter in call.taken]
 
 
 def cells(call: Call) -> list[str]:
@@ -171,11 +158,7 @@ def call_text(name: str, forms: list[Call]) -> str:
     call, two = forms[0], len(forms) == 2
     follows = [two and a != b for a, b in zip(cells(forms[0]), cells(forms[-1]))]
     named = {form.form: f'&form_{form.symbol.removeprefix("cellarcove_")}' for form in forms}
-    of_many = f'''
-    if (count != 2 && names == NULL) {{
-        return of_any_count(py_{name}_of, "{name}", args, count);
-    }}
-''' if name in OF_MANY else ''
+    of_many = filled('of_many.c', name=name) if name in OF_MANY else ''
     return filled(
         'call.c', name=name, count=str(len(call.parameters)), names=', '.join(f'"{parameter}"' for parameter in parameter_names(call)),
         shapes=''.join('w' if parameter.name == WEEKDAY else SHAPES.get(parameter.kind, 'n') for parameter in call.parameters),
@@ -192,18 +175,9 @@ def list_text(name: str, forms: list[Call]) -> str:
 
     def case(form: Call) -> str:
         others = iter(range(count))
-        passed = ', '.join(f'of.items, (size_t)of.count' if parameter.item else f'others[{next(others)}].{form.form[0]}'
-                           for parameter in form.parameters)
-        return f'''        {c_type(form.result)} r;
-        Py_BEGIN_ALLOW_THREADS
-        r = {form.symbol}({passed});
-        Py_END_ALLOW_THREADS
-        return of_list(&of, r.status, {OBJECTS[form.form]}(r.value));
-'''
-    signed = f'''
-    if (of.is_signed) {{
-{case(forms[0])}    }}
-''' if len(forms) == 2 else ''
+        passed = ', '.join('of.items, (size_t)of.count' if parameter.item else f'others[{next(others)}].{form.form[0]}' for parameter in form.parameters)
+        return filled('list_case.c', type=c_type(form.result), symbol=form.symbol, passed=passed, object=OBJECTS[form.form])
+    signed = f'\n    if (of.is_signed) {{\n{case(forms[0])}    }}\n' if len(forms) == 2 else ''
     return filled('list.c', name=name, parameters='PyObject *const *args, Py_ssize_t given' if count > 1 else 'PyObject *object',
                   taken=f'args, given, {count}' if count > 1 else '&object, 1, 1', count=str(count), place=str(place), width=str(width),
                   has_signed='true' if len(forms) == 2 else 'false', signed=signed, unsigned=case(forms[-1]))
@@ -306,15 +280,7 @@ def stub(name: str, forms: list[Call]) -> str:
         taken = ', '.join(f'{given}: {listed_type(parameter)}' for given, parameter in zip(names, call.parameters))
         return f'def {name}({taken}, /) -> {"tuple[int, ...]" if call.writes else scalar_result(call)}: ...\n'
     if name in OF_MANY:
-        return f'''@overload
-def {name}(x: {ARRAY}, y: {ARRAY} | {NUMBER}, *, out: Outputs = ...) -> {array_result(call)}: ...
-@overload
-def {name}(x: {NUMBER}, y: {ARRAY}, *, out: Outputs = ...) -> {array_result(call)}: ...
-@overload
-def {name}(x: {NUMBER}, y: {NUMBER}) -> int: ...
-@overload
-def {name}(*numbers: {NUMBER}) -> int: ...
-'''
+        return filled('of_many.pyi', name=name, array=ARRAY, number=NUMBER, result=array_result(call))
     overloads = []
     for first in range(len(names)):
         kinds = [scalar_type(parameter) if k < first else array_types(parameter, k == first) for k, parameter in enumerate(call.parameters)]

@@ -18,19 +18,13 @@ from typing import Any
 from tools import ROOT
 from tools.bindings.by_python import I64, NOT_FITTING, RESULTS, U64, Pair
 from tools.bindings.exports import EXPORTS, Call
-from tools.bindings.fuzz import RANGES, columns, grouped, listed, number, text
+from tools.bindings.fuzz import RANGES, columns, flat, grouped, with_lists
 from tools.bindings.python import RENAMED, cells, parameter_names
 
 ROWS = ROOT / 'bindings/python/tests/rows.txt'
 LITERAL = re.compile(r'(\w+)(\(.*\))  # (?:raises \w+: ([A-Z_]+)|(.*))')
 CORNERS = 36  # rows of a call whose numbers are at an end of their types, or beside 0
 STATUSES = {status.name: status.number for status in EXPORTS().statuses}
-
-
-def flat(arguments: Any) -> Iterator[int]:
-    """All numbers of some arguments."""
-    for argument in arguments:
-        yield from flat(argument) if isinstance(argument, (list, tuple)) else [argument]
 
 
 def returned(call: Call, bounds: Pair, arguments: Sequence[Any]) -> Any:
@@ -47,20 +41,6 @@ def wanted(forms: list[Call], arguments: Sequence[Any]) -> Any:
     wide = list(flat(given for given, p, q in zip(arguments, *(form.parameters for form in forms)) if p.kind != q.kind))
     found = returned(call, I64, arguments) if all(I64[0] <= x <= I64[1] for x in wide) else NOT_FITTING
     return returned(call, U64, arguments) if found == NOT_FITTING and all(0 <= x <= U64[1] for x in wide) else found
-
-
-def with_lists(call: Call) -> list[Any]:
-    """Random arguments of a call with lists or with a text."""
-    lists, width = [parameter.item for parameter in call.parameters if parameter.item], random.randint(1, 64)
-    if lists == ['u8']:
-        return [text()]
-    if len(lists) == 2:
-        return [number(call.form, width), [number('u64', random.choice((3, width))) for _ in range(random.randrange(6))]]
-    if call.writes:
-        return [*(number('u64', random.choice((width, 64, 8))) for _ in call.parameters[1:]), random.choice((0, 1, 2, 3, 5, 20))]
-    items = listed(call)
-    items = sorted(set(items)) if call.name == 'rank' and random.random() < 0.7 else items
-    return [items if parameter.item else number(parameter.kind, width) for parameter in call.parameters]
 
 
 def corners(call: Call) -> list[list[Any]]:

@@ -15,13 +15,8 @@ from tools.erase.source import Unknown
 from tools import write
 
 WORKSPACE = Path(__file__).parent / 'templates' / 'dependents.toml'
-SECTION = re.compile(r'^\[', re.M)
-
-
-def sections(text: str) -> list[str]:
-    """The sections of a manifest, each with the line that begins it."""
-    starts = [0] + [match.start() for match in SECTION.finditer(text)] + [len(text)]
-    return [text[start:stop] for start, stop in zip(starts, starts[1:]) if start < stop]
+# A section of a manifest that may go, and what it has.
+SECTION = re.compile(r'^\[(?:\[bench\]\]\s+name = "([^"]+)"|dev-dependencies\.([\w-]+)\]).*?(?=^\[|\Z)', re.M | re.S)
 
 
 def newest(registry: Path, name: str) -> Path | None:
@@ -31,33 +26,26 @@ def newest(registry: Path, name: str) -> Path | None:
     return found[-1] if found else None
 
 
-def left_out(registry: Path, section: str) -> str:
-    """What a section has that is left out, or nothing."""
-    bench = re.match(r'\[\[bench\]\]\s+name = "([^"]+)"', section)
-    dependency = re.match(r'\[dev-dependencies\.([\w-]+)\]', section)
-    if bench:
-        return 'bench ' + bench.group(1)
-    if dependency and newest(registry, dependency.group(1)) is None:
-        return 'dev-dependency ' + dependency.group(1)
-    return ''
-
-
 def take(registry: Path, name: str, out: Path) -> None:
     """Copies a package, and says what is left out of its manifest."""
-    folder = newest(registry, name)
+    folder, without = newest(registry, name), list[str]()
     if folder is None:
         raise Unknown(f'no package {name} in {registry}')
     shutil.copytree(folder, out / name, ignore=shutil.ignore_patterns('benches', 'debian'))
+
+    def rest(section: re.Match[str]) -> str:
+        bench, dependency = section.groups()
+        if not bench and newest(registry, dependency):
+            return section[0]
+        without.append(f'bench {bench}' if bench else f'dev-dependency {dependency}')
+        return ''
     manifest = out / name / 'Cargo.toml'
-    found = [(section, left_out(registry, section)) for section in sections(manifest.read_text())]
-    manifest.write_text(''.join(section for section, reason in found if not reason))
-    without = ', '.join(reason for _, reason in found if reason)
-    print(f'{folder.name}: taken' + (f' without {without}' if without else ''))
+    manifest.write_text(SECTION.sub(rest, manifest.read_text()))
+    print(f'{folder.name}: taken' + (f' without {", ".join(without)}' if without else ''))
 
 
 def make(words: list[str]) -> bool:
-    registry, num_integer, out = map(Path, words[:3])
-    names = words[3:]
+    (registry, num_integer, out), names = map(Path, words[:3]), words[3:]
     out.mkdir()
     for name in names:
         take(registry, name, out)

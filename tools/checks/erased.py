@@ -39,12 +39,12 @@ RULES: dict[str, tuple[str, str | Callable[[Item, re.Match[str]], str]]] = {
     'comma': (r', (?=[])}>] )', ''),
     # The label of a loop that nothing names. rustc refuses a `break` to a label that is not there.
     'label': (r"('\w+) : (?=(?:loop|while|for) )(?!.* \1 )", ''),
-    # Bounds say at which types an item is there, and not what it returns.
-    'bound': (r'\+ (?:Copy|Clone) |(?<=: )(?:Copy|Clone|Sized) \+ |where Self : Clone (?:, )?(?=[{;] )', ''),
+    # Bounds say at which types an item is there, and not what it returns. What asks for `Copy` may ask for less in Rust, and a method for `Clone`.
+    'bound': (r'(?<=\+ )Clone |(?<=: )Sized (?=\+ )|(where Self : Clone (?:, )?(?=[{;] )|(?<=: )Clone \+ )', lambda item, match: '' if match[1] else 'Copy '),
     # `Formatter<W>` of Rattle, for a writer `W`, is `Formatter<'_>` of Rust.
     'Formatter': (r"(?<= )< \w+ : fmt :: Write > |(?<= Formatter )< (?:'_|[A-Z]) > ", ''),
     # A copy of a number that need not be `Copy` in Rust is its clone. rustc sees whether a value or a reference stands there.
-    'clone': (r'\. clone \( \) |(?<=[(,={;>] )\* (?=[a-z])', ''),
+    'clone': (r'\. clone \( \) |(?<=[(,={;>] )\* (?:& )?(?=[a-z])', ''),
     # A slice arrives from C as a pointer and a length, of which the body makes the slice.
     'slice': (r'let (\w+) = if \1_len == 0 { & (mut )?\[ \] } else { unsafe { core :: slice :: from_raw_parts(?(2)_mut) \( \1 , \1_len \) } } ; '
               r'|(\w+) : \* (?:const |(mut ))(\w+) , \3_len : usize ',

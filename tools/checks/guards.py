@@ -21,13 +21,12 @@ from concurrent.futures import ThreadPoolExecutor
 from dataclasses import dataclass
 from pathlib import Path
 
-from tools import ROOT
+from tools import DEBIAN, ROOT, write
 from tools.erase.library import Made, Module
 from tools.erase.source import Unknown
 
 RUST = ROOT / 'rust'
 TAKEN_OUT = Path(__file__).resolve().parent / 'taken_out.rs'
-REGISTRY = Path('/usr/share/cargo/registry')
 TESTS = ('domains', 'guards', 'own_type')        # those of rust/tests that are tried, one after the other, until one fails
 MANY = re.compile(r'mod (?:small|slices|wide);\n')      # the parts of `domains` that try many numbers, which the copy has not
 SECONDS = 60                                    # that they may take
@@ -103,9 +102,7 @@ def copy(folder: Path) -> Crate:
         shutil.copy(RUST / name, folder / 'rust')
     main = folder / 'rust' / 'tests' / 'domains' / 'main.rs'
     main.write_text(MANY.sub('', main.read_text()))
-    (folder / '.cargo').mkdir()
-    words = f'[source.crates-io]\nreplace-with = "debian"\n[source.debian]\ndirectory = "{REGISTRY}"\n'
-    (folder / '.cargo' / 'config.toml').write_text(words if REGISTRY.is_dir() else '')
+    write(folder, {'.cargo/config.toml': DEBIAN})
     crate = Crate(folder / 'rust')
     crate.write()
     return crate

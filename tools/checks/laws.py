@@ -10,8 +10,8 @@ from collections.abc import Iterator
 from pathlib import Path
 
 from tools.erase.words import Specs, cited, imported
-from tools.erase.source import Source, Unknown
-from tools import ROOT, dependencies
+from tools.erase.source import Source
+from tools import ROOT, counted, dependencies
 
 IS_LAW = re.compile(r'\S+ : Type \d+$')
 WHOLE_FILE = re.compile(r'use Rattle\.(\w+)\.specs\.Laws as (\w+)')
@@ -49,11 +49,10 @@ def ensured(root: Path, specs: Specs, crate: str, file: str, public: bool) -> se
     return found
 
 
-def missing(root: Path) -> tuple[int, list[str]]:
-    """The number of laws, and a line for each definition of a `Laws` that stands in no clause."""
+def judged(root: Path) -> Iterator[tuple[str, bool]]:
+    """Each law, and each word that no law cites, with whether it stands in a clause."""
     specs = Specs(root / 'crates')
-    stated, count = ensured(root, specs, *THEOREMS, True), 0
-    lines: list[str] = []
+    stated = ensured(root, specs, *THEOREMS, True)
     for file in sorted((root / 'crates').glob('*/specs/Laws.antt')):
         crate = file.parent.parent.name
         if crate in OWN:
@@ -61,17 +60,11 @@ def missing(root: Path) -> tuple[int, list[str]]:
         words = specs.read(crate, 'Laws')[0]
         heads = {name: word.text.split('\n')[0] for name, word in words.items()}
         laws = {name for name, head in heads.items() if IS_LAW.search(head)}
-        count += len(laws)
         used = {below for law in laws for below in cited(words[law].text, words) if below != law}
         place = '/src/'.join(OWN.get(crate, THEOREMS))
-        lines += [f'{file.relative_to(root)}: no function of {place} ensures `{name}`' for name in words
-                  if (crate, name) not in stated and (name in laws or name not in used)]
-    if not count:
-        raise Unknown('crates: no laws')
-    return count, lines
+        for name in (name for name in words if name in laws or name not in used):
+            yield f'{file.relative_to(root)}: no function of {place} ensures `{name}`', (crate, name) in stated
 
 
 def check(_: list[str]) -> bool:
-    count, lines = missing(ROOT)
-    print(*lines, f'{count} laws: {len(lines)} definitions in no clause', sep='\n')
-    return not lines
+    return counted(judged(ROOT))

@@ -256,7 +256,7 @@ def run(program: pathlib.Path, command: str, status: int) -> tuple[str, int]:
     """What a command prints, and its status. A page has only calls of the program, or of the examples in a folder of
     programs, and `echo $?`."""
     if not COMMAND.fullmatch(command):
-        return '', 1
+        return 'a command of another form\n', 1
     calls = 'intcalc() { "$PROGRAM" "$@"; }; cargo() { "$PROGRAM/$3" "${@:4}"; }'
     shell = f'{calls}; (exit {status}); {command}'
     ended = subprocess.run(['bash', '-c', shell], env={**os.environ, 'PROGRAM': str(program)}, stdin=subprocess.DEVNULL,
@@ -284,12 +284,8 @@ def check(_: list[str]) -> bool:
                                    errors()))
 
 
-def sessions_of_pages(words: list[str]) -> bool:
-    pages = [(name, (ROOT / name).read_text()) for name in SESSIONS]
-    return counted(said(sessions(pathlib.Path(words[0]).resolve(), pages), 'prints something else'))
-
-
-def sessions_of_examples(words: list[str]) -> bool:
-    files = sorted((ROOT / 'rust' / 'examples').glob('*.rs'))
-    heads = [(file.relative_to(ROOT).as_posix(), '\n'.join(Source(file, file.read_text()).head())) for file in files]
-    return counted(said(sessions(pathlib.Path(words[0]).resolve(), heads), 'prints something else'))
+def check_sessions(words: list[str]) -> bool:
+    program = pathlib.Path(words[0]).resolve()
+    files = sorted((ROOT / 'rust/examples').glob('*.rs')) if program.is_dir() else [ROOT / name for name in SESSIONS]
+    texts = ('\n'.join(Source(file, file.read_text()).head()) if program.is_dir() else file.read_text() for file in files)
+    return counted(said(sessions(program, zip((str(file.relative_to(ROOT)) for file in files), texts)), 'prints something else'))

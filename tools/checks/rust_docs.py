@@ -10,7 +10,7 @@ import pathlib
 import re
 from collections.abc import Iterator
 
-from tools import ROOT
+from tools import ROOT, counted
 from tools.erase.prose import COLUMNS
 from tools.erase.source import Item, Source
 from tools.pages.api import Shown, shown
@@ -48,11 +48,9 @@ def check(words: list[str]) -> bool:
     """Whether nothing lacks anything, or each link leads somewhere."""
     if words[:1] == ['--links']:
         folder = pathlib.Path(words[1])
-        wrong, read = list(dead_links(folder)), f'{len(list(folder.rglob("*.html")))} pages'
+        wrong, read = list(dead_links(folder)), len(list(folder.rglob('*.html')))
     else:
         items = [(source, item, path) for source, item, path, owner in shown(Shown()) if item.kind == 'fn' or not owner]
-        wrong = [f'{path} lacks {what}' for source, item, path in items for what in lacks(source, item)]
+        wrong, read = [f'{path} lacks {what}' for source, item, path in items for what in lacks(source, item)], len(items)
         wrong += wide_lines(ROOT / 'rust' / 'src')
-        read = f'{len(items)} public items'
-    print('\n'.join([*wrong, f'{read}: {len(wrong)} failed']))
-    return not wrong and not read.startswith('0 ')
+    return counted([*((line, False) for line in wrong), *[('', True)] * read])

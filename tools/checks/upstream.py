@@ -14,24 +14,10 @@ from tools.erase.source import Source
 from tools import write
 
 TEMPLATES = Path(__file__).parent / 'templates'
-# Items that are left out, each with the reason.
-LEFT_OUT = {'test_roots!(i128,u128);': '13 tests, since there are no roots of 128 bits'}
-
-
-def drop_attributes(source: Source, word: str) -> None:
-    """Drops each `#[cfg(..)]` of this word: `test`, since all that is left is tests; and what the compiler has."""
-    for k in range(len(source.code)):
-        if source.at(k) == '#' and source.at(k + 2) == 'cfg' and source.at(k + 4) == word:
-            source.drop(k, source.close(k + 1))
-
-
-def leave_out(source: Source) -> None:
-    """Drops the items that are left out, and says why."""
-    for item in source.items():
-        text = re.sub(r'\s', '', source.text(item.word, item.last))
-        if text in LEFT_OUT:
-            source.drop(item.first, item.last)
-            print(f'{source.path.name}: left out: {text} {LEFT_OUT[text]}')
+# Attributes that go: of what the compiler has, and of tests, which are all that is left of the library.
+HAS_TYPE, IS_TEST = re.compile(r'#\[cfg\(has_i128\)\]'), re.compile(r'#\[cfg\(test\)\]')
+LEFT_OUT, REASON = 'test_roots!(i128, u128);', '13 tests, since there are no roots of 128 bits'
+METHOD = re.compile(r'\(([^()]*)\)\.is_multiple_of\(&')
 
 
 def keep_tests(source: Source) -> None:
@@ -50,28 +36,17 @@ def keep_tests(source: Source) -> None:
             source.texts[i] = ''
 
 
-def write_paths(source: Source) -> None:
-    """Writes `(x).is_multiple_of(&y)` as a path."""
-    for k in range(len(source.code)):
-        if source.at(k) == ')' and source.at(k + 1) == '.' and source.at(k + 2) == 'is_multiple_of':
-            first = next(j for j in range(k, 0, -1) if source.at(j) == '(' and source.close(j) == k)
-            source.texts[source.code[first]] = '::num_integer::Integer::is_multiple_of(&('
-            source.drop(k + 1, k + 2)
-            source.texts[source.code[k + 3]] = ', '
-
-
 def make(words: list[str]) -> bool:
     upstream, crate, out = map(Path, words)
     edition = re.search(r'^edition = "(\d+)"', (upstream / 'Cargo.toml').read_text(), re.M)
-    made = {'Cargo.toml': Template((TEMPLATES / 'upstream.toml').read_text()).substitute(edition=edition[1] if edition else '2015', crate=crate)}
-    for name in ('src/lib.rs', 'tests/average.rs', 'tests/roots.rs'):
-        source = Source(upstream / name, (upstream / name).read_text())
-        drop_attributes(source, 'has_i128')
-        leave_out(source)
-        if name == 'src/lib.rs':
-            keep_tests(source)
-            drop_attributes(source, 'test')
-            write_paths(source)
-        head = (TEMPLATES / 'upstream_head.rs').read_text() if name == 'src/lib.rs' else ''
-        made[name] = head + ''.join(source.texts)
+    library = Source(upstream / 'src/lib.rs', HAS_TYPE.sub('', (upstream / 'src/lib.rs').read_text()))
+    keep_tests(library)
+    made = {'Cargo.toml': Template((TEMPLATES / 'upstream.toml').read_text()).substitute(edition=edition[1] if edition else '2015', crate=crate),
+            'src/lib.rs': (TEMPLATES / 'upstream_head.rs').read_text() + METHOD.sub(
+                r'::num_integer::Integer::is_multiple_of(&(\1), &', IS_TEST.sub('', ''.join(library.texts)))}
+    for name in ('tests/average.rs', 'tests/roots.rs'):
+        made[name] = HAS_TYPE.sub('', (upstream / name).read_text())
+        if LEFT_OUT in made[name]:
+            made[name] = made[name].replace(LEFT_OUT, '')
+            print(f'{Path(name).name}: left out: {LEFT_OUT} {REASON}')
     return write(out, made)

@@ -21,11 +21,10 @@ from pathlib import Path
 
 from tools.erase.library import Library
 from tools.erase.source import Unknown
-from tools import ROOT, dependencies
+from tools import DEBIAN, REGISTRY, ROOT, dependencies, write
 from tools.checks import edits
 from tools.checks.plain import Plain
 
-REGISTRY = Path('/usr/share/cargo/registry')
 PRELUDE = Path(__file__).parent / 'prelude'
 JOBS = 2
 SECONDS = '300'                                 # for a build and the calls of a program
@@ -38,9 +37,8 @@ CHANGED = {('integer_core', 'src/native.rt'): ((
     '        assert!(number >= zero() && number.magnitude() == magnitude, "attempt to narrow with overflow");\n'
     '        number\n'),)}
 # By crate and a name: the files of prelude/ that the lines of the crate with that name get.
-PRELUDES = {('integer_core', 'Own('): ('own',), ('integer_roots', 'Own('): ('own', 'roots_of_own'), ('intcalc_core', 'writer('): ('sink', 'writer'),
-            ('intcalc', 'writer('): ('writer',), ('intcalc', 'args('): ('args',)}
-CONFIG = '[source.crates-io]\nreplace-with = "debian"\n[source.debian]\ndirectory = "{registry}"\n'
+PRELUDES = {('integer_core', 'Own('): ('own',), ('integer_core', 'Padded::'): ('text',), ('integer_roots', 'Own('): ('own', 'roots_of_own'),
+            ('intcalc_core', 'writer('): ('sink', 'writer'), ('intcalc', 'writer('): ('writer',), ('intcalc', 'args('): ('args',)}
 PACKAGE = '[package]\nname = "{name}"\nversion = "0.0.0"\nedition = "2021"\n[dependencies]\nnum-traits = "0.2"\n'
 
 
@@ -96,12 +94,6 @@ class Bug:
                 f'|| {call}, || {values[0]}, || {values[1]});\n}}\n')
 
 
-def bugs_of(names: Iterable[str]) -> list[Bug]:
-    """The seeded bugs of the crates."""
-    found = [edit for suite in edits.SUITES for edit in ROOT.glob(f'crates/*/{suite}/*.edit') if edit.parent.parent.name in names]
-    return [Bug(number, edit, *edits.apply(edit.parent.parent, edit)) for number, edit in enumerate(sorted(found))]
-
-
 def module_of(bugs: Sequence[Bug]) -> str:
     """The module with the lines of some bugs of one file."""
     tests = ''.join(bug.test() for bug in bugs)
@@ -153,20 +145,11 @@ class Workspace:
     def __init__(self, folder: Path, crates: Crates) -> None:
         self.folder, self.crates = folder, crates
         members = ', '.join(f'"{name}"' for name in crates.texts)
-        self.write('Cargo.toml', f'[workspace]\nresolver = "2"\nmembers = [{members}]\n[profile.dev]\ndebug = false\n')
-        self.write('.cargo/config.toml', CONFIG.format(registry=REGISTRY))
+        workspace = f'[workspace]\nresolver = "2"\nmembers = [{members}]\n[profile.dev]\ndebug = false\n'
+        write(folder, {'Cargo.toml': workspace, '.cargo/config.toml': DEBIAN})
         for name, texts in crates.texts.items():
             below = ''.join(f'{other} = {{ path = "../{other}" }}\n' for other in crates.below[name])
-            self.write(f'{name}/Cargo.toml', PACKAGE.format(name=name) + below)
-            for place, text in texts.items():
-                self.write(f'{name}/{place}', text)
-
-    def write(self, place: str, text: str) -> None:
-        """Writes a file that has another text."""
-        file = self.folder / place
-        file.parent.mkdir(parents=True, exist_ok=True)
-        if not file.is_file() or file.read_text() != text:
-            file.write_text(text)
+            write(folder / name, {'Cargo.toml': PACKAGE.format(name=name) + below, **texts})
 
     def values(self, crate: str, bugs: Sequence[Bug], changed: dict[str, str]) -> dict[int, list[str]]:
         """Runs the lines of some bugs of a crate, of which some files are changed. Returns what each prints, by number."""
@@ -174,13 +157,11 @@ class Workspace:
         for place in dict.fromkeys(bug.place for bug in bugs):
             texts[place] += module_of([bug for bug in bugs if bug.place == place])
         texts['src/lib.rs'] += of_prelude('show')
-        for place, text in texts.items():
-            self.write(f'{crate}/{place}', text)
+        write(self.folder / crate, texts)
         try:
             said = self.cargo('test', '-q', '-p', crate, '--lib', '--', '--nocapture', '--test-threads=1')
         finally:
-            for place, text in self.crates.texts[crate].items():
-                self.write(f'{crate}/{place}', text)
+            write(self.folder / crate, self.crates.texts[crate])
         return {int(number): values for number, *values in re.findall(r'^(\d+)\t(.*)\t(.*)\t(.*)$', said, re.M)}
 
     def cargo(self, verb: str, *words: str) -> str:
@@ -247,7 +228,9 @@ def judge(bugs: Sequence[Bug]) -> None:
 
 
 def check(words: list[str]) -> bool:
-    bugs = bugs_of(words or dependencies())
+    names = words or dependencies()
+    found = sorted(edit for suite in edits.SUITES for edit in ROOT.glob(f'crates/*/{suite}/*.edit') if edit.parent.parent.name in names)
+    bugs = [Bug(number, edit, *edits.apply(edit.parent.parent, edit)) for number, edit in enumerate(found)]
     with_call = [bug for bug in bugs if bug.part('call')]
     judge(with_call)
     for bug in bugs:

@@ -6,7 +6,6 @@ found by its path, through imports, and a method by its name alone."""
 from __future__ import annotations
 
 import collections
-from collections.abc import Iterator
 from dataclasses import dataclass
 from pathlib import Path
 
@@ -49,7 +48,9 @@ class Callers(Made):
 
     def __init__(self, folder: Path) -> None:
         super().__init__(folder)
-        self.functions = [function for module in self.modules.values() for function in functions(module)]
+        owners = [(module, owner) for module in self.modules.values() for owner in (None, *module.items)
+                  if owner is None or owner.kind in ('trait', 'impl')]
+        self.functions = [Function(module, item, owner) for module, owner in owners for item in (owner or module).items if item.kind == 'fn']
         self.called = collections.defaultdict[Name, set[Name]](set)
         for function in self.functions:
             self.called[function.name] |= self.calls(function)
@@ -102,10 +103,3 @@ class Callers(Made):
             if function.name in names and not function.has() and not of_own and (self.is_closed(function) or function.says_so()):
                 function.module.source.put_before(function.item.first, f'#[{ATTRIBUTE}]\n')
         self.write()
-
-
-def functions(module: Module) -> Iterator[Function]:
-    for item in module.items:
-        if item.kind == 'fn':
-            yield Function(module, item, None)
-        yield from (Function(module, inner, item) for inner in item.items if inner.kind == 'fn' and item.kind in ('trait', 'impl'))

@@ -4,7 +4,7 @@
 
 OUT is rust/ if none is given. Code stays token by token, with its comments. What goes: `ghost` items, members and
 fields, clauses, `final`, attributes of proofs, `#[cfg(test)]` items, labels that nothing names, and the traits that are of
-contracts alone. What changes: the first words of paths, the head of `fmt`, bounds and copies (bounds.py), and comments,
+contracts alone. What changes: the first words of paths, the head of `fmt`, copies in `integer_core` (copies.py), and comments,
 which gain sections (documentation.py). What is added: `#[must_use]` of public calls that only return, `#[track_caller]` on the way to
 a panic (callers.py), and what is by hand (additions.py). No function of the library has a name here. A form that is not
 known here is rejected by file and line, and then nothing is written. tools/tests has examples of both."""
@@ -17,9 +17,8 @@ from collections.abc import Callable, Iterable
 from pathlib import Path
 
 from tools import ROOT as REPOSITORY, write as write_files
-from tools.erase import documentation
+from tools.erase import copies, documentation
 from tools.erase.additions import Additions
-from tools.erase.bounds import Bounds
 from tools.erase.callers import Callers
 from tools.erase.deletion import GHOST_TRAITS, Deletion
 from tools.erase.library import AT_ROOT, CRATES, ROOT, WITHIN, Module, RustLibrary
@@ -51,6 +50,7 @@ class Eraser(Deletion):
         if item.kind == 'mod' and item.public and not self.library.is_open(self.library.modules[self.crate, (*self.module.path, item.name)]):
             self.write(item.word - 1, 'pub(crate)')
         documentation.add_sections(self, item, owner)
+        copies.write(self, item, owner)
         if item.kind == 'struct':
             self.struct(item)
 
@@ -191,13 +191,11 @@ def texts_of(library: RustLibrary) -> dict[str, str]:
     for crate, name in WITHIN:
         if (crate, (name,)) not in library.modules:
             raise Unknown(f'tools/erase: crates/{crate} has no module `{name}`, which a table names')
-    page, bounds = documentation.Page(library.folder), Bounds(library)
-    additions, made = Additions(BY_HAND / 'src'), dict[str, str]()
+    page, additions, made = documentation.Page(library.folder), Additions(BY_HAND / 'src'), dict[str, str]()
     for module in (module for module in library.modules.values() if module.rust_file()):
         eraser, place = Eraser(module, library, page), module.rust_file()
         if place in made:
             raise Unknown(f'{module.source.path}: a second module for src/{place}')
-        bounds.write(eraser)
         text, note = additions.add(place, eraser.rust())
         made[place] = made_from(module.source.path) + note + text
     others = additions.modules()

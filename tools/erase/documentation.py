@@ -8,14 +8,14 @@ from __future__ import annotations
 import pathlib
 import re
 from collections.abc import Iterable
-from dataclasses import dataclass, field
+from dataclasses import dataclass
 from typing import TYPE_CHECKING
 
 from tools.erase import examples
 from tools.erase.library import AT_ROOT, CRATES
 from tools.erase.prose import anchor, wrapped
 from tools.erase.source import Item, Source, Unknown
-from tools.erase.words import Definition, Specs, imported
+from tools.erase.words import Specs, imported
 
 if TYPE_CHECKING:
     from tools.erase.crate import Eraser
@@ -77,13 +77,6 @@ def of_rattle(lines: list[str]) -> list[str]:
     return found[1:]
 
 
-def function_of(item: Item) -> Item | None:
-    """The function that an item with a comment stands for: itself, or the one of `FromStr`."""
-    if item.kind == 'impl' and item.of_trait == 'FromStr':
-        return next(inner for inner in item.items if inner.kind == 'fn')
-    return item if item.kind == 'fn' else None
-
-
 def see_sections(eraser: Eraser, item: Item, sections: dict[str, list[str]]) -> None:
     """Rejects sections that are not known, a call that returns a `Result` and does not say when which error, an error of which a
     clause says that it never comes, and a panic that is not said to be one of plain Rust."""
@@ -93,7 +86,7 @@ def see_sections(eraser: Eraser, item: Item, sections: dict[str, list[str]]) -> 
             source.refuse(item.word, f'a section `# {name}`')
     if 'Panics' in sections and not ' '.join(sections['Panics']).startswith(f'{IN_PLAIN_RUST}if '):
         source.refuse(item.word, f'a section `# Panics` that does not begin with `{IN_PLAIN_RUST}if `')
-    function = function_of(item)
+    function = next((inner for inner in (item, *(item.items if item.of_trait == 'FromStr' else ())) if inner.kind == 'fn'), None)
     if function is None or not source.returned(function).startswith('Result<'):
         return
     if 'Errors' not in sections:
@@ -179,16 +172,12 @@ class Contract:
         return [f'## {self.title}', *(line for part in parts for line in wrapped(f'- {part}', indent='  '))]
 
 
-@dataclass
 class Page:
     """What the modules of definitions have: the words that are cited, of which those of the toolchain are explained by hand, and the
-    contracts by the public place of their items."""
-    folder: pathlib.Path
-    contracts: dict[Place, list[Contract]] = field(default_factory=dict)
-    cited: set[str] = field(default_factory=set)    # the crates whose words the contracts link to
+    contracts by the public place of their items. `cited` has the crates whose words these link to."""
 
-    def __post_init__(self) -> None:
-        self.specs = Specs(self.folder, CRATES)
+    def __init__(self, folder: pathlib.Path) -> None:
+        self.specs, self.contracts, self.cited = Specs(folder, CRATES), dict[Place, list[Contract]](), set[str]()
 
 
 def says_more(text: str) -> bool:
@@ -212,11 +201,6 @@ def clauses_of(source: Source, item: Item) -> list[str]:
     return [text for text in texts if says_more(text)]
 
 
-def title_of(item: Item, owner: Item | None, place: Place) -> str:
-    names = (*place, *([owner.name] if owner else []), item.name)
-    return f'`{item.of_trait}` for `{"::".join(names)}`' if item.kind == 'impl' else f'`{"::".join(names)}`'
-
-
 def link_to_contract(eraser: Eraser, item: Item, owner: Item | None, place: Place) -> list[str]:
     """The line that links to the contract of an item, which the page then has."""
     texts = clauses_of(eraser.source, item) if item.kind in ('fn', 'struct', 'trait', 'impl') else []
@@ -225,10 +209,12 @@ def link_to_contract(eraser: Eraser, item: Item, owner: Item | None, place: Plac
     names = imports_of(eraser.source, eraser.module.items) | imports_of(eraser.source, owner.items if owner else item.items)
     words = eraser.page.specs.cite('\n'.join(texts), names)
     eraser.page.cited |= {word.crate for word in words}
-    contract = Contract(title_of(item, owner, place), texts, [f'[`{word.name}`]({word.crate}#{anchor(word.name)})' for word in words])
+    path = '::'.join((*place, *([owner.name] if owner else []), item.name))
+    title = f'`{item.of_trait}` for `{path}`' if item.kind == 'impl' else f'`{path}`'
+    contract = Contract(title, texts, [f'[`{word.name}`]({word.crate}#{anchor(word.name)})' for word in words])
     eraser.page.contracts.setdefault(place, []).append(contract)
     label = 'Laws' if item.kind == 'trait' else 'Contract'
-    return [f'[{label}](crate::definitions::contracts#{anchor(contract.title)})']
+    return [f'[{label}](crate::definitions::contracts#{anchor(title)})']
 
 
 # ---- the modules `definitions` and `definitions::contracts`
@@ -253,12 +239,6 @@ def see_each_once(titles: list[str], where: str) -> None:
         raise Unknown(f'{where}: one anchor for {", ".join(twice)}')
 
 
-def paragraph(definition: Definition) -> list[str]:
-    """The lines of a word."""
-    comment = [definition.comment] if definition.comment else []
-    return [f'## `{definition.name}`', *comment, '```text', *definition.text.split('\n'), '```']
-
-
 def definitions(page: Page, head: list[str]) -> str:
     """The module `definitions`, below a head by hand: each word that a contract cites."""
     explained = {part for line in head for code in re.findall('`([^`]*)`', line.replace('\\|', '|')) for part in code.split()}
@@ -271,7 +251,8 @@ def definitions(page: Page, head: list[str]) -> str:
         if words:
             see_each_once([word.name for word in words], f'crates/{crate}/specs')
             words.sort(key=lambda word: (word.file, [*page.specs.read(word.crate, word.file)[0]].index(word.name)))
-            lines = [f'Words of {PAGES[crate]}.'] + [line for word in words for line in paragraph(word)]
+            lines = [f'Words of {PAGES[crate]}.'] + [line for word in words for line in (
+                f'## `{word.name}`', *filter(None, [word.comment]), '```text', *word.text.split('\n'), '```')]
             text += f'\npub mod {crate} {{\n{inner(lines, "    ")}}}\n'
     return text
 

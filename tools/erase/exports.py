@@ -11,7 +11,6 @@ from collections.abc import Iterator
 from pathlib import Path
 
 from tools import ROOT, write as write_files
-from tools.erase.bounds import Bounds
 from tools.erase.crate import BY_HAND, Eraser, formatted, made_from, replace
 from tools.erase.documentation import Page
 from tools.erase.library import Module, RustLibrary
@@ -81,23 +80,17 @@ def only_laws(module: Module) -> bool:
     return all(item.kind in ('ghost', 'attribute') or states_laws(item) for item in module.items)
 
 
-def head_of_package(rust: str) -> str:
-    """The root of the package: the head by hand, and the modules."""
-    modules = ''.join(line for line in rust.splitlines(True) if not line.startswith('//!')).lstrip()
-    return (BY_HAND / 'exports_head.rs').read_text() + '\n' + modules
-
-
 def write(out: Path, crates: Path) -> None:
     """Writes the sources below a folder."""
     library, page = RustLibrary(crates), Page(crates)
     library.read(CRATE, (), crates / CRATE / 'src' / 'lib.rt')
-    bounds, made = Bounds(library), dict[str, str]()
+    made = dict[str, str]()
     for module in [module for module in library.modules.values() if module.crate == CRATE and not only_laws(module)]:
         eraser = Exports(module, library, page)
-        bounds.write(eraser)
         rust, sources = eraser.rust(), str(module.source.path)
-        if not module.path:
-            rust, sources = head_of_package(rust), f'{sources} and rust/by_hand/exports_head.rs'
+        if not module.path:             # the root: the head by hand, and the modules
+            modules = ''.join(line for line in rust.splitlines(True) if not line.startswith('//!')).lstrip()
+            rust, sources = (BY_HAND / 'exports_head.rs').read_text() + '\n' + modules, f'{sources} and rust/by_hand/exports_head.rs'
         made[f'{"/".join(module.path) or "lib"}.rs'] = made_from(sources, 'exports') + rust
     write_files(out / 'src', made)
     formatted(out)

@@ -17,24 +17,13 @@ checksums() {
         "${@:4}" "$work/$1" >"$work/$1.sums" && [ "$(wc -l <"$work/$1.sums")" -eq "$(tools/cellarcove make symbols | wc -l)" ]
 }
 
-# with_name ARCHIVE MAKER COMPILER: adds the name of the compiler to the archive, as bindings/build does.
-with_name() {
-    printf 'const char cellarcove_made_by[] = "%s";\n' "$2" | "$3" -x c -c - -o "$work/made_by.o" && ar rs "$1" "$work/made_by.o" 2>/dev/null
-}
+# with_name ARCHIVE COMPILER: adds what Rattle's library has beside the calls, as bindings/build does.
+with_name() { "$2" -I bindings/c -c bindings/c/library.c -o "$work/library.o" && ar rs "$1" "$work/library.o" 2>/dev/null; }
 
-by_rattle() { calls_over_proved "$work/rattle_arm.a" --target "$target" && with_name "$work/rattle_arm.a" rattle "$compiler"; }
-on_this_machine() { calls_over_proved "$work/x86.a" && with_name "$work/x86.a" rattle cc; }
-on_this_machine_by_cargo() { bindings/build --cargo "$work/by_cargo" && cp "$work/by_cargo/libcellarcove_c.a" "$work/x86.a"; }
-
-by_cargo() {
-    local registry=/usr/share/cargo/registry
-    mkdir -p "$work/rust/c"
-    cp -r rust/*.* rust/src "$work/rust"
-    cp -r rust/c/Cargo.toml rust/c/src "$work/rust/c"
-    (cd "$work/rust/c" && CARGO_TARGET_DIR=$work/target cargo rustc --quiet --release --lib --crate-type staticlib --target "$target" \
-        --offline --config 'source.crates-io.replace-with="debian"' --config "source.debian.directory=\"$registry\"" \
-        -- --emit "obj=$work/cargo_arm.o") && ar rcs "$work/cargo_arm.a" "$work/cargo_arm.o" &&
-        with_name "$work/cargo_arm.a" cargo "$compiler"
+by_rattle() { calls_over_proved "$work/rattle_arm.a" --target "$target" && with_name "$work/rattle_arm.a" "$compiler"; }
+on_this_machine() { calls_over_proved "$work/x86.a" && with_name "$work/x86.a" cc; }
+on_this_machine_by_cargo() {
+    CC=$compiler AR=${compiler%gcc}ar bindings/build --cargo --target "$target" "$work/arm" && cp "$work/arm/libcellarcove_c.a" "$work/cargo_arm.a"
 }
 
 same() { diff "$work/x86.sums" "$work/$1.sums"; }

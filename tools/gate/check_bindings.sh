@@ -15,6 +15,7 @@ libraries=${1:-}
 version=$(sed -nE 's/^version = "(.*)"$/\1/p' rust/Cargo.toml)
 archive=$work/by_rattle/libcellarcove_c.a # the one that is looked at
 tests=$PWD/bindings/python/tests
+builder=$(builder)
 languages=0
 
 build() {
@@ -27,17 +28,21 @@ build() {
 
 calls() { tools/cellarcove make symbols; }
 
-# The archive exports the calls of the sources, the name of its compiler, and nothing else.
+# The archive and the shared library export the calls of the sources, the version and the name of the compiler, and nothing else.
 exports_its_calls() {
-    diff <({ calls && echo cellarcove_made_by; } | sort) \
-        <(nm --defined-only --extern-only "$archive" | awk 'NF == 3 { print $3 }' | sort)
+    local kind
+    for kind in "--extern-only $archive" "--dynamic ${archive%.a}.so"; do
+        # shellcheck disable=SC2086
+        diff <({ calls && printf 'cellarcove_%s\n' built_by version; } | sort) \
+            <(nm --defined-only $kind | awk 'NF == 3 { print $3 }' | sort) || return 1
+    done
 }
 
-# A library that links the archive exports none of them.
+# A library that links the archive need not export them.
 hides_its_calls() {
     echo '#include "cellarcove.h"
     uint64_t mine(uint64_t x); uint64_t mine(uint64_t x) { return cellarcove_gcd_u64(x, 6).value; }' |
-        cc -shared -fPIC -I bindings/c -x c - -x none "$archive" -o "$work/mine.so" &&
+        cc -shared -fPIC -I bindings/c -x c - -x none "$archive" -Wl,--exclude-libs,ALL -o "$work/mine.so" &&
         nm -D --defined-only "$work/mine.so" | grep -q ' mine$' && ! nm -D --defined-only "$work/mine.so" | grep cellarcove
 }
 
@@ -111,7 +116,7 @@ page_holds() {
 installs() {
     local libdir
     rm -rf "$work"/prefix* && for libdir in lib lib/some-linux-gnu; do
-        CELLARCOVE_FOLDER=$(dirname "$archive") bindings/install "$work/prefix" "$libdir" && mv "$work/prefix" "$work/prefix_moved" &&
+        DESTDIR=$work/prefix CELLARCOVE_FOLDER=$(dirname "$archive") bindings/install /usr "$libdir" && mv "$work/prefix/usr" "$work/prefix_moved" &&
             found_by_pkg_config "$libdir" && found_by_cmake "$libdir" && rm -rf "$work/prefix_moved" || return 1
     done
 }
@@ -128,10 +133,9 @@ found_by_pkg_config() {
 found_by_cmake() {
     command -v cmake >/dev/null || { echo 'no cmake'; return 0; }
     rm -rf "$work/project" && mkdir "$work/project" && cp bindings/c/test.c "$work/project" &&
-        printf '%s\n' 'cmake_minimum_required(VERSION 3.10)' 'project(found C)' "find_package(cellarcove ${version%.*} CONFIG REQUIRED)" \
-            'foreach(kind cellarcove shared)' 'add_executable(of_${kind} test.c)' \
-            'target_link_libraries(of_${kind} cellarcove::${kind})' 'endforeach()' >"$work/project/CMakeLists.txt" &&
-        cmake -S "$work/project" -B "$work/project/made" -Dcellarcove_DIR="$work/prefix_moved/$1/cmake/cellarcove" >/dev/null &&
+        cp bindings/c/found.cmake "$work/project/CMakeLists.txt" &&
+        cmake -S "$work/project" -B "$work/project/made" -DVERSION="${version%.*}" \
+            -Dcellarcove_DIR="$work/prefix_moved/$1/cmake/cellarcove" >/dev/null &&
         cmake --build "$work/project/made" >/dev/null && "$work/project/made/of_cellarcove" && "$work/project/made/of_shared"
 }
 
@@ -139,7 +143,7 @@ found_by_cmake() {
 offline=(--quiet --disable-pip-version-check --no-build-isolation --no-deps --no-index)
 
 # wheel_of ARCHIVE FOLDER SOURCES: pip makes a wheel of the sources and the archive, or of one that they make, in a folder.
-wheel_of() { rm -rf "$2" && CELLARCOVE_ARCHIVE=$1 python3 -m pip wheel "${offline[@]}" --wheel-dir "$2" "$3"; }
+wheel_of() { rm -rf "$2" && CELLARCOVE_ARCHIVE=$1 "$builder" -m pip wheel "${offline[@]}" --wheel-dir "$2" "$3"; }
 
 makes_a_wheel() { wheel_of "$archive" "$work/wheel" bindings/python; }
 
@@ -150,20 +154,25 @@ passes_its_tests() {
         with_package "$tests/test_cellarcove.py"
 }
 
+# So it does with the Python that made it, which may have numpy and pandas.
+passes_with_its_builder() { (cd "$work/empty_folder" && PYTHONPATH=$work/site PYTHONDONTWRITEBYTECODE=1 "$builder" "$tests/test_cellarcove.py"); }
+
 # with_package SCRIPT WORD..: the script runs with the package of the wheel, in an empty folder.
 with_package() { (cd "$work/empty_folder" && PYTHONPATH=$work/site PYTHONDONTWRITEBYTECODE=1 python3 "$@"); }
 
+# counted NAME COMMAND..: the command succeeds. The line has the last one that it printed.
+counted() { note=last_line check "$@"; }
+last_line() { tail -n 1 "$1"; }
+
 # fuzz MINUTES [--small]: all exports return what Python computes, for random arguments and for all small ones.
-fuzz() {
-    with_package "$PWD/tools/cellarcove" check fuzz --minutes "$@"
-}
+fuzz() { with_package "$PWD/tools/cellarcove" check fuzz --minutes "$@"; }
 
 # An editable install leads to the sources, and has the licences.
 installs_editable() {
     local tree=$work/editable
     rm -rf "$tree" && mkdir -p "$tree/bindings" && cp LICENSE-* "$tree" && cp -r bindings/c bindings/python "$tree/bindings" &&
-        python3 -m venv --without-pip "$tree/environment" &&
-        CELLARCOVE_ARCHIVE=$archive python3 -m pip --python "$tree/environment/bin/python" install "${offline[@]}" --editable "$tree/bindings/python" &&
+        "$builder" -m venv --without-pip --system-site-packages "$tree/environment" &&
+        CELLARCOVE_ARCHIVE=$archive "$tree/environment/bin/python" -m pip install "${offline[@]}" --editable "$tree/bindings/python" &&
         (cd "$work/empty_folder" && "$tree/environment/bin/python" -c "
 import importlib.metadata, pathlib, cellarcove
 assert pathlib.Path(cellarcove.__file__).is_relative_to('$tree/bindings/python') and cellarcove.gcd(12, 18) == 6
@@ -175,26 +184,20 @@ passes_with_sanitizers() {
     CFLAGS='-O1 -g -fsanitize=address,undefined -fno-sanitize-recover' CC=gcc makes_a_wheel || return 1
     local -x ASAN_OPTIONS=detect_leaks=0 PYTHONMALLOC=malloc LD_PRELOAD
     LD_PRELOAD="$(gcc -print-file-name=libasan.so) $(gcc -print-file-name=libubsan.so)"
-    passes_its_tests && with_package "$PWD/tools/cellarcove" check fuzz --minutes 0.02
+    passes_its_tests && fuzz 0.02
 }
 
-# A source distribution has all that a wheel is built of by cargo, and its names are those of the package.
+# A source distribution has all that a wheel is built of by cargo, with num-traits, and its tests pass where it is unpacked.
 makes_a_wheel_of_the_sources() {
-    rm -rf "$work/sources" && mkdir "$work/sources" &&
-        (cd bindings/python && PYTHONDONTWRITEBYTECODE=1 python3 -c "import cellarcove_build; cellarcove_build.build_sdist('$work/sources')") &&
-        wheel_of '' "$work/wheel_of_sources" "$work"/sources/*.tar.gz && compgen -G "$work/wheel_of_sources/*.whl"
+    local there=$work/sources
+    rm -rf "$there" && mkdir "$there" && (cd bindings/python && "$builder" -m hatchling build -t sdist -d "$there") &&
+        tar -xzf "$there"/*.tar.gz -C "$there" && rm "$there"/*.tar.gz && compgen -G "$there/*/vendor/registry/num-traits-*" &&
+        wheel_of '' "$work/wheel" "$there"/* && tests=$(echo "$there"/*/tests) passes_its_tests
 }
 
-# The package, and a caller of numbers and of arrays, have the types of the stubs.
+# The package, and a caller of numbers and of arrays, have the types of the stubs. Where the caller says so, they are not those.
 has_types() {
-    printf '%s\n' 'from array import array' 'import cellarcove as c' 'x: int = c.gcd(12, 18)' \
-        "y: array[int] = c.gcd(array('q', [12]), 8)[0]" 'z: c.Date = c.plus_months(c.Date(2000, 1, 31), 1)' \
-        "d: array[int] = c.days_between((array('q', [2000]), 1, 1), z)[0]" "m: memoryview = c.is_leap_year(array('q', [2000]))" \
-        'w: c.Date = c.nth_weekday_of_month(2024, 1, z.weekday(), 1)' 'k: int = c.gcd(x=4, y=6)' 's: tuple[int, ...] = c.shares(-5, [1, 2])' \
-        "i = c.iso_week(c.plus_months((array('q', [2024]), 1, 31), 1))" >"$work/typed.py" &&
-        MYPYPATH=bindings/python mypy --strict --cache-dir="$work/mypy" "$work/typed.py" &&
-        { printf '%s\n' 'import cellarcove' "cellarcove.gcd(b'ab', 3)" >"$work/wrong.py"
-            ! MYPYPATH=bindings/python mypy --strict --cache-dir="$work/mypy" "$work/wrong.py"; }
+    cp "$tests/typed.txt" "$work/typed.py" && MYPYPATH=bindings/python mypy --strict --cache-dir="$work/mypy" "$work/typed.py"
 }
 
 # checksums ARCHIVE: a line of checksums for each call.
@@ -235,10 +238,11 @@ looks_at() {
 # python_calls MINUTES [--small]: the wheel, its tests, and so many minutes of random calls.
 python_calls() {
     has python3 Python && has cc Python || return
-    python3 -m pip --version >/dev/null 2>&1 || { echo 'Python: skipped, since there is no pip'; return; }
+    [ -n "$builder" ] || { echo 'Python: skipped, since no Python has hatchling and pip'; return; }
     languages=$((languages + 1))
     check 'the wheel' makes_a_wheel
     check 'Python' passes_its_tests
+    [ "$builder" = python3 ] || check 'Python of the wheel' passes_with_its_builder
     check 'the files and the tags of the wheel' with_package "$tests/test_wheel.py" "$work"/wheel/*.whl
     counted 'random calls' fuzz "$@"
 }
@@ -275,14 +279,12 @@ cpp_with g++
 cpp_with clang++
 if has python3 Python && has cc Python && [ -d "$work/site" ]; then
     counted "CPython's own tests" with_package "$tests/cpython_tests.py"
-    if python3 -m venv --help >/dev/null 2>&1 && python3 -m pip --python "$(command -v python3)" --version >/dev/null 2>&1; then
-        check 'an editable install' installs_editable
-    fi
+    check 'an editable install' installs_editable
 fi
-if has python3 Python && sanitizes gcc; then
+if [ -n "$builder" ] && sanitizes gcc; then
     check 'Python with the sanitizers of gcc' passes_with_sanitizers
 fi
-if builds_by_cargo; then
+if [ -n "$builder" ] && builds_by_cargo; then
     check 'the source distribution' makes_a_wheel_of_the_sources
 fi
 if has mypy 'the types of Python'; then

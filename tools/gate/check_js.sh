@@ -17,13 +17,12 @@ has_types() {
         tsc --noEmit --strict --target es2022 --module es2022 --moduleResolution node "$work/types.ts"
 }
 
-if has node JavaScript; then
-    [ $# -gt 0 ] || check 'the package for JavaScript' bindings/js/build "$CELLARCOVE"
-    if [ -e "$CELLARCOVE/cellarcove.wasm" ]; then
-        check "Node $(node --version)" node --test $tests/test.js
-        counted 'random calls' node $tests/fuzz.js "${2:-0.1}"
-        ! has "${CHROMIUM:-chromium}" 'the page in Chromium' || check 'the page in Chromium' node --test $tests/page.js
-    fi
-    ! has tsc 'the types of JavaScript' || check 'the types of JavaScript' has_types
+has node JavaScript || exit 0
+[ $# -gt 0 ] || check 'the package for JavaScript' bindings/js/build "$CELLARCOVE"
+if [ -e "$CELLARCOVE/cellarcove.wasm" ]; then
+    check "Node $(node --version)" node --test $tests/test.js
+    counted 'random calls' node $tests/fuzz.js "${2:-0.1}"
+    ! has "${CHROMIUM:-chromium}" 'the page in Chromium' || check 'the page in Chromium' node --test $tests/page.js
 fi
+! has tsc 'the types of JavaScript' || check 'the types of JavaScript' has_types
 finish

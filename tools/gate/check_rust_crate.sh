@@ -23,13 +23,8 @@ at() { (cd "$work/$1" && "${@:2}"); }
 strictly() { RUSTFLAGS=-Dwarnings RUSTDOCFLAGS=-Dwarnings at "$@"; }
 
 # check_tests NAME COMMAND..: the command succeeds and runs tests. The line has their number.
-check_tests() {
-    local status=0 count
-    "${@:2}" >"$work/log" 2>&1 || status=$?
-    count=$(awk '/^test result: ok/ { count += $4 } END { print count + 0 }' "$work/log")
-    [ "$count" -gt 0 ] || status=1
-    judge "$1, $count tests" "$status"
-}
+check_tests() { note=tests check "$@"; }
+tests() { awk '/^test result: ok/ { count += $4 } END { print count + 0, "tests"; exit !count }' "$1"; }
 
 # has COMMAND: the machine has the command.
 has() { command -v "$1" >/dev/null; }
@@ -50,6 +45,14 @@ has_packages() {
     done
 }
 
+# cargo's shared library has the exports alone, a name for the loader, and no need that nothing meets.
+is_shared_library() {
+    local library=$CARGO_TARGET_DIR/release/libcellarcove_c.so
+    diff <({ tools/cellarcove make symbols && printf 'cellarcove_%s\n' built_by version; } | sort) \
+        <(nm --dynamic --defined-only "$library" | awk '{ print $3 }' | sort) &&
+        readelf -d "$library" | grep -q 'SONAME.*libcellarcove_c.so.[0-9]' && ! nm --dynamic --undefined-only "$library" | grep -v ' w '
+}
+
 # The examples of the documentation, in a copy of edition 2024, which builds them as one program.
 documented_examples() {
     cp -r "$work/rust" "$work/documented"
@@ -67,10 +70,11 @@ own_type() {
     at own cargo test --test boxed_type
 }
 
-# The package has the texts of both licences and the changelog, as the repository has them.
+# The package has the texts of both licences and the changelog, as the repository has them, and that of Python both licences.
 has_texts() {
     local name
     at rust cargo package --allow-dirty --list >"$work/list" || return 1
+    for name in LICENSE-*; do cmp "$name" "bindings/python/$name" || return 1; done
     for name in LICENSE-* CHANGELOG; do
         { cmp "$name"* "rust/$name" && grep -x "$name" "$work/list"; } || { echo "the package has no $name" && return 1; }
     done
@@ -124,10 +128,7 @@ check_dependents() {
 }
 
 # The lines of a list: type, call, number of inputs and checksum.
-sums() {
-    sed -nE 's/^ *Line\((\w+), (\w+), ([0-9]+), ([0-9]+), ([0-9]+)\),$/\1 \2 \3 \4 \5/p' "$1" |
-        awk '{ print $1, $2, $3 + $4, $5 }'
-}
+sums() { awk -F '[(), ]+' '$2 == "Line" { print $3, $4, $5 + $6, $7 }' "$1"; }
 
 checksums() {
     at compare cargo run --release --features cellarcove >"$work/list" || return 1
@@ -142,9 +143,7 @@ fi
 
 check 'the sources are made anew' is_made_anew
 if has_packages "${originals[@]}"; then
-    mkdir "$work/.cargo"
-    printf '[source.crates-io]\nreplace-with = "debian"\n[source.debian]\ndirectory = "%s"\n' "$registry" \
-        >"$work/.cargo/config.toml"
+    takes_debian "$work"
     mkdir "$work/docs" && cp docs/ERRORS.md "$work/docs" # whose panics the tests see
     cp -r CHANGELOG.md rust compare "$work"
     rm -rf "$work"/{rust,rust/num-integer,rust/c,compare}/{target,Cargo.lock}
@@ -152,7 +151,7 @@ if has_packages "${originals[@]}"; then
     check_tests 'its tests' strictly rust cargo test --all-features --tests
     check_tests 'its tests in release' strictly rust cargo test --all-features --release --tests
     check_tests 'the examples of its documentation and its page' documented_examples
-    check 'the example programs print what their heads show' tools/cellarcove check examples "$CARGO_TARGET_DIR/debug/examples"
+    check 'the example programs print what their heads show' tools/cellarcove check sessions "$CARGO_TARGET_DIR/debug/examples"
     # a few of each kind; tools/gate/release.sh takes out all
     check 'a guard that is taken out is missed' tools/cellarcove check guards --sample
     check_tests 'a type that is not Copy, of a package that depends on this crate alone' own_type
@@ -162,6 +161,7 @@ if has_packages "${originals[@]}"; then
     check 'the package num-integer with all features' strictly rust/num-integer cargo build --all-features
     # tools/gate/check_bindings.sh calls them
     check 'the exports for C' strictly rust/c cargo build --release
+    check 'the shared library that cargo makes of them' is_shared_library
     check 'its documentation' strictly rust cargo doc --no-deps --all-features
     check 'its links to contracts and to their words' tools/cellarcove check rust_docs --links "$CARGO_TARGET_DIR/doc/cellarcove"
     if has cargo-clippy; then

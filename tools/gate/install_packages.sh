@@ -1,7 +1,8 @@
 #!/usr/bin/env bash
 # Installs the packages of Debian that the gate needs and that this machine lacks: for plain Rust the sources of num-integer and
-# num-traits, of the packages that depend on them and whose tests are run, and of serde; for the tools pytest, mypy and shellcheck; and if
-# Node is there, for JavaScript a compiler with the sources of its library for WebAssembly, that of TypeScript, and Chromium.
+# num-traits, of the packages that depend on them and whose tests are run, and of serde; for the tools pytest, mypy and shellcheck; for
+# wheels hatchling; and if Node is there, for JavaScript a compiler with the sources of its library for WebAssembly, that of TypeScript,
+# and Chromium.
 # Nothing else installs anything. Without the rights of root it says what is missing.
 #
 # usage: tools/gate/install_packages.sh
@@ -11,6 +12,12 @@ missing=()
 for name in num-integer num-traits num-bigint num-rational bigdecimal num num-iter chrono serde serde-derive serde-json; do
     compgen -G "/usr/share/cargo/registry/${name/serde-/serde_}-[0-9]*" >/dev/null || missing+=("librust-$name-dev")
 done
+headers=$(python3 -c 'import sysconfig; print(sysconfig.get_path("include"))' 2>/dev/null)
+if ! python3 -c 'import hatchling, pip' 2>/dev/null || [ ! -e "$headers/Python.h" ]; then
+    headers=$(/usr/bin/python3 -c 'import sysconfig; print(sysconfig.get_path("include"))' 2>/dev/null)
+    [ -e "$headers/Python.h" ] || missing+=(python3-dev)
+    /usr/bin/python3 -c 'import hatchling, pip, ensurepip' 2>/dev/null || missing+=(python3-hatchling python3-pip python3-venv)
+fi
 command -v pytest-3 >/dev/null || missing+=(python3-pytest)
 for name in mypy shellcheck; do
     command -v "$name" >/dev/null || missing+=("$name")

@@ -19,11 +19,12 @@ judge() {
     fi
 }
 
-# check NAME COMMAND..: the command succeeds.
+# check NAME COMMAND..: the command succeeds. The line has what the command of the variable `note` makes of the log, which succeeds too.
 check() {
-    local status=0
+    local status=0 said=
     "${@:2}" >"$work/log" 2>&1 || status=$?
-    judge "$1" "$status"
+    [ -z "${note:-}" ] || said=", $("$note" "$work/log")" || status=1
+    judge "$1$said" "$status"
 }
 
 # counted NAME COMMAND..: the command succeeds. The line has the last one that it printed.
@@ -42,6 +43,18 @@ has() {
 finish() {
     echo "${0##*/}: $passed passed, $failed failed"
     [ "$failed" -eq 0 ] && [ "$passed" -gt 0 ]
+}
+
+# takes_debian FOLDER: below it cargo takes all packages from those of Debian.
+takes_debian() { mkdir -p "$1/.cargo" && cp tools/gate/debian.toml "$1/.cargo/config.toml"; }
+
+# builder: the Python that has hatchling, which makes wheels: the first one in the path, or Debian's.
+builder() {
+    local name
+    for name in python3 /usr/bin/python3; do
+        ! "$name" -c 'import hatchling, pip' 2>/dev/null || { echo "$name" && return; }
+    done
+    return 1
 }
 
 # crates_of NAME: the crate and those below it, one a line.
@@ -83,11 +96,9 @@ replaces_num_integer() {
     local there=$work/replaced pages=$work/pages
     rm -rf "$there" "$pages" && mkdir -p "$there/src" "$pages" && cp "$1"/{cellarcove,num-integer}-*.crate "$there" || return 1
     tar -xzf "$there"/num-integer-*.crate -C "$pages" && tar -xzf "$there"/cellarcove-*.crate -C "$pages" || return 1
+    cp tools/gate/replaced.rs "$there/src/main.rs"
     printf '[package]\nname = "replaced"\nedition = "2021"\n' | cat - <(block "$pages"/cellarcove-*/README.md toml) >"$there/Cargo.toml"
     printf 'num-bigint = "0.4"\nnum-integer = "0.1"\n' >>"$there/Cargo.toml"
-    printf '%s\n' 'use num_bigint::BigInt;' 'fn gcd<T: num_integer::Integer>(a: T, b: T) -> T { cellarcove::gcd(a, b) }' \
-        'fn main() { assert_eq!((gcd(BigInt::from(4), BigInt::from(6)), num_integer::mod_floor(i64::MIN, -1)), (BigInt::from(2), 0)); }' \
-        >"$there/src/main.rs"
     (cd "$there" && bash -e <(block "$pages"/num-integer-*/README.md sh) && cargo generate-lockfile --offline &&
         block "$pages"/num-integer-*/README.md toml >>Cargo.toml && cargo update --offline -p num-integer && cargo run --offline &&
         cargo tree --offline -i num-integer | grep -F "($there/num-integer-")

@@ -24,7 +24,6 @@ version=$(sed -nE 's/^version = "(.*)"$/\1/p' rust/Cargo.toml)
 original=$(sed -nE 's/^version = "(.*)"$/\1/p' rust/num-integer/Cargo.toml)
 machine=$(uname -m)-$(uname -s | tr 'A-Z' 'a-z')
 proved=crates/cellarcove_c/out/libcellarcove_c.a
-registry=/usr/share/cargo/registry
 export SOURCE_DATE_EPOCH PYTHONDONTWRITEBYTECODE=1 CARGO_TARGET_DIR=$work/target
 SOURCE_DATE_EPOCH=$(git log -1 --format=%ct)
 
@@ -49,18 +48,14 @@ clone() {
 # for_cargo CLONE FOLDER: the package of the crate, and that of num-integer. The packages that cargo finds are Debian's.
 for_cargo() {
     local name=cellarcove-$version.crate
-    [ -d "$registry" ] || { echo "there is no $registry: install librust-num-traits-dev" && return 1; }
-    rm -rf "$CARGO_TARGET_DIR/package" && mkdir -p "$work/.cargo"
-    printf '[source.crates-io]\nreplace-with = "local"\n[source.local]\ndirectory = "%s"\n' "$registry" >"$work/.cargo/config.toml"
-    (cd "$1/rust" && cargo package --quiet --offline --no-verify) && cp "$CARGO_TARGET_DIR/package/$name" "$2" &&
+    [ -d /usr/share/cargo/registry ] || { echo "there are no sources of Debian: install librust-num-traits-dev" && return 1; }
+    rm -rf "$CARGO_TARGET_DIR/package" && takes_debian "$work" && (cd "$1/rust" && cargo package --quiet --offline --no-verify) && cp "$CARGO_TARGET_DIR/package/$name" "$2" &&
         package_num_integer "$1/rust" "$name" "$2"
 }
 
 # for_pip CLONE FOLDER: the wheel and the source distribution.
 for_pip() {
-    (cd "$1/bindings/python" && python3 -c "import cellarcove_build as build
-build.build_wheel('$2')
-build.build_sdist('$2')")
+    (cd "$1/bindings/python" && "$(builder)" -m hatchling build -t wheel -t sdist -d "$2")
 }
 
 # for_c CLONE FOLDER: the headers, the libraries, what pkg-config and CMake read, and the licences.
@@ -101,10 +96,10 @@ tries_the_crate() {
     (cd "$there/cellarcove-$version" && cargo build --offline --all-features && cargo test --offline --all-features "${words[@]}")
 }
 
-# with_python NAME FILE: a fresh environment of Python, in which a file is installed without the net. Prints its Python.
+# with_python NAME FILE: a fresh environment of the Python that has hatchling, in which a file is installed without the net. Prints its Python.
 with_python() {
     local there
-    there=$(empty "$1") && python3 -m venv "$there/environment" >&2 &&
+    there=$(empty "$1") && "$(builder)" -m venv --system-site-packages "$there/environment" >&2 &&
         CELLARCOVE_ARCHIVE='' "$there/environment/bin/python" -m pip install --quiet --disable-pip-version-check --no-index \
             --no-build-isolation "$2" >&2 && echo "$there/environment/bin/python"
 }
@@ -117,9 +112,9 @@ tries_the_wheel() (
 )
 
 tries_the_source_distribution() {
-    local python
-    python=$(with_python source "$files/cellarcove-$version.tar.gz") || return 1
-    (cd "$(empty nowhere)" && "$python" -c 'import cellarcove; assert cellarcove.lcm(4, 6) == 12; print(cellarcove.BUILT_BY)')
+    local python there
+    python=$(with_python source "$files/cellarcove-$version.tar.gz") && there=$(empty unpacked) && tar -xzf "$files/cellarcove-$version.tar.gz" -C "$there" &&
+        (cd "$there" && "$python" -c 'import cellarcove; assert cellarcove.BUILT_BY == "cargo"' && "$python" cellarcove-*/tests/test_cellarcove.py)
 }
 
 # A program in C, built by what pkg-config says and nothing else, with the shared library and then with the archive.
@@ -195,7 +190,7 @@ tried 'the files are made again in another folder, with the same sums' made_agai
 tried 'the package for cargo is built and tested' tries_the_crate
 tried 'the two packages for cargo replace num-integer, by the lines of their pages' replaces_num_integer "$files"
 tried 'the wheel is installed in a fresh environment and tested' tries_the_wheel
-tried 'the source distribution is installed in a fresh environment' tries_the_source_distribution
+tried 'the source distribution is installed in a fresh environment, and its tests pass' tries_the_source_distribution
 tried 'a program in C is built by pkg-config, with the shared library and with the archive' tries_c
 tried 'the package for npm is installed, tested and called at random' tries_the_package_for_npm
 tried 'the page is served, and calls are tried on it' tries_the_page

@@ -35,69 +35,62 @@ EXPORT = re.compile(r'pub use Rattle\.(\w+)\.([\w.]+)\.\{([^}]*)\}')
 
 
 Imports = dict[str, tuple[str, str]]            # of words, each with its crate and its path there
-Key = tuple[str, str, str]                      # of a word: its crate, its file and its name
 Shown = list[tuple[Module, Item]]
 Block = tuple[str, list[str], str, list[Item], str, str]
 
 
-class Crate:
-    """What the page of a crate shows: its public items by the module from which a caller imports them."""
+class Page:
+    """The page of a crate as it grows: its public items by the module from which a caller imports them, and more. Headings get the
+    anchors that the browser of the repository gives them. A line of links to words is made when the anchors of all words are known."""
 
     def __init__(self, library: Library, name: str) -> None:
         self.name, self.library = name, library
         self.modules = [module for module in library.modules.values() if module.crate == name]
         self.public = {} if name in BY_FILE else library.published(name)
+        self.lines: list[str | list[Definition]] = [f'# `{name}`', '']
+        self.slugs: dict[str, int] = {}
+
+    # ---- what it shows
 
     def place(self, module: Module, item: Item) -> Place | None:
-        """The place of the public module from which a caller imports an item, or None."""
+        """The place of the public module from which a caller imports an item, or the type of an implementation, or None."""
+        if item.kind == 'impl':
+            return next((self.place(other, of) for other in self.library.modules.values() if other.crate == module.crate
+                         for of in other.items if of.name == item.name and of.kind in ('struct', 'enum', 'trait')), None)
+        if not item.public or item.kind not in SHOWN:
+            return None
         if self.name in BY_FILE:
-            return module.path if module.crate == self.name and item.public and item.kind in SHOWN else None
-        return self.public.get((module.crate, module.path, item.name)) if item.public and item.kind in SHOWN else None
-
-    def place_of_impl(self, module: Module, item: Item) -> Place | None:
-        """The place of the type of an implementation."""
-        return next((self.place(place, other) for place in self.library.modules.values() if place.crate == module.crate
-                     for other in place.items if other.name == item.name and other.kind in ('struct', 'enum', 'trait')), None)
+            return module.path if module.crate == self.name else None
+        return self.public.get((module.crate, module.path, item.name))
 
     def sections(self) -> list[tuple[Place, Shown]]:
         """Each place with its items, each item with its module; the root first, or the files of FIRST."""
         places: dict[Place, Shown] = {}
-        if self.name not in BELOW:
-            for module in self.library.modules.values():
-                for item in module.items:
-                    place = self.place_of_impl(module, item) if item.kind == 'impl' else self.place(module, item)
-                    if place is not None:
-                        places.setdefault(place, []).append((module, item))
+        for module in self.library.modules.values() if self.name not in BELOW else ():
+            for item in module.items:
+                place = self.place(module, item)
+                if place is not None:
+                    places.setdefault(place, []).append((module, item))
         return sorted(places.items(), key=lambda place: (FIRST.index(place[0]) if place[0] in FIRST else len(FIRST), place[0]))
 
     def imports(self, place: Place, shown: Shown) -> str:
         """The line by which a caller imports the items of a place."""
-        if self.name in BY_FILE:
-            return ''
         names = sorted({item.name for _, item in shown if item.kind != 'impl'})
         listed = names[0] if len(names) == 1 else '{' + ', '.join(names) + '}'
         return f"use {'::'.join((self.name,) + place)}::{listed};"
 
     def head(self, place: Place, shown: Shown) -> list[str]:
         """The head of the file of a place. That of the root is the head of the page."""
-        if not place:
-            return []
         files = [module for module in self.library.modules.values() if module.path == place]
         own = [module for module in files if module.crate == self.name] or [module for module, _ in shown if module.path == place]
-        return own[0].source.head() if own else []
+        return own[0].source.head() if own and place else []
 
-
-class Page:
-    """The page of a crate as it grows. Headings get the anchors that the browser of the repository gives them."""
-
-    def __init__(self, title: str) -> None:
-        self.lines = [f'# {title}', '']
-        self.slugs: dict[str, int] = {}
+    # ---- how it grows
 
     def heading(self, level: int, text: str) -> str:
         slug = anchor(text)
         count = self.slugs[slug] = self.slugs.get(slug, -1) + 1
-        self.lines += ['#' * level + ' ' + text, '']
+        self.add('#' * level + ' ' + text, '')
         return f'{slug}-{count}' if count else slug
 
     def add(self, *lines: str) -> None:
@@ -154,48 +147,43 @@ class Reference:
     """All pages: the items first, which name the words that the definitions are then made of."""
 
     def __init__(self) -> None:
-        names = [name for name in NAMES if (CRATES / name / 'src').is_dir()]
-        self.specs, library = Specs(CRATES, names), Library(CRATES, names)
-        self.crates = {name: Crate(library, name) for name in names}
-        self.pages = {name: Page(f'`{name}`') for name in self.crates}
-        self.anchors: dict[Key, str] = {}
-        self.waiting: list[tuple[str, int, list[Definition]]] = []
+        self.specs, library = Specs(CRATES, NAMES), Library(CRATES, NAMES)
+        self.pages = {name: Page(library, name) for name in NAMES}
+        self.anchors: dict[tuple[str, str, str], str] = {}
         self.calls: list[tuple[str, str, str, str, str]] = []
 
     # ---- words
 
-    def links(self, page: str, text: str, imports: Imports) -> None:
-        """Adds the line of links to the words of a text, which is filled in when the anchors are known."""
+    def links(self, page: Page, text: str, imports: Imports) -> None:
+        """Adds the line of links to the words of a text."""
         words = self.specs.cite(text, imports)
         if words:
-            self.waiting.append((page, len(self.pages[page].lines), words))
-            self.pages[page].add('', '')
+            page.lines += [words, '']
 
-    def fill_in(self) -> None:
-        for page, at, words in self.waiting:
-            links = [f'[`{word.name}`]({"" if word.crate == page else word.crate + ".md"}#{self.anchors[word.key]})' for word in words]
-            self.pages[page].lines[at] = '\n'.join(wrapped('Words: ' + ', '.join(links) + '.', 110))
+    def text(self, page: Page) -> str:
+        def link(word: Definition) -> str:
+            return f'[`{word.name}`]({"" if word.crate == page.name else word.crate + ".md"}#{self.anchors[word.key]})'
+        return '\n'.join(line if isinstance(line, str) else '\n'.join(wrapped(f'Words: {", ".join(map(link, line))}.', 110)) for line in page.lines)
 
     # ---- items
 
-    def items_of(self, crate: Crate) -> None:
-        page = self.pages[crate.name]
-        page.add(*crate.modules[0].source.head(), '', IN_RANGE, '')
-        if crate.name in BELOW:
-            upper = BELOW[crate.name]
+    def items_of(self, page: Page) -> None:
+        page.add(*page.modules[0].source.head(), '', IN_RANGE, '')
+        if page.name in BELOW:
+            upper = BELOW[page.name]
             page.add(f'Its public items are those of [`{upper}`]({upper}.md). This page has its definitions and lemmas. A crate over `{upper}`',
                      f'imports the definitions from `Rattle.{upper}.specs`.', '')
-        for place, shown in crate.sections():
-            if crate.name in BY_FILE:
+        for place, shown in page.sections():
+            if page.name in BY_FILE:
                 page.heading(2, f"`{'/'.join(place)}.rt`" if place else 'The root')
             else:
-                page.heading(2, f"`{'::'.join((crate.name,) + place)}`")
-            page.add(*crate.head(place, shown), '')
-            if crate.name not in BY_FILE:
-                page.block('rust', '\n'.join(wrapped(crate.imports(place, shown), 100, '    ')))
+                page.heading(2, f"`{'::'.join((page.name,) + place)}`")
+            page.add(*page.head(place, shown), '')
+            if page.name not in BY_FILE:
+                page.block('rust', '\n'.join(wrapped(page.imports(place, shown), 100, '    ')))
             for module, item in shown:
                 for block in self.blocks(module, item):
-                    self.block(page, crate, place, module, *block)
+                    self.block(page, place, module, *block)
 
     def blocks(self, module: Module, item: Item) -> Iterator[Block]:
         """What the page shows of an item: a title, its doc comment, its code, the items whose imports count, its kind and
@@ -224,8 +212,7 @@ class Reference:
             return True
         return bool(inner.clauses) if item.of_trait else inner.public
 
-    def block(self, page: Page, crate: Crate, place: Place, module: Module,
-              title: str, doc: list[str], code: str, inner: list[Item], kind: str, name: str) -> None:
+    def block(self, page: Page, place: Place, module: Module, title: str, doc: list[str], code: str, inner: list[Item], kind: str, name: str) -> None:
         anchor = page.heading(3, title)
         page.add(*doc, '')
         page.block('rust', code)
@@ -234,15 +221,14 @@ class Reference:
             variants = f", `ghost use {declared}.TheVariants.{{..}};`" * (kind == 'enum')
             page.add(f'In a clause: `ghost use {declared}.{{{name}}};`{variants}', '')
         if kind == 'fn':
-            path = '::'.join((crate.name,) + (() if crate.name in BY_FILE else place))
-            self.calls.append((title.strip('`').split('::')[-1], title.strip('`'), path, f'{crate.name}.md#{anchor}', first_sentence(doc)))
-        imports = imports_of(module.source, module.items) | imports_of(module.source, inner)
-        self.links(crate.name, code, imports)
+            path = '::'.join((page.name,) + (() if page.name in BY_FILE else place))
+            self.calls.append((title.strip('`').split('::')[-1], title.strip('`'), path, f'{page.name}.md#{anchor}', first_sentence(doc)))
+        self.links(page, code, imports_of(module.source, module.items) | imports_of(module.source, inner))
 
     # ---- definitions, laws and lemmas
 
-    def definitions_of(self, crate: str) -> None:
-        page = self.pages[crate]
+    def definitions_of(self, page: Page) -> None:
+        crate = page.name
         files = {file for other, file, _ in self.specs.cited if other == crate}
         for file in sorted(files, key=lambda file: (file == 'Laws', file)):
             words = self.specs.read(crate, file)[0]
@@ -257,19 +243,17 @@ class Reference:
                 if word.key in self.specs.cited:
                     self.anchors[word.key] = page.word(3, name, word.comment, word.text)
                     names = {other: (crate, 'specs.' + file) for other in words} | self.specs.read(crate, file)[1]
-                    names.pop(name, None)
-                    self.links(crate, word.text, names)
+                    self.links(page, word.text, {other: path for other, path in names.items() if other != name})
 
-    def laws_of(self, crate: str) -> None:
-        if (CRATES / crate / 'specs' / 'Laws.antt').is_file():
-            for name in self.specs.read(crate, 'Laws')[0]:
-                self.specs.cite_word(name, crate, 'specs.Laws')
+    def laws_of(self, page: Page) -> None:
+        if (CRATES / page.name / 'specs' / 'Laws.antt').is_file():
+            for name in self.specs.read(page.name, 'Laws')[0]:
+                self.specs.cite_word(name, page.name, 'specs.Laws')
 
-    def lemmas_of(self, crate: str) -> None:
-        file = CRATES / crate / 'proofs' / 'ForCallers.antt'
+    def lemmas_of(self, page: Page) -> None:
+        crate, file = page.name, CRATES / page.name / 'proofs' / 'ForCallers.antt'
         if not file.is_file():
             return
-        page = self.pages[crate]
         page.heading(2, f'Lemmas for callers: `Rattle.{crate}.proofs.ForCallers`')
         page.add('Lemmas that the proof of a caller may cite, beside the laws.', '')
         for title, said, text in groups(file.read_text()):
@@ -288,13 +272,10 @@ class Reference:
     # ---- the pages
 
     def made(self) -> dict[str, str]:
-        for crate in self.crates.values():
-            self.items_of(crate)
-        for add in (self.laws_of, self.definitions_of, self.lemmas_of):
-            for name in self.crates:
-                add(name)
-        self.fill_in()
-        pages = {f'{name}.md': '\n'.join(page.lines) for name, page in self.pages.items()}
+        for add in (self.items_of, self.laws_of, self.definitions_of, self.lemmas_of):
+            for page in self.pages.values():
+                add(page)
+        pages = {f'{name}.md': self.text(page) for name, page in self.pages.items()}
         pages |= {'README.md': self.front(), 'index.md': self.index()}
         return {name: re.sub(r'\n{3,}', '\n\n', text).rstrip('\n') + '\n' for name, text in pages.items()}
 
@@ -304,8 +285,7 @@ class Reference:
         return '\n'.join(['# All functions', '', *wrapped(INDEX, 110), '', '| function | import from | what it does |', '|---|---|---|', *rows])
 
     def front(self) -> str:
-        rows = '\n'.join(f'| [`{name}`]({name}.md) | {first_sentence(crate.modules[0].source.head())} |'
-                         for name, crate in self.crates.items())
+        rows = '\n'.join(f'| [`{name}`]({name}.md) | {first_sentence(page.modules[0].source.head())} |' for name, page in self.pages.items())
         return '\n'.join(['# Reference', '', 'Made of the sources by `tools/cellarcove make reference`. Nobody edits these pages.', '',
                           '[All functions](index.md), by name. [How to read a contract](../CONTRACTS.md), in five minutes.', '',
                           '| crate | what it is |', '|---|---|', rows, '',

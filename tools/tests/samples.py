@@ -11,7 +11,6 @@ from tools import write
 from tools.erase.library import CRATES, RustLibrary
 from tools.erase.crate import Eraser
 from tools.erase.exports import CRATE, Exports
-from tools.erase.bounds import Bounds
 from tools.erase.documentation import Page
 
 GOLDEN = Path(__file__).resolve().parent / 'golden'
@@ -24,6 +23,13 @@ def cases(name: str) -> list[tuple[str, str]]:
     return [(head, re.sub('^    ', '', text, flags=re.M).rstrip('\n') + '\n') for head, _, text in parts]
 
 
+def change(file: Path, slip: str) -> None:
+    """Puts a new text in the place of an old one: the two stand above and below a line."""
+    text, (old, _, new) = file.read_text(), slip.partition('\n----\n')
+    assert old in text
+    file.write_text(text.replace(old, new.rstrip('\n'), 1))
+
+
 def erased(crate: str, texts: Mapping[str, str]) -> tuple[str, Page]:
     """What is made of a crate of a library, and the pages that it fills. The texts are those of files, or of the roots of crates."""
     with tempfile.TemporaryDirectory() as folder:
@@ -34,7 +40,6 @@ def erased(crate: str, texts: Mapping[str, str]) -> tuple[str, Page]:
             library.read(CRATE, (), crates / CRATE / 'src' / 'lib.rt')
         module, page = library.modules[crate, ()], Page(crates)
         eraser = Exports(module, library, page) if crate == CRATE else Eraser(module, library, page)
-        Bounds(library).write(eraser)
         return eraser.rust(), page
 
 

@@ -2,7 +2,7 @@
 import math
 import random
 
-from tools.bindings import by_python as model
+from tools.bindings.by_python import I64, NO_SOLUTION, RESULTS as CALLS
 
 
 def solved(start: int, pairs: list[tuple[int, int]]) -> list[int]:
@@ -18,7 +18,7 @@ def test_congruences() -> None:
         moduli = [random.randrange(1, 12) for _ in range(random.randrange(6))]
         pairs = [(random.choice((common, common % m, random.randrange(-20, 20))), m) for m in moduli]
         found = solved(start, pairs)
-        assert model.next_common_solution_of(model.I64, start, pairs) == ((found[0],) if found else model.NO_SOLUTION)
+        assert CALLS['next_common_solution_of'](I64, start, pairs) == ((found[0],) if found else NO_SOLUTION)
 
 
 def test_two_congruences() -> None:
@@ -26,6 +26,6 @@ def test_two_congruences() -> None:
     for _ in range(2000):
         start, a, b, m, n = (random.randrange(low, high) for low, high in ((-1000, 1000), (-50, 50), (-50, 50), (1, 30), (1, 30)))
         found, step = solved(start, [(a, m), (b, n)]), math.lcm(m, n)
-        assert model.next_common_solution(model.I64, start, a, m, b, n) == ((found[0],) if found else model.NO_SOLUTION)
-        assert model.chinese_remainder(model.I64, a, m, b, n) == ((found[0] % step, step) if found else model.NO_SOLUTION)
-        assert model.next_congruent(model.I64, start, a, m) == (solved(start, [(a, m)])[0],)
+        assert CALLS['next_common_solution'](I64, start, a, m, b, n) == ((found[0],) if found else NO_SOLUTION)
+        assert CALLS['chinese_remainder'](I64, a, m, b, n) == ((found[0] % step, step) if found else NO_SOLUTION)
+        assert CALLS['next_congruent'](I64, start, a, m) == (solved(start, [(a, m)])[0],)

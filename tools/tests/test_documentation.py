@@ -10,19 +10,11 @@ from tools.erase.library import ROOT
 from tools.erase.source import Unknown
 from tools.tests import samples
 
-# A call, what its sentence says that it is, and the lines of the assertion.
-ASSERTIONS = [
-    ('is_even(4)', 'true', ['assert!(is_even(4));']),
-    ('is_even(3)', 'false', ['assert!(!is_even(3));']),
-    ('half(4) < half(6)', 'true', ['assert_eq!(half(4) < half(6), true);']),
-    ('half(4)', '2', ['assert_eq!(half(4), 2);']),
-    ('half(' + '4' * 70 + ')', '2' * 20, ['assert_eq!(', '    half(' + '4' * 70 + '),', '    ' + '2' * 20, ');']),
-]
 
-
-@pytest.mark.parametrize('call, answer, wanted', ASSERTIONS)
-def test_assertion(call: str, answer: str, wanted: list[str]) -> None:
-    assert examples.assertion(call, answer) == wanted
+@pytest.mark.parametrize('sentence, wanted', samples.cases('assertions'))
+def test_assertion(sentence: str, wanted: str) -> None:
+    (pair,) = examples.SENTENCE.findall(sentence)
+    assert examples.assertion(*pair) == wanted.splitlines()
 
 
 def test_reference() -> None:

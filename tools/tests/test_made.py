@@ -17,18 +17,11 @@ from tools.tests import samples
 OTHER_ORDER = {'is_power', 'iso_week'}
 
 
-def change(file: Path, slip: str) -> None:
-    """Puts a new text in the place of an old one: the two stand above and below a line."""
-    text, (old, new) = file.read_text(), slip.rstrip('\n').split('\n----\n')
-    assert old in text
-    file.write_text(text.replace(old, new, 1))
-
-
 @pytest.mark.parametrize('name, slip', samples.cases('exports'))
 def test_exports(tmp_path: Path, monkeypatch: pytest.MonkeyPatch, name: str, slip: str) -> None:
     before = files.made()
     monkeypatch.setattr(exports, 'SOURCES', shutil.copytree(exports.SOURCES, tmp_path / 'src'))
-    change(tmp_path / 'src' / name, slip)
+    samples.change(tmp_path / 'src' / name, slip)
     exports.EXPORTS.cache_clear()
     after = dict[str, str]()
     with contextlib.suppress(AssertionError):       # a call of another name has no example
@@ -71,7 +64,7 @@ def test_reference(tmp_path: Path, monkeypatch: pytest.MonkeyPatch) -> None:
     assert reference.Reference().made() == before
     slips = [(*head.split(', '), slip) for head, slip in samples.cases('reference')]
     for _, name, slip in slips:
-        change(crates / name, slip)
+        samples.change(crates / name, slip)
     after = reference.Reference().made()
     changed = {page for page in before if before[page] != after[page]}
     assert changed >= {page for page, *_ in slips}

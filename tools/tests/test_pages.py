@@ -11,28 +11,20 @@ PROOF = 'pub half : ℕ → ℕ\nhalf n = n / 2\n'
 CLASSES = {'Refused ValueError', 'NotFitting Refused, OverflowError'}
 
 
-@pytest.mark.parametrize('kind, text, quoted', [
-    ('rust', 'pub fn half(x: u64) -> u64\n{\n    x / 2\n}', [False]), ('rust', 'pub fn half(x: u64) -> u64\n// and its clause\nx / 2', [True]),
-    ('rust', 'fn half(x: u64) -> u64', [False]), ('rust', 'x / 2\n// and more\n}', [True]), ('rust', 'x / 2\n// and more\npub fn half', [False]),
-    ('rust', 'use std::cmp::min;', [True]), ('rust', 'use std::cmp::{min};', [True]), ('rust', 'use std::cmp::{min, minmax};', [False]),
-    ('antt', 'half n = n / 2', [True]), ('antt', 'half n = n / 3', [False]), ('antt', 'pub fn half(x: u64) -> u64', [False]),
-    ('crates', 'half: std', [True]), ('crates', 'half: core', [False]), ('text', 'half n = n / 3', []),
-])
-def test_blocks(kind: str, text: str, quoted: list[bool]) -> None:
-    files = pages.Files([RUST], [PROOF], 'half: std\n')
-    assert [files.has(block) for block in pages.blocks(f'```{kind}\n{text}\n```\n')] == quoted
+@pytest.mark.parametrize('head, text', samples.cases('blocks'))
+def test_blocks(head: str, text: str) -> None:
+    files, (kind, wanted) = pages.Files([RUST], [PROOF], 'half: std\n'), head.split(', ')
+    quoted = {'quoted': [True], 'in no file': [False], 'not read': []}[wanted]
+    assert [files.has(block) for block in pages.blocks(f'```{kind}\n{text}```\n')] == quoted
 
 
-@pytest.mark.parametrize('text, passed', [
-    ('$ intcalc\nseven', True), ('$ intcalc\neight', False), ('$ intcalc\n', False), ('$ intcalc\nseven\n$ echo $?\n3', True),
-    ('$ intcalc\nseven\n$ echo $?\n0', False), ('$ ls\n', False), ('seven', False),
-])
-def test_sessions(tmp_path: Path, text: str, passed: bool) -> None:
+@pytest.mark.parametrize('wanted, text', samples.cases('sessions'))
+def test_sessions(tmp_path: Path, wanted: str, text: str) -> None:
     program = tmp_path / 'program'
     program.write_text('#!/bin/sh\necho seven\nexit 3\n')
     program.chmod(0o755)
-    found = [found for _, found in pages.sessions(program, [('sample', f'```console\n{text}\n```\n')])]
-    assert found and all(found) == passed
+    found = [found for _, found in pages.sessions(program, [('sample', f'```console\n{text}```\n')])]
+    assert found and all(found) == (wanted == 'right')
 
 
 @pytest.mark.parametrize('link, leads', [

@@ -7,23 +7,13 @@ import pytest
 
 from tools.checks import rust_docs
 from tools.erase.source import Source
-
-COMMENT = '/// Returns the half.\n///\n/// # Examples\n///\n/// # Panics\n'
-# An item, and what it lacks.
-LACKS = [
-    (f'{COMMENT}#[track_caller]\npub fn half() {{}}', []),
-    (COMMENT.replace('# Examples', '# Other') + '#[track_caller]\npub fn half() {}', ['an example']),
-    (COMMENT.replace('# Panics', '# Other') + '#[must_use]\n#[track_caller]\npub fn half() {}', ['the section `# Panics`']),
-    (COMMENT.replace('# Panics', '# Other') + '#[must_use]\npub fn half() {}', []),
-    ('pub struct Half;', ['an example']),
-    ('pub const HALF: u64 = 2;', []),
-]
+from tools.tests import samples
 
 
-@pytest.mark.parametrize('text, wanted', LACKS)
-def test_lacks(text: str, wanted: list[str]) -> None:
+@pytest.mark.parametrize('wanted, text', samples.cases('rust_docs'))
+def test_lacks(wanted: str, text: str) -> None:
     source = Source(pathlib.Path('lib.rs'), text)
-    assert list(rust_docs.lacks(source, source.items()[0])) == wanted
+    assert ', '.join(rust_docs.lacks(source, source.items()[0])) == wanted.removeprefix('nothing')
 
 
 def test_wide_lines(tmp_path: pathlib.Path) -> None:

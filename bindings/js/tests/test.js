@@ -7,7 +7,7 @@ import {CALLS, camel, cellarcove, judge, rows} from './rows.js';
 
 const {Fraction, PlainDate, Refused, Status, VERSION, attempt: _, ...calls} = cellarcove;
 const {checkedDifference, divModFloor, easter, fractionAdd, gcd, gcdOf, inverseModulo, isLeapYear, isoWeek, lcm, nthRoot, plusMonths, shares, tryLcm} = calls;
-const {daysBetween, daysInMonth, fractionCmp, isPerfectPower, choiceOfRank, powerModulo, weekday} = calls;
+const {choiceOfRank, daysBetween, daysInMonth, fractionCmp, isPerfectPower, powerModulo, tryFractionAdd, tryPlusMonths, weekday} = calls;
 const found = [];
 for await (const row of rows(1, 8)) found.push(row);
 
@@ -32,6 +32,8 @@ test('a refusal has its status and its words, and the forms without exceptions h
     && error.status === Status.NO_SOLUTION && error.message === 'inverseModulo: NO_SOLUTION: no number solves the congruences');
   assert.deepEqual(tryLcm(2n ** 63n, 3), {status: Status.NOT_FITTING, value: undefined});
   assert.deepEqual(tryLcm(4, 6), {status: Status.ANSWER, value: 12n});
+  assert.deepEqual(tryFractionAdd('x/y', 1), {status: Status.OUTSIDE, value: undefined});
+  assert.deepEqual(tryPlusMonths('2023-02-29', 1), {status: Status.NO_DATE, value: undefined});
   const words = readFileSync(new URL('../../c/cellarcove.h', import.meta.url), 'utf8');
   for (const status of Object.values(Status)) assert.ok(words.includes(`return "${new Refused(status).message.replace(/^[A-Z_]+: /, '')}";`));
 });

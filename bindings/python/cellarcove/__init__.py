@@ -169,26 +169,14 @@ class _Tuple(tuple[int, ...]):
     __slots__ = ()
 
 
-class _Parts(NamedTuple):
-    year: int
-    month: int
-    day: int
-
-
-class Date(_Parts):
+class Date(_calls.Dates):
     """A date of the proleptic Gregorian calendar, of any year from -2**63 to 2**63 - 1. The year before year 1 is year 0.
 
-    Raises `Refused` with `NO_DATE` if there is no such date. Dates are in the order of their days.
+    Raises `Refused` with `NO_DATE` if there is no such date. Dates are in the order of their days. `date + days` is a date, and
+    `date - other` the number of days between two.
     """
 
     __slots__ = ()
-
-    def __new__(cls, year: SupportsIndex, month: SupportsIndex, day: SupportsIndex) -> 'Date':
-        parts = operator.index(year), operator.index(month), operator.index(day)
-        if not 1 <= parts[1] <= 12 or not 1 <= parts[2] <= days_in_month(parts[0], parts[1]):
-            days_in_month(parts[0], 1)  # raises if the year is out of range
-            raise Refused(Status.NO_DATE)
-        return super().__new__(cls, *parts)
 
     @classmethod
     def _make(cls, iterable: Iterable[SupportsIndex]) -> 'Date':  # type: ignore[override]
@@ -199,8 +187,8 @@ class Date(_Parts):
         return cls(*parts)
 
     @classmethod
-    def fromisoformat(cls, text: str) -> 'Date':
-        """The date that `isoformat` writes so. Raises `ValueError` for another text, and `Refused` with `NO_DATE` if there is no such date."""
+    def _read(cls, text: str) -> 'Date':
+        """The date of a text: `fromisoformat` calls it if the year has not four digits, or something is wrong."""
         parts = re.fullmatch('([+-]?[0-9]+)-([0-9]{2})-([0-9]{2})', text)
         date = cls(*map(int, parts.groups())) if parts else None
         if date is None or date.isoformat() != text:
@@ -217,21 +205,6 @@ class Date(_Parts):
         if not datetime.MINYEAR <= self.year <= datetime.MAXYEAR:
             raise OverflowError(f'year {self.year} is not from {datetime.MINYEAR} to {datetime.MAXYEAR}')
         return datetime.date(self.year, self.month, self.day)
-
-    def weekday(self) -> Weekday:
-        """The day of the week. That of `datetime.date` is a number from 0 for Monday to 6 for Sunday."""
-        return Weekday(self.isoweekday())
-
-    def isoweekday(self) -> int:
-        """The day of the week, from 1 for Monday to 7 for Sunday, as that of `datetime.date`."""
-        return weekday_of_date(self)
-
-    def isoformat(self) -> str:
-        """The date as `2000-02-29`; the year has a sign if it is not from 0 to 9999."""
-        year = f'{self.year:04}' if 0 <= self.year <= 9999 else f'{self.year:+05}'
-        return f'{year}-{self.month:02}-{self.day:02}'
-
-    __str__ = isoformat
 
 
 def _refusal(status: int, by_zero: bool) -> Refused:
@@ -250,5 +223,5 @@ def _out_of_range(number: SupportsIndex, kind: str) -> OverflowError:
 
 _calls._install({
     'refusal': _refusal, 'out_of_range': _out_of_range, 'Fraction': Fraction, 'Tuple': _Tuple, 'array': array.array, 'Date': Date,
-    'ExtendedGcd': ExtendedGcd, 'Solutions': Solutions, 'IsoWeek': IsoWeek, 'Weekday': Weekday,
+    'ExtendedGcd': ExtendedGcd, 'Solutions': Solutions, 'IsoWeek': IsoWeek, 'Weekday': Weekday, 'weekdays': tuple(Weekday),
 })

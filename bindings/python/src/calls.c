@@ -151,6 +151,29 @@ static PyObject *py_fraction_from_text(PyObject *module, PyObject *object) {
     return r.status == CELLARCOVE_ANSWER ? fraction_of(r.value) : refused(r.status, r.status == CELLARCOVE_ZERO_DENOMINATOR);
 }
 
+static PyObject *py_sum_of(PyObject *module, PyObject *object) {
+    (void)module;
+    list of;
+    cell others[1];
+    if (read_list("sum_of", &object, 1, 1, 0, 1, true, &of, others) != 0) {
+        return NULL;
+    }
+    if (of.is_signed) {
+        cellarcove_i64_answer r;
+        Py_BEGIN_ALLOW_THREADS
+        r = cellarcove_sum_of_i64(of.items, (size_t)of.count);
+        Py_END_ALLOW_THREADS
+        return of_list(&of, r.status, PyLong_FromLongLong(r.value));
+    }
+    {
+        cellarcove_u64_answer r;
+        Py_BEGIN_ALLOW_THREADS
+        r = cellarcove_sum_of_u64(of.items, (size_t)of.count);
+        Py_END_ALLOW_THREADS
+        return of_list(&of, r.status, PyLong_FromUnsignedLongLong(r.value));
+    }
+}
+
 static PyObject *one_checked_sum_i64(const cell *a, uint32_t *status) {
     cellarcove_i64_answer r = cellarcove_checked_sum_i64((int64_t)a[0].i, (int64_t)a[1].i);
     if (r.status != CELLARCOVE_ANSWER) {
@@ -3874,6 +3897,98 @@ static PyObject *py_day_of_year(PyObject *module, PyObject *const *args, Py_ssiz
     return run(&call_day_of_year, args, count, names);
 }
 
+static PyObject *one_product_div_round_i64(const cell *a, uint32_t *status) {
+    cellarcove_i64_answer r = cellarcove_product_div_round_i64((int64_t)a[0].i, (int64_t)a[1].i, (int64_t)a[2].i);
+    if (r.status != CELLARCOVE_ANSWER) {
+        *status = r.status;
+        return NULL;
+    }
+    return PyLong_FromLongLong(r.value);
+}
+
+static void many_product_div_round_i64(Py_ssize_t count, char *const *in, const Py_ssize_t *steps, char *const *out) {
+    for (Py_ssize_t k = 0; k < count; k++) {
+        cellarcove_i64_answer r = cellarcove_product_div_round_i64(AT(int64_t, 0), AT(int64_t, 1), AT(int64_t, 2));
+        TO(int64_t, 0) = r.value;
+        TO(uint8_t, 1) = (uint8_t)r.status;
+    }
+}
+
+static const form form_product_div_round_i64 = {"qqq", "qB", true, one_product_div_round_i64, many_product_div_round_i64};
+
+static PyObject *one_product_div_round_u64(const cell *a, uint32_t *status) {
+    cellarcove_u64_answer r = cellarcove_product_div_round_u64((uint64_t)a[0].u, (uint64_t)a[1].u, (uint64_t)a[2].u);
+    if (r.status != CELLARCOVE_ANSWER) {
+        *status = r.status;
+        return NULL;
+    }
+    return PyLong_FromUnsignedLongLong(r.value);
+}
+
+static void many_product_div_round_u64(Py_ssize_t count, char *const *in, const Py_ssize_t *steps, char *const *out) {
+    for (Py_ssize_t k = 0; k < count; k++) {
+        cellarcove_u64_answer r = cellarcove_product_div_round_u64(AT(uint64_t, 0), AT(uint64_t, 1), AT(uint64_t, 2));
+        TO(uint64_t, 0) = r.value;
+        TO(uint8_t, 1) = (uint8_t)r.status;
+    }
+}
+
+static const form form_product_div_round_u64 = {"QQQ", "QB", true, one_product_div_round_u64, many_product_div_round_u64};
+
+static const call call_product_div_round = {"product_div_round", 3, {"a", "b", "d"}, "nnn",
+    (const bool[]){false, false, false}, (const bool[]){true, true, true}, NULL, &form_product_div_round_i64, &form_product_div_round_u64};
+
+static PyObject *py_product_div_round(PyObject *module, PyObject *const *args, Py_ssize_t count, PyObject *names) {
+    (void)module;
+    return run(&call_product_div_round, args, count, names);
+}
+
+static PyObject *one_product_div_round_even_i64(const cell *a, uint32_t *status) {
+    cellarcove_i64_answer r = cellarcove_product_div_round_even_i64((int64_t)a[0].i, (int64_t)a[1].i, (int64_t)a[2].i);
+    if (r.status != CELLARCOVE_ANSWER) {
+        *status = r.status;
+        return NULL;
+    }
+    return PyLong_FromLongLong(r.value);
+}
+
+static void many_product_div_round_even_i64(Py_ssize_t count, char *const *in, const Py_ssize_t *steps, char *const *out) {
+    for (Py_ssize_t k = 0; k < count; k++) {
+        cellarcove_i64_answer r = cellarcove_product_div_round_even_i64(AT(int64_t, 0), AT(int64_t, 1), AT(int64_t, 2));
+        TO(int64_t, 0) = r.value;
+        TO(uint8_t, 1) = (uint8_t)r.status;
+    }
+}
+
+static const form form_product_div_round_even_i64 = {"qqq", "qB", true, one_product_div_round_even_i64, many_product_div_round_even_i64};
+
+static PyObject *one_product_div_round_even_u64(const cell *a, uint32_t *status) {
+    cellarcove_u64_answer r = cellarcove_product_div_round_even_u64((uint64_t)a[0].u, (uint64_t)a[1].u, (uint64_t)a[2].u);
+    if (r.status != CELLARCOVE_ANSWER) {
+        *status = r.status;
+        return NULL;
+    }
+    return PyLong_FromUnsignedLongLong(r.value);
+}
+
+static void many_product_div_round_even_u64(Py_ssize_t count, char *const *in, const Py_ssize_t *steps, char *const *out) {
+    for (Py_ssize_t k = 0; k < count; k++) {
+        cellarcove_u64_answer r = cellarcove_product_div_round_even_u64(AT(uint64_t, 0), AT(uint64_t, 1), AT(uint64_t, 2));
+        TO(uint64_t, 0) = r.value;
+        TO(uint8_t, 1) = (uint8_t)r.status;
+    }
+}
+
+static const form form_product_div_round_even_u64 = {"QQQ", "QB", true, one_product_div_round_even_u64, many_product_div_round_even_u64};
+
+static const call call_product_div_round_even = {"product_div_round_even", 3, {"a", "b", "d"}, "nnn",
+    (const bool[]){false, false, false}, (const bool[]){true, true, true}, NULL, &form_product_div_round_even_i64, &form_product_div_round_even_u64};
+
+static PyObject *py_product_div_round_even(PyObject *module, PyObject *const *args, Py_ssize_t count, PyObject *names) {
+    (void)module;
+    return run(&call_product_div_round_even, args, count, names);
+}
+
 static PyMethodDef methods[] = {
     {"checked_sum", (PyCFunction)(void (*)(void))py_checked_sum, METH_FASTCALL | METH_KEYWORDS,
     "checked_sum($module, /, a, b, *, out=None)\n"
@@ -5093,6 +5208,42 @@ static PyMethodDef methods[] = {
     "\n"
     ">>> fraction_from_text('6/-4')\n"
     "Fraction(-3, 2)\n"},
+    {"product_div_round", (PyCFunction)(void (*)(void))py_product_div_round, METH_FASTCALL | METH_KEYWORDS,
+    "product_div_round($module, /, a, b, d, *, out=None)\n"
+    "--\n"
+    "\n"
+    "The quotient of `a * b` by `d`, rounded to the nearest integer, and a half away from 0.\n"
+    "The product need not fit. That for -1999, 19 and 100 is -380.\n"
+    "\n"
+    "Raises `Refused` with `OUTSIDE` if `d` is 0. Raises `NotFitting` if the quotient does\n"
+    "not fit.\n"
+    "\n"
+    ">>> product_div_round(-1999, 19, 100)\n"
+    "-380\n"},
+    {"product_div_round_even", (PyCFunction)(void (*)(void))py_product_div_round_even, METH_FASTCALL | METH_KEYWORDS,
+    "product_div_round_even($module, /, a, b, d, *, out=None)\n"
+    "--\n"
+    "\n"
+    "The quotient of `a * b` by `d`, rounded to the nearest integer, and a half to the even\n"
+    "one. The product need not fit. That for -5, 3 and 6 is -2.\n"
+    "\n"
+    "Raises `Refused` with `OUTSIDE` if `d` is 0. Raises `NotFitting` if the quotient does\n"
+    "not fit.\n"
+    "\n"
+    ">>> product_div_round_even(-5, 3, 6)\n"
+    "-2\n"},
+    {"sum_of", py_sum_of, METH_O,
+    "sum_of($module, numbers, /)\n"
+    "--\n"
+    "\n"
+    "The sum of the numbers. The sum of the first of them need not fit.\n"
+    "\n"
+    "Raises `NotFitting` if the sum does not fit.\n"
+    "\n"
+    ">>> sum_of([2**63 - 1, 1, -1])\n"
+    "2**63 - 1\n"
+    ">>> sum_of([])\n"
+    "0\n"},
     {"comb", (PyCFunction)(void (*)(void))py_binomial, METH_FASTCALL | METH_KEYWORDS,
     "comb($module, /, n, k, *, out=None)\n"
     "--\n"
@@ -5120,12 +5271,12 @@ static PyMethodDef methods[] = {
     {NULL, NULL, 0, NULL},
 };
 
-static struct PyModuleDef definition = {.m_base = PyModuleDef_HEAD_INIT, .m_name = "cellarcove._calls", .m_size = -1, .m_methods = methods};
-
-PyMODINIT_FUNC PyInit__calls(void) {
-    PyObject *module = PyModule_Create(&definition);
-    if (module != NULL && (intern_names() != 0 || add_words(module, methods) != 0)) {
-        Py_CLEAR(module);
-    }
-    return module;
+static int execute(PyObject *module) {
+    return take_calls() != 0 || intern_names() != 0 || add_dates(module) != 0 || add_words(module, methods) != 0 ? -1 : 0;
 }
+
+static PyModuleDef_Slot slots[] = {{Py_mod_exec, (void *)execute}, {0, NULL}};
+
+static struct PyModuleDef definition = {.m_base = PyModuleDef_HEAD_INIT, .m_name = "cellarcove._calls", .m_methods = methods, .m_slots = slots};
+
+PyMODINIT_FUNC PyInit__calls(void) { return PyModuleDef_Init(&definition); }

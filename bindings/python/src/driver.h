@@ -30,6 +30,7 @@ PyAPI_FUNC(void) PyBuffer_Release(Py_buffer *view);
 #define PyBUF_WRITABLE 0x0001
 #define PyBUF_FORMAT 0x0004
 #define PyBUF_ND 0x0008
+#define PyBUF_STRIDES (0x0010 | PyBUF_ND)
 #endif
 
 enum { MAX_PARAMETERS = 6, MAX_CELLS = 6, MAX_RESULTS = 4 };
@@ -64,7 +65,7 @@ typedef struct {
 
 /* What the package installs. */
 static PyObject *refusal, *out_of_range, *new_fraction, *new_array;
-static PyObject *class_date, *class_gcd, *class_solutions, *class_week, *class_weekday;
+static PyObject *class_dates, *class_date, *class_gcd, *class_solutions, *class_week, *class_weekday, *weekdays;
 static newfunc new_tuple;
 static PyObject *name_numerator, *name_denominator, *name_year, *name_month, *name_day, *name_value, *name_out;
 
@@ -202,7 +203,7 @@ static bool is_array(PyObject *object) {
     Py_buffer view;
     if (PyObject_GetBuffer(object, &view, PyBUF_ND) != 0) {
         PyErr_Clear();
-        return true; /* an array that is not contiguous, which is told later */
+        return true; /* an array that is not contiguous */
     }
     bool result = view.ndim > 0;
     PyBuffer_Release(&view);
@@ -351,6 +352,9 @@ static bool has_items(const Py_buffer *view, char kind) {
     return view->itemsize == size_of(kind) && *format != 0 && format[1] == 0 && strchr(letters, *format) != NULL;
 }
 
+/* From an item of an array of one dimension to the next one. */
+static Py_ssize_t step_of(const Py_buffer *view) { return view->strides == NULL ? view->itemsize : view->strides[0]; }
+
 static int wrong(const char *what, const char *name) {
     PyErr_Format(PyExc_ValueError, "%s: %s", name, what);
     return -1;
@@ -371,23 +375,37 @@ static const char *words_of(char kind) {
 /* Whether the items of an array lie where C may read them, as they do not in a part of a packed record. */
 static bool is_aligned(const Py_buffer *view) {
     size_t step = view->itemsize == 8 ? _Alignof(int64_t) : view->itemsize == 4 ? _Alignof(int32_t) : view->itemsize == 2 ? _Alignof(int16_t) : 1;
-    return view->len == 0 || (uintptr_t)view->buf % step == 0;
+    return view->len == 0 || ((uintptr_t)view->buf % step == 0 && (size_t)step_of(view) % step == 0);
 }
 
-/* Why an object has no buffer that a call reads. */
-static const char *no_buffer(PyObject *object) {
-    PyObject *type = PyObject_GetAttrString(object, "dtype"), *kind = type == NULL ? NULL : PyObject_GetAttrString(type, "kind");
-    bool is_time = kind != NULL && PyUnicode_Check(kind) &&
-                   (PyUnicode_CompareWithASCIIString(kind, "M") == 0 || PyUnicode_CompareWithASCIIString(kind, "m") == 0);
-    Py_XDECREF(type);
-    Py_XDECREF(kind);
+/* Whether an attribute of an object is a text that ends so. No error is left. */
+static bool ends(PyObject *object, const char *name, const char *end) {
+    PyObject *value = PyObject_GetAttrString(object, name);
+    PyObject *found = value == NULL || !PyUnicode_Check(value) ? NULL : PyObject_CallMethod(value, "endswith", "s", end);
+    bool result = found == Py_True;
+    Py_XDECREF(value);
+    Py_XDECREF(found);
     PyErr_Clear();
-    return is_time ? "the items of the array are times: pass its `.view('int64')`" : "the array is not contiguous: pass its `.copy()`";
+    return result;
+}
+
+/* Why an object has no buffer that a call reads. A time of numpy counts units, and a call counts days. */
+static const char *no_buffer(PyObject *object) {
+    PyObject *type = PyObject_GetAttrString(object, "dtype");
+    const char *words = "the array is not contiguous: pass its `.copy()`";
+    if (type != NULL && (ends(type, "kind", "M") || ends(type, "kind", "m"))) {
+        words = ends(type, "str", "[D]") ? "the items of the array are times: pass its `.view('int64')`" :
+                ends(type, "kind", "M") ? "the items of the array are times: pass its `.astype('datetime64[D]').view('int64')`" :
+                "the items of the array are times: pass its `.astype('timedelta64[D]').view('int64')`";
+    }
+    Py_XDECREF(type);
+    PyErr_Clear();
+    return words;
 }
 
 /* Takes the buffer of an array. */
 static int take(PyObject *object, Py_buffer *view, int flags, const char *name) {
-    if (PyObject_GetBuffer(object, view, flags | PyBUF_FORMAT | PyBUF_ND) != 0) {
+    if (PyObject_GetBuffer(object, view, flags | PyBUF_FORMAT) != 0) {
         if (!PyErr_ExceptionMatches(PyExc_MemoryError)) {
             PyErr_Clear();
             wrong(flags & PyBUF_WRITABLE ? "an output is an array that can be written, and contiguous" : no_buffer(object), name);
@@ -427,7 +445,7 @@ static const form *read_columns(const call *c, PyObject **objects, Py_ssize_t co
             negative |= c->follows[k] && is_negative(objects[k], &to->number, to->said);
             continue;
         }
-        if (take(objects[k], &to->view, 0, c->name) != 0) {
+        if (take(objects[k], &to->view, PyBUF_STRIDES, c->name) != 0) {
             return NULL;
         }
         to->is_array = true;
@@ -474,10 +492,11 @@ static void store(cell *number, char kind) {
     }
 }
 
-/* Whether the items of two arrays share memory, unless each shares it with the other's item of the same number. */
-static bool overlap(const Py_buffer *a, const Py_buffer *b) {
-    const char *x = a->buf, *y = b->buf;
-    return x < y + b->len && y < x + a->len && (x != y || a->itemsize != b->itemsize);
+/* Whether the items of an output share memory with those of an array, unless each shares it with the other's item of the same number. */
+static bool overlap(const Py_buffer *output, const Py_buffer *array) {
+    Py_ssize_t step = step_of(array), span = array->len == 0 ? 0 : (array->shape[0] - 1) * step;
+    const char *x = output->buf, *y = array->buf, *low = span < 0 ? y + span : y, *high = (span < 0 ? y : y + span) + array->itemsize;
+    return array->len > 0 && x < high && low < x + output->len && (x != y || output->itemsize != step || output->itemsize != array->itemsize);
 }
 
 /* A new array of zeros: that of one zero, repeated. */
@@ -524,7 +543,7 @@ static int take_outputs(const call *c, const form *f, PyObject *outputs, const c
         return -1;
     }
     for (Py_ssize_t k = 0; k < results; k++) {
-        if (take(PyTuple_GetItem(outputs, k), &views[k], PyBUF_WRITABLE, c->name) != 0) {
+        if (take(PyTuple_GetItem(outputs, k), &views[k], PyBUF_WRITABLE | PyBUF_ND, c->name) != 0) {
             return -1;
         }
         *taken = k + 1;
@@ -598,7 +617,7 @@ static PyObject *run_many(const call *c, PyObject **objects, Py_ssize_t count, P
                 store(&columns[k].number, f->cells[k]);
             }
             in[k] = columns[k].is_array ? columns[k].view.buf : (char *)&columns[k].number;
-            steps[k] = columns[k].is_array ? columns[k].view.itemsize : 0;
+            steps[k] = columns[k].is_array ? step_of(&columns[k].view) : 0;
         }
         for (Py_ssize_t k = 0; k < taken; k++) {
             to[k] = views[k].buf;
@@ -689,7 +708,7 @@ static Py_ssize_t cells_of(const call *c, PyObject *const *bound, PyObject **obj
 }
 
 static PyObject *run(const call *c, PyObject *const *args, Py_ssize_t count, PyObject *names) {
-    PyObject *bound[MAX_PARAMETERS], *objects[MAX_CELLS], *out = NULL, *result = NULL;
+    PyObject *bound[MAX_PARAMETERS], *objects[MAX_CELLS] = {NULL}, *out = NULL, *result = NULL;
     bool arrays = false;
     if (are_ints(c, args, count, names)) {
         return run_one(c, args, count);
@@ -739,7 +758,7 @@ static void free_list(list *of) {
 
 /* Takes the buffer of an array of numbers. */
 static int take_list(PyObject *object, const char *name, bool has_signed, list *to) {
-    if (take(object, &to->view, 0, name) != 0) {
+    if (take(object, &to->view, PyBUF_ND, name) != 0) {
         return -1;
     }
     to->is_signed = has_signed && has_items(&to->view, 'q');
@@ -982,6 +1001,8 @@ static PyObject *bytes_of(const char *name, PyObject *text, const uint8_t **byte
     return encoded;
 }
 
+#include "dates.h"
+
 /* ---- the module ---- */
 
 static int keep(PyObject *from, const char *name, PyObject **to) {
@@ -996,16 +1017,22 @@ static int keep(PyObject *from, const char *name, PyObject **to) {
     return 0;
 }
 
-/* Installs the classes of the package, from a dictionary. They are those of one interpreter, and a second one in the same
- * process could not do without its own. */
-static PyObject *install(PyObject *module, PyObject *from) {
-    static PyInterpreterState *owner;
-    (void)module;
-    if (owner != NULL && owner != PyInterpreterState_Get()) {
+/* Says that the calls are taken, if they are: the objects that they keep are those of one life of one interpreter. That one has a mark in
+ * its dictionary. */
+static int take_calls(void) {
+    static bool taken;
+    PyObject *marks = PyInterpreterState_GetDict(PyInterpreterState_Get());
+    if (marks == NULL || (taken && PyDict_GetItemString(marks, "cellarcove") == NULL)) {
         PyErr_SetString(PyExc_ImportError, "another interpreter of this process has imported cellarcove");
-        return NULL;
+        return -1;
     }
-    owner = PyInterpreterState_Get();
+    taken = true;
+    return PyDict_SetItemString(marks, "cellarcove", Py_True);
+}
+
+/* Installs the classes of the package, from a dictionary. */
+static PyObject *install(PyObject *module, PyObject *from) {
+    (void)module;
     if (!PyDict_Check(from)) {
         PyErr_SetString(PyExc_TypeError, "no dictionary");
         return NULL;
@@ -1014,7 +1041,7 @@ static PyObject *install(PyObject *module, PyObject *from) {
     if (keep(from, "refusal", &refusal) || keep(from, "out_of_range", &out_of_range) || keep(from, "Fraction", &new_fraction) ||
         keep(from, "Tuple", &class_tuple) || keep(from, "array", &new_array) || keep(from, "Date", &class_date) ||
         keep(from, "ExtendedGcd", &class_gcd) || keep(from, "Solutions", &class_solutions) || keep(from, "IsoWeek", &class_week) ||
-        keep(from, "Weekday", &class_weekday)) {
+        keep(from, "Weekday", &class_weekday) || keep(from, "weekdays", &weekdays)) {
         return NULL;
     }
     /* `tuple.__new__` without its test of the class. The stable ABI of 3.9 gives the slots of classes that Python makes. */

@@ -9,6 +9,7 @@ import copy
 import ctypes
 import datetime
 import doctest
+import importlib.util
 import itertools
 import pathlib
 import pickle
@@ -25,14 +26,9 @@ from fractions import Fraction
 import cellarcove
 from cellarcove import Date, DivisionByZero, NotFitting, Refused, Status
 
-try:
-    import numpy
-except ImportError:
-    numpy = None
-
 HERE = pathlib.Path(__file__).resolve().parent
-BINDINGS = HERE.parents[1]
-PAGES = (BINDINGS / 'README.md', BINDINGS / 'python/README.md', BINDINGS.parent / 'docs/COOKBOOK.md')
+# A source distribution has the first of these pages.
+PAGES = [page for page in (HERE.parent / 'README.md', HERE.parents[1] / 'README.md', HERE.parents[2] / 'docs/COOKBOOK.md') if page.exists()]
 ROW_NAMES = {**vars(cellarcove), 'array': array.array, 'copy': copy, 'date': datetime.date, 'Fraction': Fraction,
              'SimpleNamespace': types.SimpleNamespace, 'addressof': ctypes.addressof, 'c_char': ctypes.c_char}
 random.seed(64)
@@ -43,7 +39,8 @@ class Rows(unittest.TestCase):
 
     def test_rows(self):
         for block in (HERE / 'rows.txt').read_text().split('\n\n'):
-            if numpy or 'import numpy' not in block:
+            imported = re.findall('^import (.*)$', block, re.M)
+            if all(importlib.util.find_spec(name) for name in ', '.join(imported).split(', ') if name):
                 with self.subTest(block.splitlines()[0]):
                     self.holds(block, ROW_NAMES.copy(), lambda said, names: repr(eval(said, names)))
 
@@ -187,9 +184,10 @@ class Threads(unittest.TestCase):
 class Shutdown(unittest.TestCase):
     """The end of a program, and a module that is imported again."""
 
-    def ends(self, code):
+    def ends(self, code, said=''):
         ran = subprocess.run([sys.executable, '-c', textwrap.dedent(code)], capture_output=True, text=True, timeout=120)
-        self.assertEqual((ran.returncode, ran.stderr), (0, ''))
+        self.assertEqual(ran.returncode, 0, ran.stderr)
+        self.assertEqual([line for line in ran.stderr.splitlines() if not re.search(said or '$^', line)], [])
 
     def test_running_thread(self):
         """A thread that runs calls when the program ends."""
@@ -241,16 +239,38 @@ class Shutdown(unittest.TestCase):
                 assert cellarcove.easter(2024) == cellarcove.Date(2024, 3, 31)
         ''')
 
+    def test_next_interpreter(self):
+        """So it is after the one that imported it has ended, though its memory may be used again."""
+        self.ends('''
+            try:
+                import _xxsubinterpreters as interpreters
+            except ImportError:
+                import _interpreters as interpreters
+            def imported():
+                other = interpreters.create()
+                try:
+                    return interpreters.run_string(other, 'import cellarcove; assert cellarcove.gcd(12, 18) == 6')
+                except Exception as error:
+                    return error
+                finally:
+                    interpreters.destroy(other)
+            if imported() is None: # from Python 3.12 on an interpreter with a lock of its own imports no such extension
+                failed = imported()
+                assert 'another interpreter of this process has imported cellarcove' in str(failed), failed
+        ''', said='mpd_setminalloc|^$') # the module decimal warns of a second interpreter
+
     def test_import_again(self):
         """The calls raise the errors of the package that was imported last."""
         self.ends('''
-            import sys, cellarcove
+            import sys, cellarcove as before
             del sys.modules['cellarcove'], sys.modules['cellarcove._calls']
             import cellarcove as again
             try:
                 again.lcm(2**63, 3)
             except again.NotFitting:
                 assert again.easter(2024) == again.Date(2024, 3, 31)
+            date, now = before.Date(2024, 3, 31), again.Date(2024, 3, 31)
+            assert date + 1 == now + 1 and date - now == 0 and date.fromisoformat('2024-03-31') == now
         ''')
 
 

@@ -6,5 +6,12 @@ pub use Rattle.applied.proofs.ListDivisors.{gcd_of_none, gcd_of_more, only_gcd_o
 pub use Rattle.applied.proofs.ListDivisors.{lcm_of_none, lcm_of_more, only_lcm_of}
 -- The lcm of the first numbers of a list divides that of the list, and a list with a 0 has the lcm 0.
 pub use Rattle.applied.proofs.ListDivisors.{prefix_divides, lcm_of_zero}
+-- The lcm of a list without 0 is positive, and it is the first positive common multiple. So is the result of a call that returns the lcm if it fits; the
+-- last two say it at an unsigned type, of a list, and at `u64` of three numbers.
+pub use Rattle.applied.proofs.ListDivisors.{positive_lcm_of}
+pub use Rattle.applied.proofs.FirstMultiples.{lcm_of_is_first, first_multiple_of_answers, first_natural_multiple_of, meeting_of_three_at_u64}
 -- Two natural numbers divided by their gcd, the second of which is not 0, are coprime and in the same ratio.
 pub use Rattle.applied.proofs.ReducedPairs.{reduced_pair}
+-- The sum of no numbers is 0, that of a list with a first number is that number and the sum of the others, and that of two lists after each other
+-- is the sum of both.
+pub use Rattle.applied.proofs.SignedSums.{signed_sum-nil, signed_sum-cons, signed_sum-append}

@@ -6,9 +6,11 @@ pub mod RollingHashes
 pub mod ItemRanges
 pub mod ReducedPairs
 pub mod ListDivisors
+pub mod SignedSums
 pub mod WeightedShares
 pub mod LargestRemainders
 pub mod NearestQuotients
 pub mod FallingFactorials
+pub mod FirstMultiples
 pub mod Laws
 pub mod ForCallers

@@ -145,7 +145,7 @@ pub lcm_of_exists : (numbers : List ℤ) → (l : ℤ) × IsLeastCommonMultipleO
 lcm_of_exists = each_has (pos 1) lcm_of_none lcm_exists (λ _ _ _ _. lcm_of_more)
 
 -- numbers that are not 0 have a positive one
-positive_lcm_of : (numbers : List ℤ) → All (λ x. x ≢ pos 0) numbers → (l : ℤ) × (IsLeastCommonMultipleOf numbers l × (pos 0 <ℤ l))
+pub positive_lcm_of : (numbers : List ℤ) → All (λ x. x ≢ pos 0) numbers → (l : ℤ) × (IsLeastCommonMultipleOf numbers l × (pos 0 <ℤ l))
 positive_lcm_of numbers nonzero = each_list (λ x. x ≢ pos 0) (λ first l. IsLeastCommonMultipleOf first l × (pos 0 <ℤ l))
     (λ first x l some own.
     let both = lcm_exists l x in

@@ -1,6 +1,7 @@
 -- Quotients rounded to the nearest integer: from those rounded down, the only ones, and when they fit.
-use Rattle.std.specs.Prelude.{◌≡◌, ◌⊎◌, ◌↔◌, ◌<◌, ◌≤◌, ◌≤ℤ◌, ◌+◌, ◌*◌, ◌<ℤ◌, ◌+ℤ◌, ◌-ℤ◌, ◌*ℤ◌}
-use Rattle.applied.proofs.Common.{ℤ, pos, neg_ℤ, unsigned_abs, ap, arith, inl, inr, le_refl, refl, subst, cases_lt, by_lt_z, unsigned_abs-mul, mul-le, IsDivision, IsFloored, IsQuotient, IsEven, EachFits, IsRange, divides_or_not, expand, from_not_less, linear, other_quotient_fits, products, sizes, zero_or_not, division_exists, NearestEvenQuotientIsOnly, NearestQuotientExists, NearestQuotientFitsExactly, NearestQuotientIsOnly, NoIntegerIsNearer, IsDown, IsNearer, IsNearest, IsNearestEven, LiesWithin}
+use Rattle.std.specs.Prelude.{◌≡◌, ◌≢◌, ◌⊎◌, ◌↔◌, ◌<◌, ◌≤◌, ◌≤ℤ◌, ◌+◌, ◌*◌, ◌<ℤ◌, ◌+ℤ◌, ◌-ℤ◌, ◌*ℤ◌}
+use Rattle.std.proofs.Math.Bool.{beq}
+use Rattle.applied.proofs.Common.{Bool, true, false, not, signed, ℕ, ℤ, pos, neg_ℤ, unsigned_abs, ap, arith, inl, inr, le_refl, refl, subst, cases_lt, by_lt_z, unsigned_abs-mul, mul-le, IsDivision, IsFloored, IsQuotient, IsEven, EachFits, IsRange, divides_or_not, expand, from_not_less, linear, other_quotient_fits, products, sizes, zero_or_not, division_exists, NearestEvenQuotientIsOnly, NearestQuotientExists, NearestQuotientFitsExactly, NearestQuotientIsOnly, NoIntegerIsNearer, IsDown, IsNearer, IsNearest, IsNearestEven, LiesWithin}
 
 next_product : (q d : ℤ) → (q +ℤ pos 1) *ℤ d ≡ q *ℤ d +ℤ d
 next_product q d = simp expand (omega (arith, products))
@@ -163,6 +164,79 @@ nearest_quotient_exists = λ n d nonzero.
     let second = nearer_exists (IsEven h.0) d h.0 h.1 (divides_or_not (pos 2) h.0 (λ e. omega (arith, linear))) in
     let nearest = nearest_is h.2 (h.0 <ℤ pos 0) (λ less. less, λ less. less) first.1 in
     ((first.0, nearest), (second.0, nearest_even_is h.2 (IsEven h.0) (λ even. even, λ even. even) second.1))
+
+-- ---- by magnitudes
+
+-- a kind of quotient that turns its sign if the number or the divisor does
+record TurnsItsSign (Kind : ℤ → ℤ → ℤ → ℤ → Type 0) : Type 0 where
+  number : (n d q r : ℤ) → Kind n d q r → Kind (neg_ℤ n) d (neg_ℤ q) (neg_ℤ r)
+  divisor : (n d q r : ℤ) → Kind n d q r → Kind n (neg_ℤ d) (neg_ℤ q) r
+
+negated_number : {n d q r : ℤ} → IsDivision n d q r → IsDivision (neg_ℤ n) d (neg_ℤ q) (neg_ℤ r) × (neg_ℤ q *ℤ d ≡ neg_ℤ (q *ℤ d))
+negated_number {n} {d} {q} {r} h =
+    let product : neg_ℤ q *ℤ d ≡ neg_ℤ (q *ℤ d) = grind (arith, products) in
+    (record { equation = omega (arith, linear, product, h.equation); small = omega (arith, sizes, h.small) }, product)
+
+negated_divisor : {n d q r : ℤ} → IsDivision n d q r → IsDivision n (neg_ℤ d) (neg_ℤ q) r × (neg_ℤ q *ℤ neg_ℤ d ≡ q *ℤ d)
+negated_divisor {n} {d} {q} {r} h =
+    let product : neg_ℤ q *ℤ neg_ℤ d ≡ q *ℤ d = grind (arith, products) in
+    (record { equation = omega (arith, linear, product, h.equation); small = omega (arith, sizes, h.small) }, product)
+
+negated_even : {q : ℤ} → IsEven q → IsEven (neg_ℤ q)
+negated_even even = let half = even.product in record { factor = neg_ℤ even.factor; product = omega (arith, products) }
+
+nearest_turns : TurnsItsSign IsNearest
+nearest_turns = record {
+  number = λ n d q r h.
+      let turned = negated_number h.division in
+      record {
+        division = turned.0;
+        nearest = omega (arith, sizes, h.nearest);
+        tie = λ half. let less = h.tie (omega (arith, sizes)) in rw turned.1 (omega (arith, sizes));
+      };
+  divisor = λ n d q r h.
+      let turned = negated_divisor h.division in
+      record {
+        division = turned.0;
+        nearest = omega (arith, sizes, h.nearest);
+        tie = λ half. let less = h.tie (omega (arith, sizes)) in rw turned.1 less;
+      };
+}
+
+nearest_even_turns : TurnsItsSign IsNearestEven
+nearest_even_turns = record {
+  number = λ n d q r h. record {
+    division = (negated_number h.division).0;
+    nearest = omega (arith, sizes, h.nearest);
+    tie = λ half. negated_even (h.tie (omega (arith, sizes)));
+  };
+  divisor = λ n d q r h. record {
+    division = (negated_divisor h.division).0;
+    nearest = omega (arith, sizes, h.nearest);
+    tie = λ half. negated_even (h.tie (omega (arith, sizes)));
+  };
+}
+
+-- the quotient of the magnitudes, with the sign of the quotient, is that of the numbers
+quotient_by_magnitudes : {Kind : ℤ → ℤ → ℤ → ℤ → Type 0} → TurnsItsSign Kind → (s u : Bool) (m e q : ℕ) → IsQuotient Kind (pos m) (pos e) (pos q)
+    → IsQuotient Kind (signed s m) (signed u e) (signed (not (beq s u)) q)
+quotient_by_magnitudes turns false false m e q h = h
+quotient_by_magnitudes turns true false m e q h = record { remainder = _; division = turns.number _ _ _ _ h.division }
+quotient_by_magnitudes turns false true m e q h = record { remainder = _; division = turns.divisor _ _ _ _ h.division }
+quotient_by_magnitudes turns true true m e q h =
+    let back : neg_ℤ (neg_ℤ (pos q)) ≡ pos q = omega (arith, products) in
+    record { remainder = _; division = rw back at (turns.divisor _ _ _ _ (turns.number _ _ _ _ h.division)) }
+
+pub nearest_by_magnitudes : (s u : Bool) (m e q : ℕ) → IsQuotient IsNearest (pos m) (pos e) (pos q) → IsQuotient IsNearest (signed s m) (signed u e) (signed (not (beq s u)) q)
+nearest_by_magnitudes = quotient_by_magnitudes nearest_turns
+
+pub nearest_even_by_magnitudes : (s u : Bool) (m e q : ℕ) → IsQuotient IsNearestEven (pos m) (pos e) (pos q) → IsQuotient IsNearestEven (signed s m) (signed u e) (signed (not (beq s u)) q)
+nearest_even_by_magnitudes = quotient_by_magnitudes nearest_even_turns
+
+-- a divisor other than 0 has a magnitude other than 0
+pub magnitude_nonzero : (u : Bool) (e : ℕ) → signed u e ≢ pos 0 → pos e ≢ pos 0
+magnitude_nonzero true e nonzero = λ none. nonzero (omega (arith, linear))
+magnitude_nonzero false e nonzero = nonzero
 
 -- ---- when they fit
 

@@ -5,6 +5,7 @@ use Rattle.modular.specs.declared.common_solutions.CommonSolution.{CommonSolutio
 use Rattle.num_integer.specs.Coefficient.{coefficient, factorial}
 use Rattle.num_integer.specs.Division.{IsFloored, IsQuotient}
 use Rattle.num_integer.specs.Divisors.{Divides}
+use Rattle.num_integer.specs.Least.{IsLeastFrom}
 use Rattle.num_integer.specs.Only.{IsOnly}
 use Rattle.num_integer.specs.Range.{EachFits, IsRange}
 use Rattle.applied.specs.Layout.{IsAlignedUp}
@@ -121,6 +122,11 @@ LcmOfExists = (numbers : List ℤ) → (l : ℤ) × IsLeastCommonMultipleOf numb
 -- Each list has at most one least common multiple.
 abbrev pub LcmOfIsOnly : Type 0
 LcmOfIsOnly = (numbers : List ℤ) (l : ℤ) → IsLeastCommonMultipleOf numbers l → IsOnly (IsLeastCommonMultipleOf numbers) l
+
+-- The least common multiple of a list without 0 is its first positive common multiple.
+abbrev pub LcmOfIsFirstCommonMultiple : Type 0
+LcmOfIsFirstCommonMultiple = (numbers : List ℤ) (l : ℤ) → All (λ x. x ≢ pos 0) numbers
+    → IsLeastCommonMultipleOf numbers l ↔ IsLeastFrom (pos 1) (λ u. All (λ x. Divides x u) numbers) l
 
 -- ---- nearest quotients
 

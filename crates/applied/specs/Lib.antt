@@ -6,6 +6,7 @@ pub mod Hashes
 pub mod Lists
 pub mod ReducedPairs
 pub mod Shares
+pub mod Totals
 pub mod SharesError
 pub mod Rounding
 pub mod Powers

@@ -18,7 +18,7 @@ use num_integer::operators::{difference, is_below, is_negative, one, successor, 
 ///
 /// In plain Rust, if `n` is negative, or if the factorial does not fit.
 #[tactic(auto, using(num_integer::proofs::ForCallers::linear))]
-pub fn factorial<T: Integer>(n: T) -> T
+pub fn factorial<T: Integer + Copy>(n: T) -> T
     requires in_range { T.fits (T.value n) }
     requires from_zero { pos 0 ≤ℤ T.value n }
     requires factorial_fits { T.fits (factorial_of (T.value n)) }
@@ -38,7 +38,7 @@ pub fn factorial<T: Integer>(n: T) -> T
 ///
 /// In plain Rust, if `n` or `k` is negative, or if the factorial does not fit.
 #[tactic(auto, using(num_integer::proofs::ForCallers::linear))]
-pub fn falling<T: Integer>(n: T, k: T) -> T
+pub fn falling<T: Integer + Copy>(n: T, k: T) -> T
     requires in_range { T.fits (T.value n) × T.fits (T.value k) }
     requires n_from_zero { pos 0 ≤ℤ T.value n }
     requires k_from_zero { pos 0 ≤ℤ T.value k }
@@ -56,7 +56,7 @@ pub fn falling<T: Integer>(n: T, k: T) -> T
 }
 
 /// Returns the product of the numbers above `low` up to `high`.
-fn product_above<T: Integer>(low: T, high: T) -> T
+fn product_above<T: Integer + Copy>(low: T, high: T) -> T
     requires in_range { T.fits (T.value low) × T.fits (T.value high) }
     requires from_zero { pos 0 ≤ℤ T.value low }
     requires ordered { T.value low ≤ℤ T.value high }

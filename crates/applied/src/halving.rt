@@ -24,7 +24,7 @@ pub fn midpoint<T: Average>(a: T, b: T) -> T
 ///
 /// The items have to be sorted. In plain Rust, if they are not, the result is some place, as that of
 /// `binary_search` of a slice is.
-pub fn lower_bound<T: Integer>(items: &[T], least: T) -> usize
+pub fn lower_bound<T: Integer + Copy>(items: &[T], least: T) -> usize
     requires sorted { IsSortedByKey T.value int_cmp items.now }
     ensures to_length { result ≤ length items.now }
     ensures below_before { AllWithin (λ x. T.value x <ℤ T.value least) items.now 0 result }

@@ -37,7 +37,7 @@ pub fn align_up<T: Fits>(offset: T, alignment: T) -> Option<T>
 /// # Panics
 ///
 /// In plain Rust, if the alignment is not positive.
-pub fn padding<T: Integer>(offset: T, alignment: T) -> T
+pub fn padding<T: Integer + Copy>(offset: T, alignment: T) -> T
     requires in_range { T.fits (T.value offset) × T.fits (T.value alignment) }
     requires positive { pos 0 <ℤ T.value alignment }
     ensures in_range { T.fits (T.value result) }

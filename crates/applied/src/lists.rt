@@ -6,6 +6,7 @@ ghost use Rattle.num_integer.specs.Range.{EachFits};
 ghost use Rattle.applied.specs.Lists.{GcdOfFits, IsGreatestCommonDivisorOf, IsLeastCommonMultipleOf};
 
 pub mod checked;
+mod total;
 
 use num_integer::Fits;
 use num_integer::guards::some;

@@ -90,7 +90,7 @@ pub fn item_at<T: Fits>(page: T, place: T, page_size: T) -> Option<T>
 /// # Panics
 ///
 /// In plain Rust, if the page size is not positive, or if the number of items is negative.
-pub fn range_of_page<T: Integer>(page: T, page_size: T, items: T) -> (T, T)
+pub fn range_of_page<T: Integer + Copy>(page: T, page_size: T, items: T) -> (T, T)
     requires in_range { T.fits (T.value page) × T.fits (T.value page_size) × T.fits (T.value items) }
     requires positive { pos 0 <ℤ T.value page_size }
     requires from_zero { pos 0 ≤ℤ T.value items }
@@ -125,7 +125,7 @@ pub fn range_of_page<T: Integer>(page: T, page_size: T, items: T) -> (T, T)
 ///
 /// In plain Rust, if the part is negative or not below the number of parts, or if the number of items is
 /// negative.
-pub fn range_of_part<T: Integer>(part: T, parts: T, items: T) -> (T, T)
+pub fn range_of_part<T: Integer + Copy>(part: T, parts: T, items: T) -> (T, T)
     requires in_range { T.fits (T.value part) × T.fits (T.value parts) × T.fits (T.value items) }
     requires part_from_zero { pos 0 ≤ℤ T.value part }
     requires part_below { T.value part <ℤ T.value parts }
@@ -149,7 +149,7 @@ pub fn range_of_part<T: Integer>(part: T, parts: T, items: T) -> (T, T)
 
 /// Returns the item at which a part begins, if each part has `size` items, and each of the first `longer` parts
 /// one more.
-fn start_of<T: Integer>(part: T, size: T, longer: T) -> T
+fn start_of<T: Integer + Copy>(part: T, size: T, longer: T) -> T
     requires in_range { T.fits (T.value part) × T.fits (T.value size) × T.fits (T.value longer) }
     requires product_fits { T.fits (T.value part *ℤ T.value size) }
     requires start_fits { T.fits (cut_at (T.value size) (T.value longer) (T.value part)) }
@@ -161,7 +161,7 @@ fn start_of<T: Integer>(part: T, size: T, longer: T) -> T
 
 /// Returns the smaller of two numbers.
 #[tactic(auto, using(crate::proofs::ItemRanges::minima))]
-fn minimum<T: Integer>(x: T, y: T) -> T
+fn minimum<T: Integer + Copy>(x: T, y: T) -> T
     requires in_range { T.fits (T.value x) × T.fits (T.value y) }
     ensures in_range { T.fits (T.value result) }
     ensures minimum { T.value result ≡ int_min (T.value x) (T.value y) }

@@ -16,7 +16,7 @@ use num_traits::Pow;
 
 /// Returns `true` if the number is the square of an integer. `is_square(144)` is `true`, `is_square(145)` is
 /// `false`, and `is_square(-144)` is `false`.
-pub fn is_square<T: Roots>(n: T) -> bool
+pub fn is_square<T: Roots + Copy>(n: T) -> bool
     requires in_range { T.fits (T.value n) }
     ensures { IsTrue result ↔ ((k : ℤ) × (k *ℤ k ≡ T.value n)) }
 {
@@ -33,7 +33,7 @@ pub fn is_square<T: Roots>(n: T) -> bool
 /// # Panics
 ///
 /// In plain Rust, if `degree` is 0.
-pub fn is_power<T: Roots + Pow<u32, Output = T>>(n: T, degree: u32) -> bool
+pub fn is_power<T: Roots + Copy + Pow<u32, Output = T>>(n: T, degree: u32) -> bool
     requires in_range { T.fits (T.value n) }
     requires degree { degree ≢ 0 }
     ensures { IsTrue result ↔ ((k : ℤ) × (int_pow k degree ≡ T.value n)) }
@@ -67,7 +67,7 @@ pub fn is_perfect_power(n: u64) -> bool
 /// # Panics
 ///
 /// In plain Rust, if `n` is negative.
-pub fn sqrt_rem<T: Roots>(n: T) -> (T, T)
+pub fn sqrt_rem<T: Roots + Copy>(n: T) -> (T, T)
     requires in_range { T.fits (T.value n) }
     requires from_zero { pos 0 ≤ℤ T.value n }
     ensures in_range { T.fits (T.value result.0) × T.fits (T.value result.1) }
@@ -89,7 +89,7 @@ pub fn sqrt_rem<T: Roots>(n: T) -> (T, T)
 /// # Panics
 ///
 /// In plain Rust, if the number is not positive, or if `base` is below 2.
-pub fn ilog<T: Integer>(number: T, base: T) -> u32
+pub fn ilog<T: Integer + Copy>(number: T, base: T) -> u32
     requires in_range { T.fits (T.value number) × T.fits (T.value base) }
     requires positive { pos 0 <ℤ T.value number }
     requires base { pos 1 <ℤ T.value base }

@@ -18,7 +18,7 @@ use num_integer::{Integer, div_mod_floor};
 /// # Panics
 ///
 /// In plain Rust, if `y` is 0, or if the quotient does not fit.
-pub fn div_round<T: Integer>(x: T, y: T) -> T
+pub fn div_round<T: Integer + Copy>(x: T, y: T) -> T
     requires in_range { T.fits (T.value x) × T.fits (T.value y) }
     requires nonzero { T.value y ≢ pos 0 }
     requires quotient_fits { EachFits T.fits (IsQuotient IsFloored (T.value x) (T.value y)) }
@@ -37,7 +37,7 @@ pub fn div_round<T: Integer>(x: T, y: T) -> T
 /// # Panics
 ///
 /// In plain Rust, if `y` is 0, or if the quotient does not fit.
-pub fn div_round_even<T: Integer>(x: T, y: T) -> T
+pub fn div_round_even<T: Integer + Copy>(x: T, y: T) -> T
     requires in_range { T.fits (T.value x) × T.fits (T.value y) }
     requires nonzero { T.value y ≢ pos 0 }
     requires quotient_fits { EachFits T.fits (IsQuotient IsFloored (T.value x) (T.value y)) }
@@ -50,7 +50,7 @@ pub fn div_round_even<T: Integer>(x: T, y: T) -> T
 
 /// Returns the quotient rounded down, or the next number if the remainder is more than half of the divisor. If it
 /// is half of the divisor, returns the quotient rounded down if `half_down` is `true`.
-fn nearer<T: Integer>(below: T, rest: T, divisor: T, half_down: bool) -> T
+fn nearer<T: Integer + Copy>(below: T, rest: T, divisor: T, half_down: bool) -> T
     requires in_range { T.fits (T.value below) × T.fits (T.value rest) × T.fits (T.value divisor) }
     requires floored { (n : ℤ) × T.fits n
         × IsFloored n (T.value divisor) (T.value below) (T.value rest) }
@@ -67,7 +67,7 @@ fn nearer<T: Integer>(below: T, rest: T, divisor: T, half_down: bool) -> T
 
 /// Returns `true` if the remainder of a quotient rounded down is less than half of the divisor, or half of it
 /// and `half_down` is `true`.
-fn rounds_down<T: Integer>(rest: T, divisor: T, half_down: bool) -> bool
+fn rounds_down<T: Integer + Copy>(rest: T, divisor: T, half_down: bool) -> bool
     requires in_range { T.fits (T.value rest) × T.fits (T.value divisor) }
     requires within { LiesWithin (T.value divisor) (T.value rest) }
     ensures { IsTrue result ↔ IsDown (IsTrue half_down) (T.value divisor) (T.value rest) }
@@ -82,7 +82,7 @@ fn rounds_down<T: Integer>(rest: T, divisor: T, half_down: bool) -> bool
 }
 
 /// Returns `true` if the magnitude of `a` is below that of `b`. Neither is negative, or neither is positive.
-fn is_smaller<T: Integer>(a: T, b: T) -> bool
+fn is_smaller<T: Integer + Copy>(a: T, b: T) -> bool
     requires same_side { ((pos 0 ≤ℤ T.value a) × (pos 0 ≤ℤ T.value b))
         ⊎ ((T.value a ≤ℤ pos 0) × (T.value b ≤ℤ pos 0)) }
     ensures { IsTrue result ↔ (unsigned_abs (T.value a) < unsigned_abs (T.value b)) }

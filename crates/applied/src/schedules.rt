@@ -79,7 +79,7 @@ pub fn count<T: Fits>(from: T, to: T, schedule: Schedule<T>) -> Option<T>
 
 /// Returns the later of `now` and the latest first time of the schedules.
 #[tactic(auto, using(num_integer::proofs::ForCallers::linear))]
-fn latest<T: Integer>(now: T, schedules: &[Schedule<T>]) -> T
+fn latest<T: Integer + Copy>(now: T, schedules: &[Schedule<T>]) -> T
     requires now_in_range { T.fits (T.value now) }
     requires in_range { All (λ s. T.fits (T.value s.0) × T.fits (T.value s.1)) schedules.now }
     ensures in_range { T.fits (T.value result) }
@@ -93,7 +93,7 @@ fn latest<T: Integer>(now: T, schedules: &[Schedule<T>]) -> T
 }
 
 /// Returns the larger of two numbers.
-fn maximum<T: Integer>(x: T, y: T) -> T
+fn maximum<T: Integer + Copy>(x: T, y: T) -> T
     requires in_range { T.fits (T.value x) × T.fits (T.value y) }
     ensures in_range { T.fits (T.value result) }
     ensures maximum { IsLeastFrom (T.value x) (λ z. T.value y ≤ℤ z) (T.value result) }

@@ -1,5 +1,7 @@
 -- Lemmas for callers. The laws are in proofs/Laws.antt.
 
+-- A result is there if something meets its condition.
+pub use Rattle.calendar.proofs.FoundOrBeyond.{is_found}
 -- A month has 28 to 31 days.
 pub use Rattle.calendar.proofs.MonthLengths.{month_length_range}
 -- Equal month numbers are those of one year and month, and a date of a later month is later.

@@ -1,6 +1,12 @@
--- Numbers that fit an `i64`, or lie beyond it.
-use Rattle.calendar.proofs.Common.{◌≡◌, ℤ, FitsSigned, MatchOption, Option, Result, Ok, Err, Some, None, w64, SomeIff, subst, sym}
+-- Results that exist, and numbers that fit an `i64` or lie beyond it.
+use Rattle.calendar.proofs.Common.{◌≡◌, ℤ, FitsSigned, MatchOption, Option, Result, Ok, Err, Some, None, w64, SomeIff, refl, subst, sym}
+use Rattle.std.specs.Prelude.{IsSome}
 use Rattle.std.specs.Result.{OkIff, result_ok}
+
+-- A result is there if something meets its condition.
+pub is_found : {A : Type 0} (P : A → Type 0) (o : Option A) → (x : A) × P x → MatchOption o ((x : A) → ¬ (P x)) P → IsSome o
+is_found P None (x, holds) none = absurd (none x holds)
+is_found P (Some found) exists is = refl
 
 -- a number that is the only one, if it fits, and else no number that fits
 pub only_or_beyond : (P : ℤ → Type 0) (o : Option ℤ) {found : ℤ} → ((a b : ℤ) → P a → P b → a ≡ b) → SomeIff o (FitsSigned w64 found) found → P found → MatchOption o ((z : ℤ) → P z → ¬ (FitsSigned w64 z)) P

@@ -67,43 +67,41 @@ after_march year next month same from to =
       | inr february ↦ rw february (omega (arith, ints, third_month year, next_first_day year))
     ]
 
--- the first of a month, by the days from 1 March of the year that has the month as one of its months 3 to 14
-pub month_of_march : (era : ℤ) (year month back years months : ℕ) → 1 ≤ month → month ≤ 12 → (month ≤ 2 → back ≡ 1) → (2 < month → back ≡ 0)
-    → ((e : ℤ) → day_number (pos 400 *ℤ e +ℤ pos (year + 400 - back)) 3 1 ≡ pos 146097 *ℤ e +ℤ pos years -ℤ pos 719468)
-    → (month + 12 * back ≤ 12 → (y : ℤ) → days_before_month y (month + 12 * back) ≡ days_before_month y 3 + months) → (12 < month + 12 * back → months + 97 ≡ 31 * (month + 12 * back))
+-- the first of a month, by the days from the last 1 March
+pub month_of_march : (era : ℤ) (year month after years months : ℕ) → 1 ≤ month → month ≤ 12 → (month ≤ 2 → after ≡ 0) → (2 < month → after ≡ 1)
+    → ((e : ℤ) → day_number (pos 400 *ℤ e +ℤ pos (year + 399 + after)) 3 1 ≡ pos 146097 *ℤ e +ℤ pos years -ℤ pos 719468)
+    → (month ≤ 2 → months ≡ 275 + 31 * month) → (2 < month → (y : ℤ) → days_before_month y month ≡ days_before_month y 3 + months)
     → day_number (pos 400 *ℤ era +ℤ pos year) month 1 ≡ pos 146097 *ℤ era +ℤ pos (years + months) -ℤ pos 865565
-month_of_march era year month back years months from to before same first within late = elim (cases_lt 2 month) [
-  | inl after ↦
-      let none : back ≡ 0 = same after in
-      let own : month + 12 * back ≡ month = omega arith in
-      let place : pos 400 *ℤ (era -ℤ pos 1) +ℤ pos (year + 400 - back) ≡ pos 400 *ℤ era +ℤ pos year = omega (arith, ints) in
+month_of_march era year month after years months from to before same first early late = elim (cases_lt 2 month) [
+  | inl later ↦
+      let one : after ≡ 1 = same later in
+      let place : pos 400 *ℤ (era -ℤ pos 1) +ℤ pos (year + 399 + after) ≡ pos 400 *ℤ era +ℤ pos year = omega (arith, ints) in
       let march = rw place at (first (era -ℤ pos 1)) in
-      let days = rw own at (within (omega arith) (pos 400 *ℤ era +ℤ pos year)) in
+      let days = late later (pos 400 *ℤ era +ℤ pos year) in
       omega (arith, ints, march, days)
-  | inr early ↦
-      let one : back ≡ 1 = before early in
+  | inr sooner ↦
+      let none : after ≡ 0 = before sooner in
       let march = first (era -ℤ pos 1) in
-      let own = after_march (pos 400 *ℤ (era -ℤ pos 1) +ℤ pos (year + 400 - back)) (pos 400 *ℤ era +ℤ pos year) month (omega (arith, ints)) from early in
-      let days : months + 97 ≡ 31 * (month + 12 * back) = late (omega arith) in
+      let own = after_march (pos 400 *ℤ (era -ℤ pos 1) +ℤ pos (year + 399 + after)) (pos 400 *ℤ era +ℤ pos year) month (omega (arith, ints)) from sooner in
+      let days : months ≡ 275 + 31 * month = early sooner in
       omega (arith, ints, march, own, days)
 ]
 
 -- the days before a month of the year, likewise
-pub days_before : (year : ℤ) (month back months : ℕ) → 1 ≤ month → month ≤ 12 → (month ≤ 2 → back ≡ 1) → (2 < month → back ≡ 0)
-    → (month + 12 * back ≤ 12 → (y : ℤ) → days_before_month y (month + 12 * back) ≡ days_before_month y 3 + months) → (12 < month + 12 * back → months + 97 ≡ 31 * (month + 12 * back))
-    → (306 ≤ months + (1 - back) * days_in_year year) × (months + (1 - back) * days_in_year year ≡ days_before_month year month + 306)
-days_before year month back months from to before same within late = elim (cases_lt 2 month) [
-  | inl after ↦
-      let none : back ≡ 0 = same after in
-      let own : month + 12 * back ≡ month = omega arith in
-      let days = rw own at (within (omega arith) year) in
-      let whole : (1 - back) * days_in_year year ≡ days_in_year year = rw none (omega arith) in
+pub days_before : (year : ℤ) (month after months : ℕ) → 1 ≤ month → month ≤ 12 → (month ≤ 2 → after ≡ 0) → (2 < month → after ≡ 1)
+    → (month ≤ 2 → months ≡ 275 + 31 * month) → (2 < month → (y : ℤ) → days_before_month y month ≡ days_before_month y 3 + months)
+    → (306 ≤ months + after * days_in_year year) × (months + after * days_in_year year ≡ days_before_month year month + 306)
+days_before year month after months from to before same early late = elim (cases_lt 2 month) [
+  | inl later ↦
+      let one : after ≡ 1 = same later in
+      let days = late later year in
+      let whole : after * days_in_year year ≡ days_in_year year = rw one (omega arith) in
       (omega (arith, whole, days, third_month year), omega (arith, whole, days, third_month year))
-  | inr early ↦
-      let one : back ≡ 1 = before early in
-      let days : months + 97 ≡ 31 * (month + 12 * back) = late (omega arith) in
-      let nothing : (1 - back) * days_in_year year ≡ 0 = rw one (omega arith) in
-      let first : days_before_month year month ≡ 31 * (month - 1) = two_months year month from early in
+  | inr sooner ↦
+      let none : after ≡ 0 = before sooner in
+      let days : months ≡ 275 + 31 * month = early sooner in
+      let nothing : after * days_in_year year ≡ 0 = rw none (omega arith) in
+      let first : days_before_month year month ≡ 31 * (month - 1) = two_months year month from sooner in
       (omega (arith, nothing, days), omega (arith, nothing, days, first))
 ]
 

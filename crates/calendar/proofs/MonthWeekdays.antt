@@ -1,14 +1,16 @@
 -- The days of a month that have a given day of the week.
-use Rattle.calendar.proofs.Common.{◌≡◌, ◌+◌, ◌-◌, ◌*◌, ◌%◌, ◌<◌, ◌≤◌, ◌+ℤ◌, ◌-ℤ◌, ℕ, ℤ, pos, MatchOption, Option, Some, None, arith, refl, sym, by_lt_z, ints}
+use Rattle.calendar.proofs.Common.{◌≡◌, ◌↔◌, ◌+◌, ◌-◌, ◌*◌, ◌%◌, ◌<◌, ◌≤◌, ◌+ℤ◌, ◌-ℤ◌, ◌*ℤ◌, ℕ, ℤ, pos, negsuc, MatchOption, Option, Some, None, arith, refl, sym, by_lt_z, ints}
+use Rattle.std.specs.Prelude.{IsSome}
 use Rattle.calendar.specs.declared.date.Date.{Date}
 use Rattle.calendar.specs.declared.weekday.Weekday.{Weekday}
-use Rattle.calendar.specs.Dates.{HasParts, IsLastWeekdayOfMonth, IsNthWeekday, number_of}
+use Rattle.calendar.specs.Dates.{HasFifthWeekday, HasParts, IsLastWeekdayOfMonth, IsNthWeekday, number_of}
 use Rattle.calendar.specs.Laws.{LastWeekdayOfMonthIsOnly, NthWeekdayIsOnly}
 use Rattle.calendar.specs.Months.{IsDate, days_in_month}
 use Rattle.calendar.specs.Weekday.{weekday_number}
 use Rattle.calendar.specs.Weeks.{HasWeekday}
 use Rattle.calendar.specs.Years.{day_number}
 use Rattle.calendar.proofs.DateOrder.{only_date}
+use Rattle.calendar.proofs.FoundOrBeyond.{is_found}
 use Rattle.calendar.proofs.MonthLengths.{month_length_range}
 use Rattle.calendar.proofs.WeekdayPlaces.{days_earlier, same_day, weekday_within, weeks_apart}
 
@@ -35,6 +37,10 @@ only_nth_weekday year month weekday n a b h k =
     let apart = in_month a b (record { year_is = h.year_is; month_is = h.month_is; day_is = refl }) (record { year_is = k.year_is; month_is = k.month_is; day_is = refl }) in
     only_date a b (same_day weekday h.has_weekday k.has_weekday (omega (arith, ints, h.within_weeks, k.after_weeks)) (omega (arith, ints, k.within_weeks, h.after_weeks)))
 
+-- each month has a first day
+pub first_of_month : (year : ℤ) (month : ℕ) → 1 ≤ month → month ≤ 12 → IsDate year month 1
+first_of_month year month from to = record { month_from_one = from; month_to_twelve = to; day_from_one = omega arith; day_to_last = omega (arith, (month_length_range year month from to).0) }
+
 -- Each month has a first, a second, a third and a fourth of each day of the week.
 pub nth_weekday_exists : (year : ℤ) (month : ℕ) (weekday : Weekday) (n : ℕ) → 1 ≤ month → month ≤ 12 → 1 ≤ n → n ≤ 4 → (date : Date) × IsNthWeekday year month weekday n date
 nth_weekday_exists year month weekday n from to n_from n_to =
@@ -49,6 +55,33 @@ nth_weekday_exists year month weekday n from to n_from n_to =
       date,
       record { year_is = refl; month_is = refl; has_weekday = weeks_apart (pos (n - 1)) (omega (arith, ints)) has_weekday; after_weeks = omega arith; within_weeks = omega arith },
     )
+
+-- so each of these results is there
+pub first_four : (year : ℤ) (month : ℕ) (weekday : Weekday) (n : ℕ) (o : Option Date) → MatchOption o ((date : Date) → ¬ (IsNthWeekday year month weekday n date)) (λ date. IsNthWeekday year month weekday n date)
+    → 1 ≤ month → month ≤ 12 → 1 ≤ n → n ≤ 4 → IsSome o
+first_four year month weekday n o found from to n_from n_to = is_found (IsNthWeekday year month weekday n) o (nth_weekday_exists year month weekday n from to n_from n_to) found
+
+-- a fifth is 28 days after such a day
+fifth_weekday : {year : ℤ} {month : ℕ} {weekday : Weekday} → 1 ≤ month → month ≤ 12 → HasFifthWeekday year month weekday → (date : Date) × IsNthWeekday year month weekday 5 date
+fifth_weekday {year} {month} from to h =
+    let (least, most) = month_length_range year month from to in
+    let date : Date = record {
+      year = year;
+      month = month;
+      day_of_month = h.day + 28;
+      valid = record { month_from_one = from; month_to_twelve = to; day_from_one = omega arith; day_to_last = h.before_four_weeks };
+    } in
+    (date, record { year_is = refl; month_is = refl; has_weekday = weeks_apart (pos 4) (omega (arith, ints)) h.has_weekday; after_weeks = omega (arith, h.from_one); within_weeks = omega (arith, most, h.before_four_weeks) })
+
+has_fifth : (date : Date) {year : ℤ} {month : ℕ} {weekday : Weekday} → IsNthWeekday year month weekday 5 date → HasFifthWeekday year month weekday
+has_fifth date {year} {month} k =
+    let before : day_number year month (date.day_of_month - 28) ≡ number_of date +ℤ pos 7 *ℤ negsuc 3 = rw (k.year_is, k.month_is) (omega (arith, ints, k.after_weeks)) in
+    record { day = date.day_of_month - 28; from_one = omega (arith, k.after_weeks); before_four_weeks = omega (arith, k.after_weeks, rw (k.year_is, k.month_is) at date.valid.day_to_last); has_weekday = weeks_apart (negsuc 3) before k.has_weekday }
+
+pub fifth_is_found : (year : ℤ) (month : ℕ) (weekday : Weekday) (o : Option Date) → MatchOption o ((date : Date) → ¬ (IsNthWeekday year month weekday 5 date)) (λ date. IsNthWeekday year month weekday 5 date)
+    → 1 ≤ month → month ≤ 12 → IsSome o ↔ HasFifthWeekday year month weekday
+fifth_is_found year month weekday None none from to = (λ some. absurd (cc), λ h. is_found (IsNthWeekday year month weekday 5) None (fifth_weekday from to h) none)
+fifth_is_found year month weekday (Some date) found from to = (λ some. has_fifth date found, λ h. refl)
 
 -- ---- the last of them
 

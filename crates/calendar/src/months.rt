@@ -4,7 +4,7 @@ ghost use Rattle.std.specs.Prelude.{◌≡◌, ◌+◌, ◌<◌, ◌≤◌};
 ghost use Rattle.calendar.specs.Months.{IsDate, days_before_month, days_in_month};
 ghost use Rattle.calendar.specs.Years.{days_in_year};
 
-use crate::eras::{DAYS_FROM_MARCH, days_of_months, month_and_day, years_back};
+use crate::eras::{DAYS_FROM_MARCH, days_from_march, from_march_on, month_and_day};
 use crate::{days_in_year, is_leap_year};
 use integer_core::guards::check;
 
@@ -52,9 +52,7 @@ pub(crate) const fn days_before_month(year: i64, month: u8) -> u16
     requires to_twelve { month ≤ 12 }
     ensures { result ≡ days_before_month year month }
 {
-    let back = years_back(month);
-    let days = days_of_months(month + 12 * back) as u16;
-    days + (1 - back as u16) * days_in_year(year) - DAYS_FROM_MARCH as u16
+    days_from_march(month) + from_march_on(month) * days_in_year(year) - DAYS_FROM_MARCH as u16
 }
 
 /// Returns the month and the day of the month `days` days after 1 January of `year`.

@@ -2,8 +2,10 @@
 
 ghost use Rattle.std.specs.Prelude.{◌≡◌, ◌≢◌, ◌↔◌, ◌<◌, ◌≤◌, ℕ, ℤ, List, FitsSigned, IfSome, IsTrue, MatchOption, OnOk, Some, Ok};
 ghost use Rattle.std.specs.Fmt.{WritesInCalls};
+ghost use Rattle.std.specs.Fmt.{padded as padded_string};
 ghost use Rattle.std.specs.Int.{w64};
 ghost use Rattle.calendar.specs.Text.{IsShortest, error_text, padded, text_of, week_text, with_number, year_text};
+ghost use Rattle.integer_core.specs.Padded.{padded_text};
 ghost use Rattle.calendar.specs.declared.date.Date.{Date};
 
 use crate::{Date, IsoWeek};
@@ -19,6 +21,8 @@ pub struct DateError;
 impl fmt::Display for DateError {
     ghost output = { λ _. Some error_text };
 
+    ghost styled_output = { λ _ spec. Some (padded_string spec error_text) };
+
     fn fmt<W: fmt::Write>(&self, f: &mut fmt::Formatter<W>) -> fmt::Result {
         f.pad("not the text of a date")
     }
@@ -31,6 +35,8 @@ impl Error for DateError {}
 /// `Date::new(10000, 1, 1).unwrap().to_string()` is `"+10000-01-01"`.
 impl fmt::Display for Date {
     ghost output = { λ date. Some (text_of date) };
+
+    ghost styled_output = { λ date spec. Some (padded_text spec (text_of date)) };
 
     fn fmt<W: fmt::Write>(&self, f: &mut fmt::Formatter<W>) -> fmt::Result {
         self.pad(f)
@@ -50,6 +56,8 @@ impl Text for Date {
 /// `"2004-W53"`.
 impl fmt::Display for IsoWeek {
     ghost output = { λ week. Some (week_text week) };
+
+    ghost styled_output = { λ week spec. Some (padded_text spec (week_text week)) };
 
     fn fmt<W: fmt::Write>(&self, f: &mut fmt::Formatter<W>) -> fmt::Result {
         self.pad(f)

@@ -99,6 +99,8 @@ pub struct WeekdayError;
 impl fmt::Display for WeekdayError {
     ghost output = { λ _. Some weekday_error_text };
 
+    ghost styled_output = { λ _ spec. Some (padded spec weekday_error_text) };
+
     fn fmt<W: fmt::Write>(&self, f: &mut fmt::Formatter<W>) -> fmt::Result {
         f.pad("not the name of a day of the week")
     }

@@ -1,8 +1,8 @@
 //! The first or last day with a given day of the week, near another day or in a month.
 
-ghost use Rattle.std.specs.Prelude.{◌≤◌, ℤ, FitsSigned, MatchOption};
+ghost use Rattle.std.specs.Prelude.{◌≡◌, ◌↔◌, ◌≤◌, ℤ, FitsSigned, IsSome, MatchOption};
 ghost use Rattle.std.specs.Int.{w64};
-ghost use Rattle.calendar.specs.Dates.{IsLastWeekdayOfMonth, IsNextLastWeekday, IsNthWeekday};
+ghost use Rattle.calendar.specs.Dates.{HasFifthWeekday, IsLastWeekdayOfMonth, IsNextLastWeekday, IsNthWeekday};
 ghost use Rattle.calendar.specs.Weeks.{IsFirstWeekday, IsLastWeekday};
 ghost use Rattle.calendar.specs.declared.date.Date.{Date};
 
@@ -32,11 +32,14 @@ pub fn last_weekday_on_or_before(day: i64, weekday: Weekday) -> Option<i64>
 }
 
 /// Returns the date of the `n`-th `weekday` of the month, counted from 1, or `None` if there is no such
-/// day. `nth_weekday_of_month(2026, 11, Weekday::Thursday, 4)` is `Date::new(2026, 11, 26)`.
+/// day. Each month has the first four. `nth_weekday_of_month(2026, 11, Weekday::Thursday, 4)` is
+/// `Date::new(2026, 11, 26)`, and `nth_weekday_of_month(2026, 11, Weekday::Thursday, 5)` is `None`.
 pub fn nth_weekday_of_month(year: i64, month: u8, weekday: Weekday, n: u8) -> Option<Date>
-    ensures { MatchOption result
+    ensures answer { MatchOption result
         ((date : Date) → ¬ (IsNthWeekday year month weekday n date))
         (λ date. IsNthWeekday year month weekday n date) }
+    ensures exists { 1 ≤ month → month ≤ 12 → 1 ≤ n → n ≤ 4 → IsSome result }
+    ensures fifth { 1 ≤ month → month ≤ 12 → n ≡ 5 → IsSome result ↔ HasFifthWeekday year month weekday }
 {
     let first = Date::new(year, month, 1)?;
     if !matches!(n, 1..=5) {

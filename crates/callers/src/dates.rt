@@ -3,7 +3,7 @@
 ghost use Rattle.std.specs.Prelude.{[], ◌∷◌, ◌++◌, ◌^◌, List, length, ◌≡◌, ◌⊎◌, ◌↔◌, ◌+◌, ◌-◌, ◌<◌, ◌≤◌, ◌<ℤ◌, ◌+ℤ◌, ◌-ℤ◌, FitsSigned, IfOk, IfSome, IsTrue, MatchOption, Ok, map, pos, slice_index, ℕ, ℤ};
 ghost use Rattle.std.specs.Int.{w64};
 ghost use Rattle.std.specs.Option.{SomeIff};
-ghost use Rattle.calendar.specs.Dates.{HasMonths, IsEarlier, IsLastWeekdayOfMonth, IsMonthsAfter, IsMonthsBetween, IsNextLastWeekday, IsNthWeekday, IsYearsBetween, day_numbers, number_of, year_day_of};
+ghost use Rattle.calendar.specs.Dates.{HasFifthWeekday, HasMonths, IsEarlier, IsLastWeekdayOfMonth, IsMonthsAfter, IsMonthsBetween, IsNextLastWeekday, IsNthWeekday, IsYearsBetween, day_numbers, number_of, year_day_of};
 ghost use Rattle.calendar.specs.IsoWeeks.{HasIsoWeek, HasIsoWeeks, IsDayOfIsoWeek, IsInIsoWeek};
 ghost use Rattle.calendar.specs.Months.{IsDate, days_in_month, month_number};
 ghost use Rattle.calendar.specs.Weekday.{iso_number};
@@ -408,6 +408,29 @@ pub fn second_friday_of_month(year: i64, month: u8) -> Date
     ensures { IsNthWeekday year month Friday 2 result }
 {
     nth_weekday_of_month(year, month, Weekday::Friday, 2).unwrap()
+}
+
+/// Returns the second Tuesday of a month, or `None` if `month` is not from 1 to 12.
+pub fn second_tuesday(year: i64, month: u8) -> Option<Date>
+    ensures { MatchOption result (¬ ((1 ≤ month) × (month ≤ 12)))
+        (λ date. IsNthWeekday year month Weekday.Tuesday 2 date) }
+{
+    match month {
+        1..=12 => Some(nth_weekday_of_month(year, month, Weekday::Tuesday, 2).unwrap()),
+        _ => None,
+    }
+}
+
+/// Returns `true` if there are five Sundays in the month.
+pub fn has_five_sundays(year: i64, month: u8) -> bool
+    requires from_one { 1 ≤ month }
+    requires to_twelve { month ≤ 12 }
+    ensures { IsTrue result ↔ HasFifthWeekday year month Weekday.Sunday }
+{
+    match nth_weekday_of_month(year, month, Weekday::Sunday, 5) {
+        Some(_) => true,
+        None => false,
+    }
 }
 
 /// Returns the last Friday of a month, or `None` if there is no such month.

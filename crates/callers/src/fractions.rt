@@ -5,7 +5,8 @@ ghost use Rattle.std.specs.Int.{int_signum, w64};
 ghost use Rattle.num_integer.specs.Division.{IsCeiled, IsFloored, IsQuotient, IsRemainder, IsTruncated};
 ghost use Rattle.num_integer.specs.Divisors.{IsGreatestCommonDivisor};
 ghost use Rattle.num_integer.specs.Range.{EachFits};
-ghost use Rattle.ratio64.specs.Fraction.{IsExact, IsFraction, IsOutsideI64};
+ghost use Rattle.ratio64.specs.Fraction.{IsExact, IsFraction, IsOutsideI64, IsReduced};
+ghost use Rattle.ratio64.specs.Limiting.{IsNearestWithin};
 ghost use Rattle.ratio64.specs.Ratio.{AnswersFraction, den_of, num_of};
 ghost use Rattle.ratio64.specs.Rounding.{AnswersInParts, IsRounded};
 ghost use Rattle.ratio64.specs.declared.fraction.Ratio.{Ratio};
@@ -24,6 +25,18 @@ pub fn unit_fraction(parts: u32) -> Ratio
     ensures { IsExact (pos 1) (pos parts) (num_of result) (den_of result) }
 {
     Ratio::new(1, i64::from(parts)).unwrap()
+}
+
+/// `gear_pair(314159, 100000, 120)` is `(355, 113)`. Returns the nearest pair to `num / den` in lowest terms, with at most
+/// `max_teeth` teeth on the second gear.
+pub fn gear_pair(num: i64, den: i64, max_teeth: i64) -> (i64, i64)
+    requires den { pos 0 <ℤ den }
+    requires teeth { pos 0 <ℤ max_teeth }
+    ensures reduced { IsReduced result.0 result.1 }
+    ensures nearest { IsNearestWithin num den max_teeth result.0 result.1 }
+{
+    let ratio = Ratio::new(num, den).unwrap().limit_denominator(max_teeth);
+    (ratio.num(), ratio.den())
 }
 
 // ---- results as a caller uses them, with no proof file

@@ -14,8 +14,11 @@
 //! | `dates.rt` | `calendar`: dates, days of the week, weeks, months |
 //! | `pages.rt` | `applied`: pages and parts, shares, offsets, schedules |
 //! | `combinations.rt` | `applied`: combinations and their ranks |
-//! | `lists.rt` | `applied`: multiples of lists, reduced pairs, a rolling hash |
+//! | `lists.rt` | `applied`: multiples and sums of lists, reduced pairs, a rolling hash |
 //! | `rounding.rt` | `applied`: nearest quotients, roots, powers, logarithms, midpoints, factorials |
+//! | `amounts.rt` | a divisor that is computed in the call, a wider type and back, equal parts |
+//! | `divisors.rt` | sums of divisors, first common multiples, a bound of a gcd |
+//! | `powers.rt` | `modular`: powers as natural numbers, sums of exponents |
 //! | `tasks.rt` | everyday tasks: pages of items, a cipher, amounts of money, a recipe, a line of bytes |
 //!
 //! Most functions have no proof file: the prover's search proves them from the contracts of what they call. The proof file of
@@ -24,13 +27,16 @@
 //! No crate depends on this one, and it has no tests.
 #![tactic(auto)]
 
+pub mod amounts;
 pub mod combinations;
 pub mod dates;
+pub mod divisors;
 pub mod fractions;
 pub mod lists;
 pub mod matched;
 pub mod pages;
 pub mod plain;
+pub mod powers;
 pub mod residues;
 pub mod rounding;
 pub mod rows;

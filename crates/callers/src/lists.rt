@@ -1,15 +1,17 @@
-//! Functions that call `applied` for multiples of lists, hashes of windows and reduced pairs.
+//! Functions that call `applied` for multiples and sums of lists, hashes of windows and reduced pairs.
 
-ghost use Rattle.std.specs.Prelude.{◌≡◌, ◌≢◌, ◌<◌, ◌*◌, ◌*ℤ◌, ◌∷◌, ◌++◌, [], List, MatchOption, length, map, pos, take, ℕ};
-ghost use Rattle.std.specs.Int.{FitsUnsignedBits};
+ghost use Rattle.std.specs.Prelude.{◌≡◌, ◌≢◌, ◌<◌, ◌*◌, ◌*ℤ◌, ◌∷◌, ◌++◌, [], All, FitsSigned, List, MatchOption, length, map, pos, take, ℕ};
+ghost use Rattle.std.specs.Int.{FitsUnsignedBits, w64};
 ghost use Rattle.num_integer.specs.Divisors.{IsGreatestCommonDivisor};
 ghost use Rattle.num_integer.specs.Range.{EachFits};
 ghost use Rattle.modular.specs.Congruences.{IsResidue};
 ghost use Rattle.applied.specs.Hashes.{weighted_sum};
 ghost use Rattle.applied.specs.Lists.{IsLeastCommonMultipleOf};
 ghost use Rattle.applied.specs.ReducedPairs.{HasSignOf};
+ghost use Rattle.applied.specs.Shares.{signed_sum};
 
 use applied::coprime::reduced;
+use applied::lists::checked::{dot_product, sum_of};
 use applied::rolling_hash::RollingHash;
 use num_integer::{Integer, checked};
 
@@ -27,6 +29,39 @@ pub fn period_by_a_loop(periods: &[u64]) -> Option<u64>
         period = checked::lcm(period, *next)?;
     }
     Some(period)
+}
+
+// ---- sums
+
+/// `total_of(&[1999, -500])` is `Some(1499)`. Returns the sum of prices and rebates, or `None` if it does not fit.
+pub fn total_of(prices: &[i64]) -> Option<i64>
+    requires { All (FitsSigned w64) prices.now }
+    ensures { MatchOption result
+        (¬ (FitsSigned w64 (signed_sum (map (λ x. x) prices.now))))
+        (λ total. total ≡ signed_sum (map (λ x. x) prices.now)) }
+{
+    sum_of(prices)
+}
+
+/// `invoice_total(&[(2, 1999), (1, 501)])` is `Some(4499)`. Returns the sum of the quantities times their prices, or `None` if it does not
+/// fit.
+pub fn invoice_total(lines: &[(i64, i64)]) -> Option<i64>
+    requires { All (λ line. FitsSigned w64 line.0 × FitsSigned w64 line.1) lines.now }
+    ensures { MatchOption result
+        (¬ (FitsSigned w64 (signed_sum (map (λ line. line.0 *ℤ line.1) lines.now))))
+        (λ total. total ≡ signed_sum (map (λ line. line.0 *ℤ line.1) lines.now)) }
+{
+    dot_product(lines)
+}
+
+/// Returns the same at an unsigned type.
+pub fn natural_invoice_total(lines: &[(u64, u64)]) -> Option<u64>
+    ensures { MatchOption result
+        (¬ (FitsUnsignedBits 64 (signed_sum (map (λ line. pos line.0 *ℤ pos line.1) lines.now))))
+        (λ total. pos total ≡ signed_sum (map (λ line. pos line.0 *ℤ pos line.1) lines.now)) }
+{
+    let total = dot_product(lines)?;
+    Some(total)
 }
 
 // ---- hashes

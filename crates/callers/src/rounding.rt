@@ -11,7 +11,7 @@ ghost use Rattle.num_integer.specs.Division.{IsFloored, IsQuotient};
 ghost use Rattle.num_integer.specs.Range.{EachFits};
 ghost use Rattle.applied.specs.Counting.{falling};
 ghost use Rattle.applied.specs.Powers.{IsLogarithm};
-ghost use Rattle.applied.specs.Rounding.{IsNearest, IsNearestEven};
+ghost use Rattle.applied.specs.Rounding.{AnswersQuotient, IsNearest, IsNearestEven};
 
 use applied::counting::{self, falling};
 use applied::halving::{lower_bound, midpoint};
@@ -76,6 +76,38 @@ pub fn nearest_checked(total: i64, count: i64) -> Option<i64>
         return None;
     };
     Some(quotient)
+}
+
+// ---- nearest quotients of products
+
+/// `tax_of(1999, 19)` is `Some(380)`. Returns the tax of so many percent on an amount. A half is rounded away from zero. The product need
+/// not fit.
+pub fn tax_of(amount: i64, percent: i64) -> Option<i64>
+    ensures { AnswersQuotient IsNearest (FitsSigned w64) (λ x. x) (amount *ℤ percent) (pos 100) result }
+{
+    rounding::checked::product_div_round(amount, percent, 100)
+}
+
+/// `net_of_gross(11900, 119)` is `Some(10000)`. Returns the amount that is the gross amount with a tax. `percent` is what the gross amount
+/// is of it, such as 119 with a tax of 19 percent. A half is rounded to the even number.
+pub fn net_of_gross(gross: i64, percent: i64) -> Option<i64>
+    ensures { MatchOption result
+        (¬ ((percent ≢ pos 0) × EachFits (FitsSigned w64) (IsQuotient IsNearestEven (gross *ℤ pos 100) percent)))
+        (λ net. IsQuotient IsNearestEven (gross *ℤ pos 100) percent net) }
+{
+    match rounding::checked::product_div_round_even(gross, 100, percent) {
+        Some(net) => Some(net),
+        None => None,
+    }
+}
+
+/// Returns the part of an amount, rounded to the nearest integer. It always fits.
+pub fn nearest_part_of(amount: u64, part: u64, whole: u64) -> u64
+    requires within { part ≤ whole }
+    requires positive { 0 < whole }
+    ensures { IsQuotient IsNearest (pos (amount * part)) (pos whole) (pos result) }
+{
+    rounding::checked::product_div_round(amount, part, whole).unwrap()
 }
 
 // ---- roots and logarithms

@@ -295,7 +295,7 @@ impl U64Division {
 }
 
 /// Returns why a number has no quotient or multiple by a divisor.
-fn reason_for_divisor(divisor: i64) -> u32
+pub(crate) fn reason_for_divisor(divisor: i64) -> u32
     ensures reason { IsReason (divisor ≡ pos 0) result }
     ensures refused { result ≢ 0 }
 {

@@ -55,7 +55,7 @@ pub extern "C" fn cellarcove_lcm_of_u64(numbers: &[u64]) -> U64Answer
 }
 
 /// Reads each number. The proof knows of a signed number that it fits once it is read.
-fn read_each(numbers: &[i64])
+pub(crate) fn read_each(numbers: &[i64])
     ensures { All (FitsSigned w64) numbers.now }
 {
     for number in numbers {

@@ -117,7 +117,7 @@ fn next_of_several<T: Modular + Fits, C: Congruence<T>>(
 }
 
 /// Copies the congruences and returns `true`, or returns `false` if a modulus is not positive.
-fn copy<T: Integer, C: Congruence<T>>(congruences: &[C], pairs: &mut [(T, T)]) -> bool
+fn copy<T: Integer + Copy, C: Congruence<T>>(congruences: &[C], pairs: &mut [(T, T)]) -> bool
     requires { length pairs.old ≡ length congruences.now }
     ensures pairs { IsTrue result → pairs.new ≡ map C.pair_of congruences.now }
     ensures in_range { IsTrue result

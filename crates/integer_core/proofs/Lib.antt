@@ -21,3 +21,4 @@ pub mod Least
 pub mod DivisionKinds
 pub mod IntegerPowers
 pub mod WrittenTexts
+pub mod PaddedTexts

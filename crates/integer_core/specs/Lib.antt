@@ -11,3 +11,4 @@ pub mod Bezout
 pub mod GcdRuns
 pub mod Least
 pub mod Checked
+pub mod Padded

@@ -33,7 +33,7 @@ struct Row<A> {
     y: A,
 }
 
-impl<T: Integer> Row<T> {
+impl<T: Integer + Copy> Row<T> {
     /// Returns the first operand as a row.
     fn of_first(a: T) -> Self
         ensures remainder { T.value result.remainder ≡ T.value a }
@@ -59,7 +59,7 @@ impl<T: Integer> Row<T> {
         ensures x { T.value result.x ≡ sign (T.value self.remainder) *ℤ T.value self.x }
         ensures y { T.value result.y ≡ sign (T.value self.remainder) *ℤ T.value self.y }
     {
-        if is_negative(self.remainder) {
+        if is_negative(*&self.remainder) {
             ExtendedGcd {
                 gcd: negated(self.remainder),
                 x: negated(self.x),
@@ -77,7 +77,7 @@ impl<T: Integer> Row<T> {
 
 /// Returns the row whose remainder is the greatest common divisor up to its sign, and the number of
 /// iterations. The loop never computes the row with the remainder 0, whose coefficients need not fit.
-fn last_row<T: Integer>(a: T, b: T) -> (Row<T>, u32)
+fn last_row<T: Integer + Copy>(a: T, b: T) -> (Row<T>, u32)
     requires in_range { T.fits (T.value a) × T.fits (T.value b) }
     requires nonzero { T.value b ≢ pos 0 }
     requires has_pair { HasPair T.fits (T.value a) (T.value b) }
@@ -103,8 +103,8 @@ fn last_row<T: Integer>(a: T, b: T) -> (Row<T>, u32)
     let mut turns = 0;
     'rows: while !previous.remainder.is_multiple_of(&current.remainder) {
         let (quotient, remainder) = previous.remainder.div_rem(&current.remainder);
-        let x = difference(previous.x, product(quotient, current.x));
-        let y = difference(previous.y, product(quotient, current.y));
+        let x = difference(previous.x, product(*&quotient, *&current.x));
+        let y = difference(previous.y, product(quotient, *&current.y));
         previous = current;
         current = Row { remainder, x, y };
         turns += 1;
@@ -120,7 +120,7 @@ fn last_row<T: Integer>(a: T, b: T) -> (Row<T>, u32)
 ///
 /// In plain Rust, if the greatest common divisor does not fit, or if the type is unsigned and neither number
 /// divides the other.
-pub fn extended_gcd_counted<T: Integer>(a: T, b: T) -> (ExtendedGcd<T>, u32)
+pub fn extended_gcd_counted<T: Integer + Copy>(a: T, b: T) -> (ExtendedGcd<T>, u32)
     requires a_in_range { T.fits (T.value a) }
     requires b_in_range { T.fits (T.value b) }
     requires gcd_fits { GcdFits T.fits (T.value a) (T.value b) }
@@ -138,7 +138,7 @@ pub fn extended_gcd_counted<T: Integer>(a: T, b: T) -> (ExtendedGcd<T>, u32)
         ≤ unsigned_abs (T.value b) }
 {
     check_pair(&a, &b, "no pair of coefficients fits the unsigned type");
-    if is_zero(b) {
+    if is_zero(*&b) {
         (Row::of_first(a).normalized(), 0)
     } else {
         let (row, turns) = last_row(a, b);

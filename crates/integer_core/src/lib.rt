@@ -39,7 +39,8 @@ pub trait Integer: Copy + Num + PartialOrd + Ord + Eq {
     /// Returns the quotient rounded toward zero, and its remainder. `(-8).div_rem(&3)` is
     /// `(-2, -2)`.
     ///
-    /// [`Fits::quotient_fits`] tests the domain, and [`checked::div_rem`] returns `None` outside it.
+    /// [`Fits::quotient_fits`] tests the precondition, and [`checked::div_rem`] returns `None` if
+    /// it does not hold.
     ///
     /// # Panics
     ///
@@ -56,7 +57,8 @@ pub trait Integer: Copy + Num + PartialOrd + Ord + Eq {
 
     /// Returns the quotient rounded down. `(-8).div_floor(&3)` is `-3`.
     ///
-    /// [`Fits::quotient_fits`] tests the domain, and [`checked::div_floor`] returns `None` outside it.
+    /// [`Fits::quotient_fits`] tests the precondition, and [`checked::div_floor`] returns `None` if
+    /// it does not hold.
     ///
     /// # Panics
     ///
@@ -74,7 +76,7 @@ pub trait Integer: Copy + Num + PartialOrd + Ord + Eq {
     /// Returns the remainder of the quotient rounded down, which is 0 or has the sign of `other`.
     /// `(-8).mod_floor(&3)` is `1`.
     ///
-    /// [`checked::mod_floor`] returns `None` outside the domain.
+    /// [`checked::mod_floor`] returns `None` if the precondition does not hold.
     ///
     /// # Panics
     ///
@@ -89,8 +91,8 @@ pub trait Integer: Copy + Num + PartialOrd + Ord + Eq {
 
     /// Returns the quotient rounded down, and its remainder. `(-8).div_mod_floor(&3)` is `(-3, 1)`.
     ///
-    /// [`Fits::quotient_fits`] tests the domain, and [`checked::div_mod_floor`] returns `None` outside
-    /// it.
+    /// [`Fits::quotient_fits`] tests the precondition, and [`checked::div_mod_floor`] returns
+    /// `None` if it does not hold.
     ///
     /// # Panics
     ///
@@ -110,7 +112,8 @@ pub trait Integer: Copy + Num + PartialOrd + Ord + Eq {
 
     /// Returns the quotient rounded up. `8.div_ceil(&3)` is `3`.
     ///
-    /// [`Fits::quotient_fits`] tests the domain, and [`checked::div_ceil`] returns `None` outside it.
+    /// [`Fits::quotient_fits`] tests the precondition, and [`checked::div_ceil`] returns `None` if
+    /// it does not hold.
     ///
     /// # Panics
     ///
@@ -132,8 +135,8 @@ pub trait Integer: Copy + Num + PartialOrd + Ord + Eq {
     /// Returns the quotient rounded up, times `other`. `23.next_multiple_of(&8)` is `24`, and
     /// `23.next_multiple_of(&-8)` is `16`.
     ///
-    /// [`Fits::next_multiple_fits`] tests the domain, and [`checked::next_multiple_of`] returns `None`
-    /// outside it.
+    /// [`Fits::next_multiple_fits`] tests the precondition, and [`checked::next_multiple_of`]
+    /// returns `None` if it does not hold.
     ///
     /// # Panics
     ///
@@ -149,7 +152,7 @@ pub trait Integer: Copy + Num + PartialOrd + Ord + Eq {
             (Self.value result) }
     {
         let m = self.mod_floor(other);
-        if is_zero(m) {
+        if is_zero(*&m) {
             *self
         } else {
             sum(*self, difference(*other, m))
@@ -159,8 +162,8 @@ pub trait Integer: Copy + Num + PartialOrd + Ord + Eq {
     /// Returns the quotient rounded down, times `other`. `23.prev_multiple_of(&8)` is `16`, and
     /// `23.prev_multiple_of(&-8)` is `24`.
     ///
-    /// [`Fits::prev_multiple_fits`] tests the domain, and [`checked::prev_multiple_of`] returns `None`
-    /// outside it.
+    /// [`Fits::prev_multiple_fits`] tests the precondition, and [`checked::prev_multiple_of`]
+    /// returns `None` if it does not hold.
     ///
     /// # Panics
     ///
@@ -208,7 +211,7 @@ pub trait Integer: Copy + Num + PartialOrd + Ord + Eq {
 
     /// Adds one.
     ///
-    /// [`checked::inc`] returns `None` outside the domain.
+    /// [`checked::inc`] returns `None` if the precondition does not hold.
     ///
     /// # Examples
     ///
@@ -232,7 +235,7 @@ pub trait Integer: Copy + Num + PartialOrd + Ord + Eq {
 
     /// Subtracts one.
     ///
-    /// [`checked::dec`] returns `None` outside the domain.
+    /// [`checked::dec`] returns `None` if the precondition does not hold.
     ///
     /// # Examples
     ///
@@ -257,7 +260,8 @@ pub trait Integer: Copy + Num + PartialOrd + Ord + Eq {
     /// Returns the greatest common divisor, which is never negative. `56.gcd(&42)` is `14`, and
     /// `0.gcd(&0)` is `0`.
     ///
-    /// [`Fits::gcd_fits`] tests the domain, and [`checked::gcd`] returns `None` outside it.
+    /// [`Fits::gcd_fits`] tests the precondition, and [`checked::gcd`] returns `None` if it does
+    /// not hold.
     ///
     /// # Panics
     ///
@@ -273,7 +277,8 @@ pub trait Integer: Copy + Num + PartialOrd + Ord + Eq {
     /// Returns the least common multiple, which is never negative. `7.lcm(&3)` is `21`, and
     /// `7.lcm(&0)` is `0`.
     ///
-    /// [`Fits::lcm_fits`] tests the domain, and [`checked::lcm`] returns `None` outside it.
+    /// [`Fits::lcm_fits`] tests the precondition, and [`checked::lcm`] returns `None` if it does
+    /// not hold.
     ///
     /// # Panics
     ///
@@ -290,8 +295,8 @@ pub trait Integer: Copy + Num + PartialOrd + Ord + Eq {
     /// Returns the greatest common divisor and the least common multiple. `10.gcd_lcm(&4)` is
     /// `(2, 20)`.
     ///
-    /// [`Fits::gcd_fits`] and [`Fits::lcm_fits`] test the domain, and [`checked::gcd_lcm`] returns
-    /// `None` outside it.
+    /// [`Fits::gcd_fits`] and [`Fits::lcm_fits`] test the precondition, and [`checked::gcd_lcm`]
+    /// returns `None` if it does not hold.
     ///
     /// # Panics
     ///
@@ -316,8 +321,8 @@ pub trait Integer: Copy + Num + PartialOrd + Ord + Eq {
     /// is `ExtendedGcd { gcd: 2, x: -9, y: 47 }`, and `5.extended_gcd(&0)` is
     /// `ExtendedGcd { gcd: 5, x: 1, y: 0 }`.
     ///
-    /// At a signed type [`Fits::gcd_fits`] tests the domain; [`checked::extended_gcd`] returns `None`
-    /// outside it.
+    /// At a signed type [`Fits::gcd_fits`] tests the precondition; [`checked::extended_gcd`]
+    /// returns `None` if it does not hold.
     ///
     /// # Panics
     ///
@@ -339,8 +344,8 @@ pub trait Integer: Copy + Num + PartialOrd + Ord + Eq {
     /// Returns [`Integer::extended_gcd`] and [`Integer::lcm`]. `10.extended_gcd_lcm(&4)` is
     /// `(ExtendedGcd { gcd: 2, x: 1, y: -2 }, 20)`.
     ///
-    /// [`Fits::gcd_fits`] and [`Fits::lcm_fits`] test the domain, and [`checked::extended_gcd_lcm`]
-    /// returns `None` outside it.
+    /// [`Fits::gcd_fits`] and [`Fits::lcm_fits`] test the precondition, and
+    /// [`checked::extended_gcd_lcm`] returns `None` if it does not hold.
     ///
     /// # Panics
     ///
@@ -373,7 +378,7 @@ pub trait Integer: Copy + Num + PartialOrd + Ord + Eq {
 
 /// Returns the quotient rounded toward zero, and its remainder. `div_rem(-8, 3)` is `(-2, -2)`.
 ///
-/// [`checked::div_rem`] returns `None` outside the domain.
+/// [`checked::div_rem`] returns `None` if the precondition does not hold.
 ///
 /// # Panics
 ///
@@ -391,7 +396,7 @@ pub fn div_rem<T: Integer>(x: T, y: T) -> (T, T)
 
 /// Returns the quotient rounded down. `div_floor(-8, 3)` is `-3`.
 ///
-/// [`checked::div_floor`] returns `None` outside the domain.
+/// [`checked::div_floor`] returns `None` if the precondition does not hold.
 ///
 /// # Panics
 ///
@@ -409,7 +414,7 @@ pub fn div_floor<T: Integer>(x: T, y: T) -> T
 
 /// Returns the remainder of the quotient rounded down. `mod_floor(-8, 3)` is `1`.
 ///
-/// [`checked::mod_floor`] returns `None` outside the domain.
+/// [`checked::mod_floor`] returns `None` if the precondition does not hold.
 ///
 /// # Panics
 ///
@@ -426,7 +431,7 @@ pub fn mod_floor<T: Integer>(x: T, y: T) -> T
 
 /// Returns the quotient rounded down, and its remainder. `div_mod_floor(-8, 3)` is `(-3, 1)`.
 ///
-/// [`checked::div_mod_floor`] returns `None` outside the domain.
+/// [`checked::div_mod_floor`] returns `None` if the precondition does not hold.
 ///
 /// # Panics
 ///
@@ -444,7 +449,7 @@ pub fn div_mod_floor<T: Integer>(x: T, y: T) -> (T, T)
 
 /// Returns the quotient rounded up. `div_ceil(8, 3)` is `3`.
 ///
-/// [`checked::div_ceil`] returns `None` outside the domain.
+/// [`checked::div_ceil`] returns `None` if the precondition does not hold.
 ///
 /// # Panics
 ///
@@ -462,7 +467,7 @@ pub fn div_ceil<T: Integer>(x: T, y: T) -> T
 
 /// Returns the greatest common divisor. `gcd(56, 42)` is `14`.
 ///
-/// [`checked::gcd`] returns `None` outside the domain.
+/// [`checked::gcd`] returns `None` if the precondition does not hold.
 ///
 /// # Panics
 ///
@@ -479,7 +484,7 @@ pub fn gcd<T: Integer>(x: T, y: T) -> T
 
 /// Returns the least common multiple. `lcm(7, 3)` is `21`.
 ///
-/// [`checked::lcm`] returns `None` outside the domain.
+/// [`checked::lcm`] returns `None` if the precondition does not hold.
 ///
 /// # Panics
 ///
@@ -497,7 +502,7 @@ pub fn lcm<T: Integer>(x: T, y: T) -> T
 /// Returns the greatest common divisor and the least common multiple. `gcd_lcm(10, 4)` is
 /// `(2, 20)`.
 ///
-/// [`checked::gcd_lcm`] returns `None` outside the domain.
+/// [`checked::gcd_lcm`] returns `None` if the precondition does not hold.
 ///
 /// # Panics
 ///

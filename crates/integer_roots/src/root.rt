@@ -14,7 +14,7 @@ use integer_core::{Integer, NativeInteger};
 pub trait Roots: Integer {
     /// Returns the root of degree `n`, rounded toward zero. `12345.nth_root(4)` is `10`.
     ///
-    /// [`checked::nth_root`] returns `None` outside the domain.
+    /// [`checked::nth_root`] returns `None` if the precondition does not hold.
     ///
     /// # Panics
     ///
@@ -28,7 +28,7 @@ pub trait Roots: Integer {
 
     /// Returns the square root, rounded down. `99.sqrt()` is `9`.
     ///
-    /// [`checked::sqrt`] returns `None` outside the domain.
+    /// [`checked::sqrt`] returns `None` if the precondition does not hold.
     ///
     /// # Panics
     ///
@@ -61,7 +61,7 @@ pub trait Roots: Integer {
 
 /// Returns the root of degree `n`, rounded toward zero. `nth_root(12345, 4)` is `10`.
 ///
-/// [`checked::nth_root`] returns `None` outside the domain.
+/// [`checked::nth_root`] returns `None` if the precondition does not hold.
 ///
 /// # Panics
 ///
@@ -83,7 +83,7 @@ pub fn nth_root<T: Roots>(x: T, n: u32) -> T
 
 /// Returns the square root, rounded down. `sqrt(99)` is `9`.
 ///
-/// [`checked::sqrt`] returns `None` outside the domain.
+/// [`checked::sqrt`] returns `None` if the precondition does not hold.
 ///
 /// # Panics
 ///

@@ -7,3 +7,4 @@ pub use Rattle.modular.proofs.CoprimeModuli.{coprime_product, odd_coprime}
 pub use Rattle.modular.proofs.LinearCongruences.{inverse_exists, solved_by_inverse}
 pub use Rattle.modular.proofs.PowerTurns.{congruent-power}
 pub use Rattle.modular.proofs.Agreements.{agreeing_have_solution, solved_agree}
+pub use Rattle.modular.proofs.NaturalPowers.{power_is_natural, residue_of_exponent_sum}

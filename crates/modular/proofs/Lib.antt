@@ -17,5 +17,6 @@ pub mod CommonSolutions
 pub mod Counts
 pub mod ListedItems
 pub mod Agreements
+pub mod NaturalPowers
 pub mod Laws
 pub mod ForCallers

@@ -19,7 +19,7 @@ use num_integer::{Fits, Integer};
 
 /// Returns [`residue`](crate::residue), or `None` if `m` is not positive. `residue(-3, 7)` is `Some(4)`, and
 /// `residue(-3, 0)` is `None`.
-pub fn residue<T: Integer>(a: T, m: T) -> Option<T>
+pub fn residue<T: Integer + Copy>(a: T, m: T) -> Option<T>
     requires in_range { T.fits (T.value a) × T.fits (T.value m) }
     ensures { AnswersWhere (pos 0 <ℤ T.value m)
         (Has T.fits T.value (IsResidue (T.value m) (T.value a))) result }
@@ -33,7 +33,7 @@ pub fn residue<T: Integer>(a: T, m: T) -> Option<T>
 
 /// Returns [`sum_modulo`](crate::sum_modulo), or `None` if `m` is not positive. `sum_modulo(5, 4, 7)` is `Some(2)`, and
 /// `sum_modulo(5, 4, -7)` is `None`.
-pub fn sum_modulo<T: Integer>(a: T, b: T, m: T) -> Option<T>
+pub fn sum_modulo<T: Integer + Copy>(a: T, b: T, m: T) -> Option<T>
     requires in_range { T.fits (T.value a) × T.fits (T.value b) × T.fits (T.value m) }
     ensures { AnswersWhere (pos 0 <ℤ T.value m)
         (Has T.fits T.value (IsResidue (T.value m) (T.value a +ℤ T.value b))) result }
@@ -47,7 +47,7 @@ pub fn sum_modulo<T: Integer>(a: T, b: T, m: T) -> Option<T>
 
 /// Returns [`difference_modulo`](crate::difference_modulo), or `None` if `m` is not positive.
 /// `difference_modulo(2, 5, 7)` is `Some(4)`, and `difference_modulo(2, 5, 0)` is `None`.
-pub fn difference_modulo<T: Integer>(a: T, b: T, m: T) -> Option<T>
+pub fn difference_modulo<T: Integer + Copy>(a: T, b: T, m: T) -> Option<T>
     requires in_range { T.fits (T.value a) × T.fits (T.value b) × T.fits (T.value m) }
     ensures { AnswersWhere (pos 0 <ℤ T.value m)
         (Has T.fits T.value (IsResidue (T.value m) (T.value a -ℤ T.value b))) result }
@@ -61,7 +61,7 @@ pub fn difference_modulo<T: Integer>(a: T, b: T, m: T) -> Option<T>
 
 /// Returns [`negation_modulo`](crate::negation_modulo), or `None` if `m` is not positive. `negation_modulo(2, 7)` is
 /// `Some(5)`, and `negation_modulo(2, 0)` is `None`.
-pub fn negation_modulo<T: Integer>(a: T, m: T) -> Option<T>
+pub fn negation_modulo<T: Integer + Copy>(a: T, m: T) -> Option<T>
     requires in_range { T.fits (T.value a) × T.fits (T.value m) }
     ensures { AnswersWhere (pos 0 <ℤ T.value m)
         (Has T.fits T.value (IsResidue (T.value m) (neg_ℤ (T.value a)))) result }
@@ -103,7 +103,7 @@ pub fn power_modulo<T: Modular>(a: T, exponent: u128, m: T) -> Option<T>
 
 /// Returns [`inverse_modulo`](crate::inverse_modulo), or `None` if `m` is not positive or there is no inverse.
 /// `inverse_modulo(3, 7)` is `Some(5)`, and `inverse_modulo(3, 0)` is `None`.
-pub fn inverse_modulo<T: Integer>(a: T, m: T) -> Option<T>
+pub fn inverse_modulo<T: Integer + Copy>(a: T, m: T) -> Option<T>
     requires in_range { T.fits (T.value a) × T.fits (T.value m) }
     ensures { MatchOption result ((x : ℤ) → ¬ (IsInverse (T.value a) (T.value m) x))
         (Has T.fits T.value (IsInverse (T.value a) (T.value m))) }
@@ -270,7 +270,7 @@ pub fn next_common_solution_of<T: Modular + Fits>(
 }
 
 /// Returns `true` if each modulus is positive.
-fn are_positive<T: Integer>(congruences: &[(T, T)]) -> bool
+fn are_positive<T: Integer + Copy>(congruences: &[(T, T)]) -> bool
     requires { All (λ c. T.fits (T.value c.0) × T.fits (T.value c.1)) congruences.now }
     ensures { MatchBool result (All (λ c. pos 0 <ℤ T.value c.1) congruences.now)
         (¬ (All (λ c. pos 0 <ℤ T.value c.1) congruences.now)) }

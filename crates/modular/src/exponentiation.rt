@@ -76,7 +76,7 @@ pub(crate) struct Residues<T, F> {
     pub product: F,
 }
 
-impl<T: Integer, F: Fn(T, T) -> T> ResidueForm for Residues<T, F> {
+impl<T: Integer + Copy, F: Fn(T, T) -> T> ResidueForm for Residues<T, F> {
     type Number = T;
 
     ghost modulus = { λ s. T.value s.modulus };

@@ -14,7 +14,7 @@ use num_integer::operators::{is_below, is_zero, one, successor, zero};
 /// Products and powers modulo a positive number. The native types have it. Your own type gets it by
 /// `impl Modular for Mine {}`: the default product doubles and adds, and the default power squares and multiplies.
 /// `4.product_modulo(&5, &7)` is `6`.
-pub trait Modular: Integer {
+pub trait Modular: Integer + Copy {
     /// Returns `self * other` modulo `modulus`. The product need not fit the type.
     /// `4.product_modulo(&5, &7)` is `6`.
     ///
@@ -122,7 +122,7 @@ pub fn power_modulo_counted<T: Modular>(a: T, exponent: u128, m: T) -> (T, u32)
 }
 
 /// Returns the product of two residues: it doubles `x` along the binary digits of `y`, and adds at each digit 1.
-fn product_by_doubling<T: Integer>(x: T, y: T, m: T) -> T
+fn product_by_doubling<T: Integer + Copy>(x: T, y: T, m: T) -> T
     requires in_range { T.fits (T.value y) × T.fits (T.value m) }
     requires x_below { LiesBelow (T.value m) (T.value x) }
     requires y_below { LiesBelow (T.value m) (T.value y) }

@@ -106,7 +106,7 @@ fn least_candidate<T: Modular + Fits>(
 }
 
 /// Returns `true` if the number solves each congruence.
-fn solves_each<T: Integer>(x: T, congruences: &[(T, T)]) -> bool
+fn solves_each<T: Integer + Copy>(x: T, congruences: &[(T, T)]) -> bool
     requires in_range { T.fits (T.value x) }
     requires system { IsSystem T.fits T.value congruences.now }
     ensures { IsTrue result ↔ SolvesEach T.value congruences.now (T.value x) }
@@ -121,7 +121,7 @@ fn solves_each<T: Integer>(x: T, congruences: &[(T, T)]) -> bool
 }
 
 /// Returns `true` if every two of the congruences agree. Then they have a common solution.
-fn agree_in_pairs<T: Integer>(congruences: &[(T, T)]) -> bool
+fn agree_in_pairs<T: Integer + Copy>(congruences: &[(T, T)]) -> bool
     requires system { IsSystem T.fits T.value congruences.now }
     ensures { IsTrue result ↔ ((x : ℤ) × SolvesEach T.value congruences.now x) }
 {
@@ -138,7 +138,7 @@ fn agree_in_pairs<T: Integer>(congruences: &[(T, T)]) -> bool
 
 /// Returns `true` if `a` is congruent to the first number of each pair, modulo the greatest common divisor of `m` and
 /// the second.
-fn agrees_with_each<T: Integer>(a: T, m: T, others: &[(T, T)]) -> bool
+fn agrees_with_each<T: Integer + Copy>(a: T, m: T, others: &[(T, T)]) -> bool
     requires in_range { T.fits (T.value a) × T.fits (T.value m) }
     requires positive { pos 0 <ℤ T.value m }
     requires system { IsSystem T.fits T.value others.now }

@@ -1,12 +1,18 @@
 -- Calls that return a result exactly in their domain.
-use Rattle.num_integer.proofs.Common.{◌≡◌, ◌≢◌, ◌⊎◌, ◌↔◌, ◌≤ℤ◌, ◌<ℤ◌, ◌*ℤ◌, natural, ℤ, pos, neg_ℤ, unsigned_abs, int_div, Option, Some, None, arith, inl, inr, subst, sym, ap, ◌∙◌, unsigned_abs-mul, linear, left_comm, sizes, IsGreatestCommonDivisor, IsLeastCommonMultiple, EachFits, IsRange, lcm-product, gcd-nonzero, lcm-zero, lcm_exists, only_lcm, Divides-trans, exact_quotient, each_fits, fits_below, product_from_zero}
+use Rattle.num_integer.proofs.Common.{◌≡◌, ◌≢◌, ◌⊎◌, ◌↔◌, ◌≤ℤ◌, ◌<ℤ◌, ◌*ℤ◌, natural, ℤ, pos, neg_ℤ, unsigned_abs, int_div, Option, Some, None, arith, inl, inr, refl, subst, sym, ap, ◌∙◌, unsigned_abs-mul, linear, left_comm, sizes, IsGreatestCommonDivisor, IsLeastCommonMultiple, EachFits, IsRange, lcm-product, gcd-nonzero, lcm-zero, lcm_exists, only_lcm, Divides-trans, exact_quotient, each_fits, fits_below, product_from_zero}
 use Rattle.integer_core.proofs.DivisorSizes.{divisor_at_most, lcm-positive}
 use Rattle.num_integer.specs.Checked.{AnswersWhere}
+use Rattle.std.specs.Prelude.{IsSome}
 
 -- the domain and the result of a call may be said in other words
 pub answers_as : {D E X : Type 0} {A B : X → Type 0} (r : Option X) → D ↔ E → ((x : X) → A x → B x) → AnswersWhere D A r → AnswersWhere E B r
 answers_as (Some x) same each h = (same.0 h.0, each x h.1)
 answers_as None same each none = λ e. none (same.1 e)
+
+-- in the domain there is a result
+pub some_in_domain : {D X : Type 0} (A : X → Type 0) (r : Option X) → AnswersWhere D A r → D → IsSome r
+some_in_domain A (Some x) h domain = refl
+some_in_domain A None none domain = absurd (none domain)
 
 -- if a relation has one number alone, a call that returns that number if it fits returns it in the domain of the relation
 pub answers_only : (fits P : ℤ → Type 0) {X : Type 0} (value : X → ℤ) {z : ℤ} (r : Option X) → P z → ((y : ℤ) → P y → z ≡ y)

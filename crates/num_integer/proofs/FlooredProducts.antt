@@ -1,7 +1,7 @@
 -- Floored quotients of products, by signs and magnitudes.
-use Rattle.num_integer.proofs.Common.{◌≡◌, ◌<◌, ◌≤ℤ◌, ◌<ℤ◌, ◌*◌, ◌/◌, ◌%◌, ◌*ℤ◌, ℕ, ℤ, pos, neg_ℤ, not, Bool, true, false, arith, inl, from_not_less, ints, linear, products, sizes, IsFloored, IsRange, within_fits, signed, multiples_apart, product_at_most, product_from_zero}
+use Rattle.num_integer.proofs.Common.{◌≡◌, ◌<◌, ◌≤ℤ◌, ◌<ℤ◌, ◌*◌, ◌/◌, ◌%◌, ◌*ℤ◌, ℕ, ℤ, pos, neg_ℤ, not, Bool, true, false, arith, inl, from_not_less, ints, linear, products, sizes, IsDivision, IsFloored, IsRange, within_fits, signed, multiples_apart, product_at_most, product_from_zero}
 use Rattle.std.proofs.Math.Bool.{beq}
-use Rattle.integer_core.proofs.FlooredByPositive.{floored_by_range, floored_range}
+use Rattle.integer_core.proofs.FlooredByPositive.{floored_by_range}
 use Rattle.integer_core.proofs.NaturalDivision.{natural_division}
 
 -- without a remainder, the quotient and the remainder of a number of either sign are floored
@@ -20,23 +20,20 @@ signed_product true false m n = grind (arith, products)
 signed_product false true m n = grind (arith, products)
 signed_product false false m n = grind (arith, products)
 
--- the floored division of a product, from that of the magnitudes, whose sign is negated if the divisor is negative
-pub division_by_magnitudes : (s t u : Bool) (m n e : ℕ) {q : ℤ} {r : ℕ} → IsFloored (signed (not (beq s (not (beq t u)))) (m * n)) (pos e) q (pos r)
-    → IsFloored (signed s m *ℤ signed t n) (signed u e) q (signed u r)
-division_by_magnitudes s false false m n e h = rw (signed_product s false m n) h
-division_by_magnitudes s true false m n e h = rw (signed_product s true m n) h
-division_by_magnitudes s false true m n e h =
-    let back : neg_ℤ (signed s m *ℤ neg_ℤ (pos n)) ≡ signed s m *ℤ pos n = grind (arith, products) in
-    rw back at (negated_floored (rw (← signed_product s true m n) at h))
-division_by_magnitudes s true true m n e h =
-    let back : neg_ℤ (signed s m *ℤ pos n) ≡ signed s m *ℤ neg_ℤ (pos n) = grind (arith, products) in
-    rw back at (negated_floored (rw (← signed_product s false m n) at h))
+-- the floored division of a number by signs and magnitudes, from that of its magnitude with the sign of the quotient by the magnitude of the divisor
+pub division_by_magnitudes : (s u : Bool) (m e : ℕ) {q : ℤ} {r : ℕ} → IsFloored (signed (not (beq s u)) m) (pos e) q (pos r) → IsFloored (signed s m) (signed u e) q (signed u r)
+division_by_magnitudes true false m e h = h
+division_by_magnitudes false false m e h = h
+division_by_magnitudes true true m e h = negated_floored h
+division_by_magnitudes false true m e h =
+    let back : neg_ℤ (neg_ℤ (pos m)) ≡ pos m = omega (arith, products) in
+    rw back at (negated_floored h)
 
 -- a part of a number lies between 0 and the number, so it fits
-pub part_fits : {fits : ℤ → Type 0} {low high a b d q r : ℤ} → IsRange fits low high → fits a → pos 0 ≤ℤ a → pos 0 ≤ℤ b → b ≤ℤ d → pos 0 <ℤ d → IsFloored (a *ℤ b) d q r → fits q
-part_fits {a = a} {b = b} {d = d} {q = q} range a_fits a_up b_up within up h =
-    let equation = h.division.equation in
-    let rest = floored_range up h in
+pub part_fits : {fits : ℤ → Type 0} {low high a b d q r : ℤ} → IsRange fits low high → fits a → pos 0 ≤ℤ a → pos 0 ≤ℤ b → b ≤ℤ d → pos 0 <ℤ d → IsDivision (a *ℤ b) d q r → fits q
+part_fits {a = a} {b = b} {d = d} {q = q} {r = r} range a_fits a_up b_up within up h =
+    let equation = h.equation in
+    let rest : (neg_ℤ d <ℤ r) × (r <ℤ d) = omega (arith, sizes, h.small) in
     let product = product_from_zero a b a_up b_up in
     let most : (a *ℤ b) ≤ℤ (a *ℤ d) = product_at_most {u = a} {v = b} {x = a} {y = d} a_up (omega (arith, linear)) b_up within in
     let none : pos 0 *ℤ d ≡ pos 0 = omega (arith, products) in

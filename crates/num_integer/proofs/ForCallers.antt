@@ -13,10 +13,14 @@ pub use Rattle.integer_core.proofs.Quotients.{floored_remainder_within, only_cei
 pub use Rattle.integer_core.proofs.CommonDivisors.{gcd_fits_is}
 pub use Rattle.integer_core.proofs.Ranges.{LiesWithin, no_minus_one, one_fits, within_fits, zero_fits}
 pub use Rattle.num_integer.proofs.FittingAnswers.{fits_below, sum_fits_exactly}
+pub use Rattle.num_integer.proofs.FlooredProducts.{part_fits}
+-- ---- results of a wider type
+
+pub use Rattle.num_integer.proofs.NarrowerTypes.{narrowed, none_narrower}
 -- ---- what tests and checked calls say
 
 pub use Rattle.integer_core.proofs.Whole.{from_not_less, from_test}
-pub use Rattle.num_integer.proofs.CheckedAnswers.{answer_only, answers_as, answers_only}
+pub use Rattle.num_integer.proofs.CheckedAnswers.{answer_only, answers_as, answers_only, some_in_domain}
 pub use Rattle.num_integer.proofs.FittingAnswers.{signed_is}
 -- ---- rulesets, for `omega`, `grind` and `simp`
 -- `omega (arith, linear)` proves equations and inequalities of integers that are linear. `sizes` is `linear` with magnitudes,
@@ -43,6 +47,10 @@ pub use Rattle.integer_core.proofs.FlooredByPositive.{floored_range, floored_rem
 -- ---- sizes of divisors and multiples
 
 pub use Rattle.integer_core.proofs.DivisorSizes.{divisor_at_most, gcd_with_positive_fits, gcd_at_most, small_multiple_is_zero, lcm_at_most_product, lcm-positive}
+pub use Rattle.num_integer.proofs.FirstMultiples.{first_multiple_answers, first_multiple_at_u64, first_natural_multiple, lcm_is_first, natural_gcd_at_most}
+-- ---- sums of divisors
+
+pub use Rattle.num_integer.proofs.DivisorSums.{divisor_added, divisor_passed, divisor_steps, no_divisors}
 -- ---- coprime numbers
 
 pub use Rattle.integer_core.proofs.Coprimes.{Divides-difference, coprime_exactly, divided_by_gcd, natural_gcd_positive, natural_exact_quotient, natural_quotients_coprime, coprime_divides}
@@ -53,6 +61,7 @@ pub use Rattle.integer_roots.proofs.OnlyAnswers.{root_is_only_one}
 pub use Rattle.integer_core.proofs.IntegerPowers.{power_of_one, power_of_zero}
 pub use Rattle.integer_roots.proofs.Powers.{power_of_power}
 pub use Rattle.integer_core.proofs.IntegerPowers.{even_or_odd, even_power, int_pow-suc, int_pow-zero, odd_power, power_of_square, power_size}
+pub use Rattle.num_integer.proofs.ExponentSums.{int_pow_add, natural_power}
 pub use Rattle.num_integer.proofs.RootsOfPowers.{root_by_squares, exact_power_root, square_root_of_square}
 -- ---- coefficients
 

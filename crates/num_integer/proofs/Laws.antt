@@ -13,6 +13,9 @@ pub use Rattle.integer_core.proofs.GcdTurns.{bit_length_exists, gcd_turns_are_on
 pub use Rattle.integer_core.proofs.Quotients.{division_exists, negation_turns_multiples}
 pub use Rattle.integer_roots.proofs.MagnitudeRoots.{first_root}
 pub use Rattle.integer_roots.proofs.OnlyAnswers.{average_ceil_is_only, average_floor_is_only, square_root_turns_are_only}
+pub use Rattle.num_integer.proofs.DivisorSums.{sum_of_divisors_ends_at_the_number, sum_of_divisors_exists, sum_of_divisors_is_only}
+pub use Rattle.num_integer.proofs.ExponentSums.{exponents_add}
+pub use Rattle.num_integer.proofs.FirstMultiples.{gcd_is_at_most_each_bound, lcm_is_first_common_multiple}
 pub use Rattle.num_integer.proofs.Multinomials.{is_multinomial as multinomial_formula, multinomial_ignores_order}
 pub use Rattle.num_integer.proofs.Pascal.{coefficient_mirror, divides_factorials as factorial_formula, none_above as coefficient_above_row}
 pub use Rattle.num_integer.proofs.RowSteps.{row_is_greatest_in_middle, row_is_palindrome, row_length}

@@ -6,6 +6,10 @@ pub mod RowSteps
 pub mod CheckedAnswers
 pub mod Multinomials
 pub mod FlooredProducts
+pub mod NarrowerTypes
+pub mod FirstMultiples
+pub mod ExponentSums
+pub mod DivisorSums
 pub mod Laws
 pub mod LiteralMultiples
 pub mod ForCallers

@@ -1,17 +1,20 @@
 -- The laws of the definitions. Each is proved by a lemma of its name in small letters, which proofs/Laws.antt has or passes on.
-use Rattle.std.specs.Prelude.{◌≡◌, ◌≢◌, ◌⊎◌, ◌↔◌, ◌-◌, ◌*◌, ◌<◌, ◌≤◌, ◌+ℤ◌, ◌*ℤ◌, ◌≤ℤ◌, ℕ, ℤ, pos, neg_ℤ, unsigned_abs, List, map, length, reverse}
+use Rattle.std.specs.Prelude.{◌≡◌, ◌≢◌, ◌⊎◌, ◌↔◌, ◌+◌, ◌-◌, ◌*◌, ◌<◌, ◌≤◌, ◌+ℤ◌, ◌*ℤ◌, ◌≤ℤ◌, ℕ, ℤ, pos, neg_ℤ, unsigned_abs, List, map, length, reverse}
+use Rattle.std.specs.Int.{int_pow}
 use Rattle.std.specs.List.{All}
 use Rattle.std.specs.List.Sorted.{IsPermutation}
 use Rattle.integer_core.specs.Bezout.{AreEuclidTurns, IsBezoutAnswer}
 use Rattle.integer_core.specs.Division.{EachKind, HaveSameSign, IsCeiled, IsFloored, IsMultiple, IsQuotient, IsRemainder}
-use Rattle.integer_core.specs.Divisors.{GcdFits, IsGreatestCommonDivisor, IsLeastCommonMultiple}
+use Rattle.integer_core.specs.Divisors.{Divides, GcdFits, IsGreatestCommonDivisor, IsLeastCommonMultiple}
 use Rattle.integer_core.specs.GcdRuns.{AreGcdTurns, IsBitLength}
+use Rattle.integer_core.specs.Least.{IsLeastFrom}
 use Rattle.integer_core.specs.Only.{IsOnly}
 use Rattle.integer_core.specs.Range.{EachFits, IsRange}
 use Rattle.integer_roots.specs.Averages.{IsAverageCeil, IsAverageFloor}
 use Rattle.integer_roots.specs.RootOf.{IsRoot}
 use Rattle.integer_roots.specs.SquareRuns.{AreSquareRootTurns}
 use Rattle.num_integer.specs.Coefficient.{coefficient, factorial}
+use Rattle.num_integer.specs.DivisorSums.{IsSumOfDivisorsTo}
 use Rattle.num_integer.specs.Multinomial.{IsMultinomial, coefficients_from, product}
 use Rattle.num_integer.specs.Row.{middle_of, row_of}
 
@@ -80,6 +83,14 @@ LcmIsSymmetric = (a b l : ℤ) → IsLeastCommonMultiple a b l → IsLeastCommon
 abbrev pub GcdTimesLcm : Type 0
 GcdTimesLcm = (a b g l : ℤ) → IsGreatestCommonDivisor a b g → IsLeastCommonMultiple a b l → g *ℤ l ≡ pos (unsigned_abs (a *ℤ b))
 
+-- the lcm of two numbers that are not 0 is their first positive common multiple
+abbrev pub LcmIsFirstCommonMultiple : Type 0
+LcmIsFirstCommonMultiple = (a b l : ℤ) → a ≢ pos 0 → b ≢ pos 0 → IsLeastCommonMultiple a b l ↔ IsLeastFrom (pos 1) (λ u. Divides a u × Divides b u) l
+
+-- a gcd is at most each number that the magnitudes of both are at most
+abbrev pub GcdIsAtMostEachBound : Type 0
+GcdIsAtMostEachBound = (a b g : ℤ) (most : ℕ) → unsigned_abs a ≤ most → unsigned_abs b ≤ most → IsGreatestCommonDivisor a b g → unsigned_abs g ≤ most
+
 -- two numbers have one number of turns of Stein's loop
 abbrev pub GcdTurnsAreOnly : Type 0
 GcdTurnsAreOnly = (low a b : ℤ) (n : ℕ) → AreGcdTurns low a b n → IsOnly (AreGcdTurns low a b) n
@@ -90,6 +101,19 @@ BitLengthExists = (v : ℤ) → (l : ℕ) × IsBitLength v l
 
 abbrev pub BitLengthIsOnly : Type 0
 BitLengthIsOnly = (v : ℤ) (l : ℕ) → IsBitLength v l → IsOnly (IsBitLength v) l
+
+-- ---- sums of divisors
+
+-- the numbers from 1 to k that divide n have a sum
+abbrev pub SumOfDivisorsExists : Type 0
+SumOfDivisorsExists = (n k : ℕ) → (total : ℕ) × IsSumOfDivisorsTo n k total
+
+abbrev pub SumOfDivisorsIsOnly : Type 0
+SumOfDivisorsIsOnly = (n k total : ℕ) → IsSumOfDivisorsTo n k total → IsOnly (IsSumOfDivisorsTo n k) total
+
+-- no number above n divides it, so the sum goes no further than n
+abbrev pub SumOfDivisorsEndsAtTheNumber : Type 0
+SumOfDivisorsEndsAtTheNumber = (n more total : ℕ) → 0 < n → IsSumOfDivisorsTo n n total → IsSumOfDivisorsTo n (n + more) total
 
 -- ---- Bezout pairs
 
@@ -127,6 +151,10 @@ FirstRoot = (x : ℤ) → IsRoot x 1 x
 -- a number has one number of turns for its square root
 abbrev pub SquareRootTurnsAreOnly : Type 0
 SquareRootTurnsAreOnly = (x : ℤ) (n : ℕ) → AreSquareRootTurns x n → IsOnly (AreSquareRootTurns x) n
+
+-- the power of a sum of exponents is the product of the powers
+abbrev pub ExponentsAdd : Type 0
+ExponentsAdd = (x : ℤ) (m n : ℕ) → int_pow x (m + n) ≡ int_pow x m *ℤ int_pow x n
 
 -- ---- coefficients
 

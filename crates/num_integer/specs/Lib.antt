@@ -7,7 +7,9 @@ pub use Rattle.integer_core.specs.Divisors
 pub use Rattle.integer_core.specs.Fibonacci
 pub use Rattle.integer_core.specs.GcdRuns
 pub use Rattle.integer_core.specs.Least
+pub use Rattle.integer_core.specs.NativeRanges
 pub use Rattle.integer_core.specs.Only
+pub use Rattle.integer_core.specs.Padded
 pub use Rattle.integer_core.specs.Range
 pub use Rattle.integer_core.specs.Runs
 pub use Rattle.integer_roots.specs.Averages
@@ -19,3 +21,4 @@ pub mod Coefficient
 pub mod Multinomial
 pub mod Row
 pub mod Parts
+pub mod DivisorSums

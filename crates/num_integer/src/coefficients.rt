@@ -25,7 +25,7 @@ pub(crate) fn positive_quotient<T: Integer>(a: T, b: T) -> T
 /// Splits `r * a / b`, which is an integer, into the factors `r / g` and `a / (b / g)`. `g` is the
 /// gcd of `r` and `b`, computed as that of `r % b` and `b`. If `g` is `b` or 1, one division gives
 /// both factors. After <https://blog.plover.com/math/choose-2.html>.
-fn factors<T: Integer>(r: T, a: T, b: T) -> (T, T)
+fn factors<T: Integer + Copy>(r: T, a: T, b: T) -> (T, T)
     requires in_range { T.fits (T.value r) × T.fits (T.value a) × T.fits (T.value b) }
     requires a_from_zero { pos 0 ≤ℤ T.value a }
     requires b_positive { pos 0 <ℤ T.value b }
@@ -49,7 +49,7 @@ fn factors<T: Integer>(r: T, a: T, b: T) -> (T, T)
 
 /// Returns two factors of the coefficient of `n` and `k + 1`, which is `c * (n - k) / (k + 1)`. `c`
 /// is the coefficient of `n` and `k`.
-pub(crate) fn next_factors<T: Integer>(c: T, n: T, k: T) -> (T, T)
+pub(crate) fn next_factors<T: Integer + Copy>(c: T, n: T, k: T) -> (T, T)
     requires in_range { T.fits (T.value c) × T.fits (T.value n) × T.fits (T.value k) }
     requires k_from_zero { pos 0 ≤ℤ T.value k }
     requires k_below { T.value k <ℤ T.value n }
@@ -63,7 +63,7 @@ pub(crate) fn next_factors<T: Integer>(c: T, n: T, k: T) -> (T, T)
 
 /// Returns the coefficient of `n` and `k + 1`. `c` is that of `n` and `k`. No intermediate value
 /// exceeds the result. `reason` is that of a result which does not fit.
-pub(crate) fn next_coefficient<T: Integer>(c: T, n: T, k: T, reason: &'static str) -> T
+pub(crate) fn next_coefficient<T: Integer + Copy>(c: T, n: T, k: T, reason: &'static str) -> T
     requires in_range { T.fits (T.value c) × T.fits (T.value n) × T.fits (T.value k) }
     requires k_from_zero { pos 0 ≤ℤ T.value k }
     requires k_below { T.value k <ℤ T.value n }
@@ -77,7 +77,7 @@ pub(crate) fn next_coefficient<T: Integer>(c: T, n: T, k: T, reason: &'static st
 }
 
 /// Returns the smaller of `k` and `n - k`.
-pub(crate) fn nearer_end<T: Integer>(n: T, k: T) -> T
+pub(crate) fn nearer_end<T: Integer + Copy>(n: T, k: T) -> T
     requires in_range { T.fits (T.value n) × T.fits (T.value k) }
     requires k_from_zero { pos 0 ≤ℤ T.value k }
     requires k_within { T.value k ≤ℤ T.value n }
@@ -91,7 +91,7 @@ pub(crate) fn nearer_end<T: Integer>(n: T, k: T) -> T
 
 /// Returns [`binomial_counted`] of numbers that are not negative. `reason` is that of a coefficient
 /// which does not fit.
-fn coefficient_counted<T: Integer>(n: T, k: T, reason: &'static str) -> (T, u32)
+fn coefficient_counted<T: Integer + Copy>(n: T, k: T, reason: &'static str) -> (T, u32)
     requires n_in_range { T.fits (T.value n) }
     requires k_in_range { T.fits (T.value k) }
     requires n_from_zero { pos 0 ≤ℤ T.value n }
@@ -125,7 +125,7 @@ fn coefficient_counted<T: Integer>(n: T, k: T, reason: &'static str) -> (T, u32)
 /// # Panics
 ///
 /// In plain Rust, if `n` or `k` is negative, or if the binomial coefficient does not fit.
-pub fn binomial_counted<T: Integer>(n: T, k: T) -> (T, u32)
+pub fn binomial_counted<T: Integer + Copy>(n: T, k: T) -> (T, u32)
     requires n_in_range { T.fits (T.value n) }
     requires k_in_range { T.fits (T.value k) }
     requires n_from_zero { pos 0 ≤ℤ T.value n }
@@ -159,7 +159,7 @@ pub fn binomial_counted<T: Integer>(n: T, k: T) -> (T, u32)
 /// # Panics
 ///
 /// In plain Rust, if `n` or `k` is negative, or if the binomial coefficient does not fit.
-pub fn binomial<T: Integer>(n: T, k: T) -> T
+pub fn binomial<T: Integer + Copy>(n: T, k: T) -> T
     requires n_in_range { T.fits (T.value n) }
     requires k_in_range { T.fits (T.value k) }
     requires n_from_zero { pos 0 ≤ℤ T.value n }
@@ -181,7 +181,7 @@ pub fn binomial<T: Integer>(n: T, k: T) -> T
 ///
 /// In plain Rust, if a count is negative, or if the multinomial coefficient does not fit.
 #[tactic(auto, using(crate::proofs::Multinomials::multinomial_first))]
-pub fn multinomial<T: Integer>(k: &[T]) -> T
+pub fn multinomial<T: Integer + Copy>(k: &[T]) -> T
     requires counts_in_range { All (λ x. T.fits (T.value x)) k.now }
     requires counts_from_zero { All (λ x. pos 0 ≤ℤ T.value x) k.now }
     requires multinomial_fits { EachFits T.fits (IsMultinomial (map T.value k.now)) }

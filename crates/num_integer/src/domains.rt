@@ -15,7 +15,7 @@ use integer_core::{Integer, Magnitudes, NativeInteger};
 
 /// Tests whether a call may be made with its arguments. `7.quotient_fits(&0)` is `false`, so `7.div_rem(&0)`
 /// may not be called. Your own type implements `parts` and `ends`.
-pub trait Fits: Integer {
+pub trait Fits: Integer + Copy {
     /// Returns whether the number is negative, and its magnitude. `(-5).parts()` is `(true, 5)`.
     fn parts(&self) -> (bool, u128)
         requires { Self.fits (Self.value self.now) }

@@ -8,7 +8,7 @@ mod coefficients;
 pub mod counted;
 mod domains;
 mod rows;
-mod sign_magnitude;
+pub mod sign_magnitude;
 
 pub use coefficients::{binomial, multinomial};
 pub use domains::Fits;

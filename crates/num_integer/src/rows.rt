@@ -57,7 +57,7 @@ impl<T: Integer> IterBinomial<T> {
 }
 
 /// Returns the `k`-th item of the row of `n`, counted from 0. `previous` is the item before it.
-fn item_at<T: Integer>(n: T, k: T, previous: T) -> T
+fn item_at<T: Integer + Copy>(n: T, k: T, previous: T) -> T
     requires in_range { T.fits (T.value n) × T.fits (T.value k) × T.fits (T.value previous) }
     requires k_from_zero { pos 0 ≤ℤ T.value k }
     requires k_within { T.value k ≤ℤ T.value n }
@@ -79,7 +79,7 @@ fn item_at<T: Integer>(n: T, k: T, previous: T) -> T
     }
 }
 
-impl<T: Integer> Iterator for IterBinomial<T> {
+impl<T: Integer + Copy> Iterator for IterBinomial<T> {
     type Item = T;
 
     ghost next_gives = { YieldsFirstBy T.value (λ s. s) };

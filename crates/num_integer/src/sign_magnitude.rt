@@ -1,8 +1,42 @@
-//! Tests whether a sum or a product of two numbers lies from `-low` to `high`. A number is its sign and
-//! its magnitude: -5 is `(true, 5)`, and the ends of `i8` are `(128, 127)`.
+//! Numbers as their sign and their magnitude: -5 is `(true, 5)`. The ends of a range are the magnitudes of its smallest and of its
+//! largest number: those of `i8` are `(128, 127)`.
 
 ghost use Rattle.std.specs.Prelude.{◌≡◌, ◌↔◌, ◌+◌, ◌<◌, ◌^◌, ◌+ℤ◌, ◌-ℤ◌, ◌*ℤ◌, pos, not, IsTrue};
+ghost use Rattle.num_integer.specs.Checked.{AnswersWhere, Has};
 ghost use Rattle.num_integer.specs.Parts.{IsWithin, signed};
+
+use integer_core::operators::is_negative;
+use integer_core::{Magnitudes, NativeInteger};
+use num_traits::cast;
+
+/// Returns the sign and the magnitude of a number of a built-in type of at most 64 bits. `parts_of(-5)` is `(true, 5)`.
+pub fn parts_of<T: NativeInteger<Magnitude = u64>>(number: T) -> (bool, u64)
+    requires { T.fits (T.value number) }
+    ensures { signed result.0 result.1 ≡ T.value number }
+{
+    (is_negative(number), number.magnitude())
+}
+
+/// Returns the sign and the magnitude of `a * b`, which need not fit. `parts_of_product(-100i8, 100)` is `(true, 10000)`.
+pub fn parts_of_product<T: NativeInteger<Magnitude = u64>>(a: T, b: T) -> (bool, u128)
+    requires { T.fits (T.value a) × T.fits (T.value b) }
+    ensures { signed result.0 result.1 ≡ T.value a *ℤ T.value b }
+{
+    let (a, b) = (parts_of(a), parts_of(b));
+    (a.0 != b.0, u128::from(a.1) * u128::from(b.1))
+}
+
+/// Returns the number with this sign and this magnitude, or `None` if it does not fit. `number_of::<i8>((true, 128))` is
+/// `Some(-128)`.
+pub fn number_of<T: NativeInteger<Magnitude = u64>>(number: (bool, u128)) -> Option<T>
+    ensures { AnswersWhere
+        (T.fits (signed number.0 number.1))
+        (Has T.fits T.value (λ z. z ≡ signed number.0 number.1))
+        result }
+{
+    let magnitude = i128::try_from(number.1).ok()?;
+    cast::<i128, T>(if number.0 { -magnitude } else { magnitude })
+}
 
 /// Returns `true` if `a + b` lies in a range that contains `a`.
 pub(crate) fn sum_is_within(a: (bool, u128), b: (bool, u128), ends: (u128, u128)) -> bool

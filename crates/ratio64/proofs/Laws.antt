@@ -8,6 +8,7 @@ use Rattle.ratio64.proofs.ExactResults as results
 use Rattle.ratio64.specs.Laws as law
 use Rattle.ratio64.specs.ReducedPairs.{equal_where_same}
 pub use Rattle.ratio64.proofs.EqualFractions.{equal_products as products_of_equal_fractions, equal_sums as sums_of_equal_fractions}
+pub use Rattle.ratio64.proofs.EqualNearest.{nearest_to_exact_result}
 pub use Rattle.ratio64.proofs.ExactResults.{exact_result_exists}
 pub use Rattle.ratio64.proofs.FractionAnswers.{only_answer as answer_is_only, only_of_parts as ratio_of_parts_is_only}
 pub use Rattle.ratio64.proofs.NearestNumbers.{only_rounded as rounded_is_only, only_rounded_even as rounded_even_is_only}

@@ -4,6 +4,7 @@ pub mod ForCallers
 pub mod FractionAnswers
 pub mod FittingParts
 pub mod Comparisons
+pub mod EqualNearest
 pub mod Laws
 pub mod ReadTexts
 pub mod WideSums

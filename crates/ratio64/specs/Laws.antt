@@ -71,6 +71,10 @@ RoundedEvenIsOnly = (n d r : ℤ) → pos 0 <ℤ d → IsRoundedEven n d r → I
 abbrev pub NearestIsOnly : Type 0
 NearestIsOnly = (n d max num den : ℤ) → IsNearestWithin n d max num den → IsOnly (λ (u, v). IsNearestWithin n d max u v) (num, den)
 
+-- What is nearest to the exact result of a fraction with a positive denominator is nearest to the fraction itself.
+abbrev pub NearestToExactResult : Type 0
+NearestToExactResult = (a b num den max x y : ℤ) → pos 0 <ℤ b → IsExact a b num den → IsNearestWithin num den max x y → IsNearestWithin a b max x y
+
 -- ---- sums and products
 
 -- Equal fractions have equal sums.

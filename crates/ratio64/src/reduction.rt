@@ -69,7 +69,7 @@ pub(crate) fn narrowed(number: i128) -> Option<i64>
 /// fractions need no divisor: 0 over any number is 0/1, and a number over itself is 1/1.
 ///
 /// May be called if each number of at most the magnitude of a part fits.
-fn reduced_terms<T: Integer>(num: T, den: T) -> (T, T)
+fn reduced_terms<T: Integer + Copy>(num: T, den: T) -> (T, T)
     requires num_sizes { (z : ℤ) → unsigned_abs z ≤ unsigned_abs (T.value num) → T.fits z }
     requires den_sizes { (z : ℤ) → unsigned_abs z ≤ unsigned_abs (T.value den) → T.fits z }
     requires fraction { IsFraction (T.value num) (T.value den) }
@@ -94,7 +94,7 @@ fn reduced_terms<T: Integer>(num: T, den: T) -> (T, T)
 /// Returns both parts, negated if the denominator is negative.
 ///
 /// May be called if [`reduced_terms`] may.
-fn with_positive_denominator<T: Integer>(num: T, den: T) -> (T, T)
+fn with_positive_denominator<T: Integer + Copy>(num: T, den: T) -> (T, T)
     requires num_sizes { (z : ℤ) → unsigned_abs z ≤ unsigned_abs (T.value num) → T.fits z }
     requires den_sizes { (z : ℤ) → unsigned_abs z ≤ unsigned_abs (T.value den) → T.fits z }
     requires fraction { IsFraction (T.value num) (T.value den) }

@@ -35,6 +35,12 @@ pub fn laws_of_integers<T: Integer>()
     ensures lcm_is_only { integers.LcmIsOnly }
     ensures lcm_is_symmetric { integers.LcmIsSymmetric }
     ensures gcd_times_lcm { integers.GcdTimesLcm }
+    ensures gcd_is_at_most_each_bound { integers.GcdIsAtMostEachBound }
+    ensures lcm_is_first_common_multiple { integers.LcmIsFirstCommonMultiple }
+    ensures sum_of_divisors_exists { integers.SumOfDivisorsExists }
+    ensures sum_of_divisors_is_only { integers.SumOfDivisorsIsOnly }
+    ensures sum_of_divisors_ends_at_the_number { integers.SumOfDivisorsEndsAtTheNumber }
+    ensures exponents_add { integers.ExponentsAdd }
     ensures gcd_turns_are_only { integers.GcdTurnsAreOnly }
     ensures bit_length_exists { integers.BitLengthExists }
     ensures bit_length_is_only { integers.BitLengthIsOnly }
@@ -63,6 +69,7 @@ pub fn laws_of_residues<P: Property, T: Integer>()
     ensures residue_is_only { residues.ResidueIsOnly }
     ensures inverse_is_only { residues.InverseIsOnly }
     ensures quotient_is_only { residues.QuotientIsOnly }
+    ensures exponents_add { residues.ExponentsAdd }
     ensures residue_class_is_only { residues.ResidueClassIsOnly P.holds }
     ensures reduced_modulus_is_only { residues.ReducedModulusIsOnly }
     ensures next_congruent_is_only { residues.NextCongruentIsOnly }
@@ -86,6 +93,7 @@ pub fn laws_of_fractions()
     ensures rounded_is_only { fractions.RoundedIsOnly }
     ensures rounded_even_is_only { fractions.RoundedEvenIsOnly }
     ensures nearest_is_only { fractions.NearestIsOnly }
+    ensures nearest_to_exact_result { fractions.NearestToExactResult }
     ensures sums_of_equal_fractions { fractions.SumsOfEqualFractions }
     ensures products_of_equal_fractions { fractions.ProductsOfEqualFractions }
     ensures decimal_is_spelled { fractions.DecimalIsSpelled }
@@ -165,6 +173,7 @@ pub fn laws_of_models<P: Property, T: Integer>()
     ensures gcd_of_fits_exactly { models.GcdOfFitsExactly T.fits }
     ensures lcm_of_exists { models.LcmOfExists }
     ensures lcm_of_is_only { models.LcmOfIsOnly }
+    ensures lcm_of_is_first_common_multiple { models.LcmOfIsFirstCommonMultiple }
     ensures nearest_quotient_exists { models.NearestQuotientExists }
     ensures no_integer_is_nearer { models.NoIntegerIsNearer }
     ensures nearest_quotient_is_only { models.NearestQuotientIsOnly }

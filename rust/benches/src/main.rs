@@ -1,5 +1,5 @@
-//! Prints the nanoseconds of a call of the crate, of the same call of `num-integer` or `chrono`, and the ratio of the two. Run
-//! it by hand, on a quiet machine: `cargo run --release`.
+//! Prints the nanoseconds of a call of the crate, of the same call of `num-integer` or `chrono` or in plain `i128`, and the ratio of
+//! the two. Run it by hand, on a quiet machine: `cargo run --release`.
 
 mod dates;
 
@@ -65,6 +65,26 @@ fn lists() {
     );
 }
 
+/// Products divided, beside the quotient and the remainder in `i128`. Those of at most 31 bits fit in 64 bits.
+fn products() {
+    use cellarcove::checked::product_div_mod_floor;
+    let in_128_bits = |a: i64, b: i64, d: i64| {
+        let (product, d) = (i128::from(a) * i128::from(b), i128::from(d));
+        let quotient = i64::try_from(product.checked_div_euclid(d)?).ok()?;
+        Some((quotient, product.rem_euclid(d) as i64))
+    };
+    for bits in [31, 62] {
+        let inputs = pairs(bits);
+        print(
+            &format!("product_div_mod_floor, {bits}"),
+            time(&inputs, |a, b| {
+                product_div_mod_floor(-a, b, black_box(10_007))
+            }),
+            time(&inputs, |a, b| in_128_bits(-a, b, black_box(10_007))),
+        );
+    }
+}
+
 fn print(name: &str, ours: f64, theirs: f64) {
     println!(
         "{name:<28} {ours:>8.2} {theirs:>8.2} {:>6.2}",
@@ -109,5 +129,6 @@ fn main() {
         "multinomial of three" 3 |it, a, b| it::multinomial(&[a, b, 2]);
     }
     lists();
+    products();
     dates::print_all();
 }

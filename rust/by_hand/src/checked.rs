@@ -3,7 +3,7 @@
 #[doc(inline)]
 pub use crate::counting::checked::{factorial, falling};
 #[doc(inline)]
-pub use crate::lists::checked::{gcd_of, lcm_of};
+pub use crate::lists::checked::{dot_product, gcd_of, lcm_of, sum_of};
 #[doc(inline)]
 pub use crate::modular::checked::{
     chinese_remainder, count_congruent, difference_modulo, inverse_modulo, negation_modulo, next_common_solution,
@@ -13,4 +13,4 @@ pub use crate::modular::checked::{
 #[doc(inline)]
 pub use crate::powers::checked::{ilog, sqrt_rem};
 #[doc(inline)]
-pub use crate::rounding::checked::{div_round, div_round_even};
+pub use crate::rounding::checked::{div_round, div_round_even, product_div_round, product_div_round_even};

@@ -234,7 +234,7 @@ impl U64Division {
 }
 
 /// Returns why a number has no quotient or multiple by a divisor.
-fn reason_for_divisor(divisor: i64) -> u32 {
+pub(crate) fn reason_for_divisor(divisor: i64) -> u32 {
     if divisor == 0 {
         OUTSIDE
     } else {

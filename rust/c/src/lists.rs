@@ -65,7 +65,7 @@ pub extern "C" fn cellarcove_lcm_of_u64(numbers: *const u64, numbers_len: usize)
 }
 
 /// Reads each number. The proof knows of a signed number that it fits once it is read.
-fn read_each(numbers: &[i64]) {
+pub(crate) fn read_each(numbers: &[i64]) {
     for number in numbers {
         let _read = *number;
     }

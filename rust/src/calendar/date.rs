@@ -7,14 +7,17 @@
 
 use crate::calendar::days_in_year;
 use crate::calendar::eras::{
-    days_of_eras, days_to_month, era_before_year, eras_in_days, march_year_of_day,
-    parts_from_march, DAYS_PER_ERA, YEARS_PER_ERA,
+    days_to_month, era_before_year, eras_in_days, march_year_of_day, near_year, parts_from_march,
+    DAYS_PER_ERA, YEARS_PER_ERA,
 };
 use crate::calendar::months::{days_before_month, length_of_month, month_and_day_in_year};
 use crate::calendar::years::{at_64_bits, nearby_year};
 
 /// The day of era 0 that is 1970-01-01, as [`Date::day_of_era`] counts days.
 const EPOCH_IN_ERA_0: i64 = 865566;
+
+/// The day of the era that begins in year -1400000 that is 1970-01-01.
+const EPOCH_IN_NEAR_ERA: i64 = 512205066;
 
 /// A date of the proleptic Gregorian calendar, in any year of `i64`. The year before year 1 is year
 /// 0. An earlier date is less than a later one.
@@ -151,8 +154,20 @@ impl Date {
     #[must_use]
     #[inline]
     pub fn day_number(&self) -> Option<i64> {
-        let (era, day) = self.day_of_era();
-        days_of_eras(era, i64::from(day) - EPOCH_IN_ERA_0)
+        match near_year(self.year) {
+            Some(year) => {
+                let day = days_to_month(year, self.month) + u32::from(self.day_of_month);
+                Some(i64::from(day) - EPOCH_IN_NEAR_ERA)
+            }
+            None => self.far_day_number(),
+        }
+    }
+
+    /// Returns what `day_number` returns.
+    #[cold]
+    #[inline(never)]
+    fn far_day_number(&self) -> Option<i64> {
+        at_64_bits(self.wide_day_number())
     }
 
     /// Returns the next date, or `None` if it is in the year after `i64::MAX`.

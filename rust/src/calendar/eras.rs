@@ -29,14 +29,29 @@ const MARCH_YEAR_BEFORE_EPOCH: i64 = 1600;
 /// The days from that 1 March to 1970-01-01.
 const DAYS_TO_EPOCH: u32 = 135080;
 
+/// The days from a 1 March to the first of each month, from January of the next year on. No month
+/// has the number 0.
+const DAYS_FROM_MARCH_TO_MONTH: [u16; 13] =
+    [0, 306, 337, 0, 31, 61, 92, 122, 153, 184, 214, 245, 275];
+
+/// Returns how many years from year -1400000 on come before the year, or `None` if there are none,
+/// or if the year is after 1399999.
+#[inline]
+pub(crate) const fn near_year(year: i64) -> Option<u32> {
+    if -1400000 <= year && year < 1400000 {
+        Some((year + 1400000) as u32)
+    } else {
+        None
+    }
+}
+
 /// Returns an era that is not after a year, and how many years from its beginning on come before
 /// the year.
 #[inline]
 pub(crate) const fn era_before_year(year: i64) -> (i64, u32) {
-    if -1400000 <= year && year < 1400000 {
-        (NEAR_ERA, (year + 1400000) as u32)
-    } else {
-        groups_and_rest(year, YEARS_PER_ERA)
+    match near_year(year) {
+        Some(years) => (NEAR_ERA, years),
+        None => groups_and_rest(year, YEARS_PER_ERA),
     }
 }
 
@@ -65,14 +80,13 @@ pub(crate) fn days_of_eras(eras: i64, days: i64) -> Option<i64> {
 /// years after the era begins.
 #[inline]
 pub(crate) const fn days_to_month(year: u32, month: u8) -> u32 {
-    let back = years_back(month);
-    days_of_years(year + 400 - back as u32) + days_of_months(month + 12 * back)
+    days_of_years(year + 399 + from_march_on(month) as u32) + days_from_march(month) as u32
 }
 
-/// Returns 1 in January and February, which are months 13 and 14 of the year before, and else 0.
+/// Returns 0 in January and February, and else 1.
 #[inline]
-pub(crate) const fn years_back(month: u8) -> u8 {
-    (month <= 2) as u8
+pub(crate) const fn from_march_on(month: u8) -> u16 {
+    (2 < month) as u16
 }
 
 /// Returns the days from 1 March of the first year of an era to 1 March, `years` years later.
@@ -82,12 +96,10 @@ const fn days_of_years(years: u32) -> u32 {
     QUARTERS_PER_YEAR * years / 4 - centuries + centuries / 4
 }
 
-/// Returns the days from 1 March to the first of `month`. January and February of the next year are
-/// months 13 and 14.
+/// Returns the days from the last 1 March to the first of `month`.
 #[inline]
-pub(crate) const fn days_of_months(month: u8) -> u32 {
-    // From March on, five months have 153 days, and 979 / 32 is close to 153 / 5.
-    (979 * month as u32 - 2919) / 32
+pub(crate) const fn days_from_march(month: u8) -> u16 {
+    DAYS_FROM_MARCH_TO_MONTH[month as usize]
 }
 
 /// Returns the month and the day of the month `days` days after 1 March.

@@ -465,9 +465,12 @@
 //!   last)) (λ last. IsLastWeekday day weekday last) }`
 //! - Words: [`IsLastWeekday`](calendar#islastweekday)
 //! ## `calendar::nth_weekday_of_month`
-//! - `ensures { MatchOption result ((date : Date) → ¬ (IsNthWeekday year month weekday n date)) (λ
-//!   date. IsNthWeekday year month weekday n date) }`
-//! - Words: [`IsNthWeekday`](calendar#isnthweekday)
+//! - `ensures answer { MatchOption result ((date : Date) → ¬ (IsNthWeekday year month weekday n
+//!   date)) (λ date. IsNthWeekday year month weekday n date) }`
+//! - `ensures exists { 1 ≤ month → month ≤ 12 → 1 ≤ n → n ≤ 4 → IsSome result }`
+//! - `ensures fifth { 1 ≤ month → month ≤ 12 → n ≡ 5 → IsSome result ↔ HasFifthWeekday year month
+//!   weekday }`
+//! - Words: [`IsNthWeekday`](calendar#isnthweekday), [`HasFifthWeekday`](calendar#hasfifthweekday)
 //! ## `calendar::last_weekday_of_month`
 //! - `ensures { MatchOption result (¬ ((1 ≤ month) × (month ≤ 12))) (λ date. IsLastWeekdayOfMonth
 //!   year month weekday date) }`
@@ -740,6 +743,18 @@
 //!   result }`
 //! - Words: [`AnswersWhere`](integer_core#answerswhere), [`EachFits`](integer_core#eachfits),
 //!   [`IsLeastCommonMultipleOf`](applied#isleastcommonmultipleof)
+//! ## `lists::checked::sum_of`
+//! - `ensures { AnswersWhere (T.fits (signed_sum (map T.value numbers.now))) (Has T.fits T.value (λ
+//!   s. s ≡ signed_sum (map T.value numbers.now))) result }`
+//! - Words: [`AnswersWhere`](integer_core#answerswhere), [`signed_sum`](applied#signed_sum),
+//!   [`Has`](integer_core#has)
+//! ## `lists::checked::dot_product`
+//! - `requires in_range { All (λ p. T.fits (T.value p.0) × T.fits (T.value p.1)) pairs.now }`
+//! - `ensures { AnswersWhere (T.fits (signed_sum (map (λ p. T.value p.0 *ℤ T.value p.1)
+//!   pairs.now))) (Has T.fits T.value (λ s. s ≡ signed_sum (map (λ p. T.value p.0 *ℤ T.value p.1)
+//!   pairs.now))) result }`
+//! - Words: [`AnswersWhere`](integer_core#answerswhere), [`signed_sum`](applied#signed_sum),
+//!   [`Has`](integer_core#has)
 //! ## `modular::chinese_remainder`
 //! - `requires m_positive { pos 0 <ℤ T.value m }`
 //! - `requires n_positive { pos 0 <ℤ T.value n }`
@@ -1389,6 +1404,18 @@
 //! - `ensures answer { AnswersQuotient IsNearestEven T.fits T.value (T.value x) (T.value y) result
 //!   }`
 //! - `ensures positive { pos 0 <ℤ T.value y → IsSome result }`
+//! - Words: [`AnswersQuotient`](applied#answersquotient), [`IsNearestEven`](applied#isnearesteven)
+//! ## `rounding::checked::product_div_round`
+//! - `ensures answer { AnswersQuotient IsNearest T.fits T.value (T.value a *ℤ T.value b) (T.value
+//!   d) result }`
+//! - `ensures within { pos 0 ≤ℤ T.value a → pos 0 ≤ℤ T.value b → T.value b ≤ℤ T.value d → pos 0 <ℤ
+//!   T.value d → IsSome result }`
+//! - Words: [`AnswersQuotient`](applied#answersquotient), [`IsNearest`](applied#isnearest)
+//! ## `rounding::checked::product_div_round_even`
+//! - `ensures answer { AnswersQuotient IsNearestEven T.fits T.value (T.value a *ℤ T.value b)
+//!   (T.value d) result }`
+//! - `ensures within { pos 0 ≤ℤ T.value a → pos 0 ≤ℤ T.value b → T.value b ≤ℤ T.value d → pos 0 <ℤ
+//!   T.value d → IsSome result }`
 //! - Words: [`AnswersQuotient`](applied#answersquotient), [`IsNearestEven`](applied#isnearesteven)
 //! ## `schedules::next_meeting`
 //! - `requires a_positive { pos 0 <ℤ T.value a.1 }`

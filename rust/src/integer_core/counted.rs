@@ -17,7 +17,7 @@ pub trait GcdCounted: Integer {
     /// Returns [`Integer::gcd`] and the number of iterations. The number is at most the sum of both
     /// bit lengths, and 0 if an operand is 0 or the smallest number of its type.
     ///
-    /// [`Fits::gcd_fits`](crate::Fits::gcd_fits) tests the domain.
+    /// [`Fits::gcd_fits`](crate::Fits::gcd_fits) tests the precondition.
     ///
     /// # Examples
     ///

@@ -7,31 +7,27 @@ use core::{fmt, str};
 /// Longer than any text of a fraction or a date.
 const LENGTH: usize = 128;
 
-/// A value that has a text of more than one part.
+/// A value that has a text of more than one part. A width counts the bytes of the text, as if each
+/// were a character.
 pub trait Text {
     /// Writes the text as it is, without the options of a format.
     fn write_to<W: fmt::Write>(&self, f: &mut W) -> fmt::Result;
 
     /// Writes the text with the width and the fill of the format, on the left if it names no side.
-    /// A precision cuts nothing off.
+    /// A precision cuts nothing off. A text of more than 128 bytes is a `fmt::Error`.
     fn pad(&self, f: &mut fmt::Formatter<'_>) -> fmt::Result {
-        if f.width().is_none() {
-            return self.write_to(f);
-        }
         let mut buffer = Buffer::new();
         self.write_to(&mut buffer)?;
         write_filled(f, buffer.as_str()?)
     }
 
     /// Writes the text of a number as integers are written: with a `+` and zeros in front if the
-    /// format has them, and on the right if it names no side. It has no use for a precision.
+    /// format has them, and on the right if it names no side. It has no use for a precision. A text
+    /// of more than 128 bytes is a `fmt::Error`.
     fn pad_number(&self, f: &mut fmt::Formatter<'_>) -> fmt::Result {
-        if f.width().is_some() || f.sign_plus() {
-            let mut buffer = Buffer::new();
-            self.write_to(&mut buffer)?;
-            return write_number(f, buffer.as_str()?);
-        }
-        self.write_to(f)
+        let mut buffer = Buffer::new();
+        self.write_to(&mut buffer)?;
+        write_number(f, buffer.as_str()?)
     }
 }
 
@@ -46,21 +42,27 @@ fn write_number(f: &mut fmt::Formatter<'_>, text: &str) -> fmt::Result {
 /// Writes the text, and the fill of the format on its sides.
 fn write_filled(f: &mut fmt::Formatter<'_>, text: &str) -> fmt::Result {
     let padding = f.width().unwrap_or(0).saturating_sub(text.len());
-    let before = match f.align() {
-        Some(Alignment::Right) => padding,
-        Some(Alignment::Center) => padding / 2,
-        _ => 0,
-    };
+    let before = padding_before(f.align(), padding);
     fill(f, before)?;
     f.write_str(text)?;
     fill(f, padding - before)
 }
 
+/// Returns how much of the padding stands before a text.
+fn padding_before(side: Option<Alignment>, padding: usize) -> usize {
+    match side {
+        Some(Alignment::Right) => padding,
+        Some(Alignment::Center) => padding / 2,
+        _ => 0,
+    }
+}
+
 /// Writes the fill of the format a number of times.
 fn fill(f: &mut fmt::Formatter<'_>, count: usize) -> fmt::Result {
-    let fill = f.fill();
+    let mut bytes = [0; 4];
+    let fill = f.fill().encode_utf8(&mut bytes);
     for _ in 0..count {
-        write!(f, "{fill}")?;
+        f.write_str(fill)?;
     }
     Ok(())
 }

@@ -34,7 +34,8 @@ use crate::integer_roots::magnitude_roots::{
 pub trait Roots: Integer {
     /// Returns the root of degree `n`, rounded toward zero.
     ///
-    /// [`checked::nth_root`](crate::checked::nth_root) returns `None` outside the domain.
+    /// [`checked::nth_root`](crate::checked::nth_root) returns `None` if the precondition does not
+    /// hold.
     ///
     /// # Examples
     ///
@@ -55,7 +56,7 @@ pub trait Roots: Integer {
 
     /// Returns the square root, rounded down.
     ///
-    /// [`checked::sqrt`](crate::checked::sqrt) returns `None` outside the domain.
+    /// [`checked::sqrt`](crate::checked::sqrt) returns `None` if the precondition does not hold.
     ///
     /// # Examples
     ///
@@ -99,7 +100,8 @@ pub trait Roots: Integer {
 
 /// Returns the root of degree `n`, rounded toward zero.
 ///
-/// [`checked::nth_root`](crate::checked::nth_root) returns `None` outside the domain.
+/// [`checked::nth_root`](crate::checked::nth_root) returns `None` if the precondition does not
+/// hold.
 ///
 /// # Examples
 ///
@@ -127,7 +129,7 @@ pub fn nth_root<T: Roots>(x: T, n: u32) -> T {
 
 /// Returns the square root, rounded down.
 ///
-/// [`checked::sqrt`](crate::checked::sqrt) returns `None` outside the domain.
+/// [`checked::sqrt`](crate::checked::sqrt) returns `None` if the precondition does not hold.
 ///
 /// # Examples
 ///

@@ -2,7 +2,7 @@
 from array import array
 from collections.abc import Iterable
 from fractions import Fraction
-from typing import Any, Protocol, SupportsIndex, overload
+from typing import Any, NamedTuple, Protocol, SupportsIndex, overload
 
 from . import Date, ExtendedGcd, IsoWeek, Solutions, SupportsDate, SupportsFraction, Weekday
 
@@ -19,6 +19,26 @@ Dated = SupportsDate | tuple[SupportsIndex, SupportsIndex, SupportsIndex]
 
 VERSION: str
 BUILT_BY: str
+
+class _Parts(NamedTuple):
+    year: int
+    month: int
+    day: int
+
+class Dates(_Parts):
+    def __new__(cls, year: SupportsIndex, month: SupportsIndex, day: SupportsIndex) -> Date: ...
+    @classmethod
+    def fromisoformat(cls, text: str, /) -> Date: ...
+    def isoformat(self) -> str: ...
+    def isoweekday(self) -> int: ...
+    def weekday(self) -> Weekday: ...
+    def __add__(self, days: SupportsIndex, /) -> Date: ...  # type: ignore[override]
+    def __radd__(self, days: SupportsIndex, /) -> Date: ...
+    @overload
+    def __sub__(self, days: SupportsIndex, /) -> Date: ...
+    @overload
+    def __sub__(self, other: SupportsDate, /) -> int: ...
+    def __rsub__(self, other: SupportsDate, /) -> int: ...
 
 {calls}
 def _install(classes: dict[str, Any], /) -> None: ...

@@ -13,12 +13,12 @@ static PyMethodDef methods[] = {
     {NULL, NULL, 0, NULL},
 };
 
-static struct PyModuleDef definition = {.m_base = PyModuleDef_HEAD_INIT, .m_name = "cellarcove._calls", .m_size = -1, .m_methods = methods};
-
-PyMODINIT_FUNC PyInit__calls(void) {
-    PyObject *module = PyModule_Create(&definition);
-    if (module != NULL && (intern_names() != 0 || add_words(module, methods) != 0)) {
-        Py_CLEAR(module);
-    }
-    return module;
+static int execute(PyObject *module) {
+    return take_calls() != 0 || intern_names() != 0 || add_dates(module) != 0 || add_words(module, methods) != 0 ? -1 : 0;
 }
+
+static PyModuleDef_Slot slots[] = {{Py_mod_exec, (void *)execute}, {0, NULL}};
+
+static struct PyModuleDef definition = {.m_base = PyModuleDef_HEAD_INIT, .m_name = "cellarcove._calls", .m_methods = methods, .m_slots = slots};
+
+PyMODINIT_FUNC PyInit__calls(void) { return PyModuleDef_Init(&definition); }

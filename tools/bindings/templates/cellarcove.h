@@ -49,11 +49,11 @@ static inline const char *cellarcove_status_text(uint32_t status) {
     }
 }
 
-/** The compiler that made the archive: "rattle" or "cargo". */
-static inline const char *cellarcove_built_by(void) {
-    extern const char cellarcove_made_by[];
-    return cellarcove_made_by;
-}
+/** The version of the library, which is CELLARCOVE_VERSION if the header is that of the library. */
+const char *cellarcove_version(void);
+
+/** The compiler that made the library: "rattle" or "cargo". */
+const char *cellarcove_built_by(void);
 
 /* ---- Results ---- */
 

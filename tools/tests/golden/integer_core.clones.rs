@@ -1,4 +1,4 @@
-//! A copy is a clone in this crate, and the function has the bound.
+//! Code over `Integer` clones in this crate where it copies, and asks for it.
 
 pub trait Integer: Sized + Num {
     /// Returns the next number.
@@ -9,8 +9,25 @@ pub trait Integer: Sized + Num {
         *self = successor(self.clone());
     }
 
-    fn is_above(&self, other: &Self) -> bool {
-        *self > *other
+    fn is_even(&self) -> bool {
+        self.is_multiple_of(&two())
+    }
+
+    fn with_next(&self) -> (Self, Self)
+    where
+        Self: Clone + Signed,
+    {
+        let mut next = self.clone();
+        next.inc();
+        (self.clone(), next)
+    }
+
+    fn twice(&mut self)
+    where
+        Self: Clone,
+    {
+        self.inc();
+        self.inc();
     }
 }
 
@@ -18,38 +35,20 @@ fn square<T: Integer + Clone>(x: T) -> T {
     product(x.clone(), x)
 }
 
-fn powers<T: Integer + Clone>(x: T) -> T {
-    let mut y = one();
-    loop {
-        y = product(y, x.clone());
-    }
-}
-
-fn low<T: Integer + Clone>(x: T, y: T) -> T {
-    if is_negative(x.clone()) {
+fn low<T: Integer>(x: T, y: T) -> T {
+    if is_negative(x) {
         x
     } else {
         y
     }
 }
 
-fn one_of<T: Integer>(x: T, y: T) -> T {
-    if is_negative(y) {
-        x
-    } else {
-        zero()
+impl<T: Integer + Clone> Row<T> {
+    fn doubled(self) -> Row<T> {
+        doubled_row(product(self.x.clone(), self.y), self.x)
     }
 }
 
-impl<T: Integer> Row<T> {
-    fn swapped(self) -> Row<T> {
-        Row {
-            x: self.y,
-            y: self.x,
-        }
-    }
-}
-
-fn parts<T: Integer + Clone>(row: Row<T>) -> (T, Row<T>) {
-    (row.x.clone(), row)
+fn native<T: NativeInteger>(x: &T, y: T) -> T {
+    product(*x, y * *x)
 }

@@ -1,4 +1,4 @@
-//! Above `integer_core` what copies has the bound `Copy`, and so has what uses it.
+//! Above `integer_core` what copies asks for `Copy`, and a struct has no bounds.
 
 use crate::integer_core::Integer;
 
@@ -19,30 +19,10 @@ impl<T: Integer + Copy> Pair<T> {
     }
 }
 
-fn two<T: Integer + Copy>(x: T) -> T {
-    sum(x, x)
-}
-
-fn call<T: Integer + Copy>(x: T) -> T {
-    two(x)
-}
-
 fn pages<T: Integer>(x: T, y: T) -> T {
     div_ceil(x, y)
 }
 
-fn is_above<T: Integer>(x: T, y: &T) -> bool {
-    x > *y
-}
-
 fn native<T: Integer + PrimInt>(x: T) -> T {
     sum(x, x)
-}
-
-fn root<T: Integer>(x: T, n: u32) -> T {
-    check(
-        n % 2 != 0 || x >= zero(),
-        "attempt to take an even root of a negative number",
-    );
-    x.nth_root(n)
 }

@@ -1,15 +1,18 @@
-//! The greatest common divisor and the least common multiple of a list, or `None` if it does not fit.
+//! The greatest common divisor, the least common multiple and the sums of a list, or `None` if it does not fit.
 
-ghost use Rattle.std.specs.Prelude.{◌≡◌, ◌≢◌, ◌<◌, ◌≤ℤ◌, ℕ, pos, unsigned_abs, length, map, IsFalse, IsTrue};
+ghost use Rattle.std.specs.Prelude.{◌≡◌, ◌≢◌, ◌<◌, ◌≤ℤ◌, ◌*ℤ◌, ℕ, pos, unsigned_abs, length, map, IsFalse, IsTrue};
 ghost use Rattle.std.specs.List.{All, HoldsAt};
-ghost use Rattle.num_integer.specs.Checked.{AnswersWhere};
+ghost use Rattle.num_integer.specs.Checked.{AnswersWhere, Has};
 ghost use Rattle.num_integer.specs.Divisors.{IsGreatestCommonDivisor, IsLeastCommonMultiple};
 ghost use Rattle.num_integer.specs.Range.{EachFits};
 ghost use Rattle.applied.specs.Lists.{GcdOfFits, IsGreatestCommonDivisorOf, IsLeastCommonMultipleOf};
+ghost use Rattle.applied.specs.Shares.{signed_sum};
 
+use super::total::Total;
 use crate::coprime::signed_gcd;
 use num_integer::operators::{is_negative, is_one, is_zero, one, zero};
-use num_integer::{Fits, checked};
+use num_integer::sign_magnitude::{number_of, parts_of, parts_of_product};
+use num_integer::{Fits, NativeInteger, checked};
 
 /// Returns [`gcd_of`](crate::lists::gcd_of), the greatest common divisor of the numbers, or `None` if it does
 /// not fit. `gcd_of(&[12, 18, 8])` is `Some(2)`, and `gcd_of(&[i8::MIN, 0])` is `None`. The only one that may
@@ -115,4 +118,38 @@ fn has_zero<T: Fits>(numbers: &[T]) -> bool
         }
     }
     false
+}
+
+/// Returns the sum of the numbers of a built-in type of at most 64 bits, or `None` if it does not fit. The sum of the first numbers need
+/// not fit. `sum_of(&[100i8, 100, -100])` is `Some(100)`, `sum_of(&[100i8, 100])` is `None`, and `sum_of::<i64>(&[])` is `Some(0)`.
+pub fn sum_of<T: NativeInteger<Magnitude = u64>>(numbers: &[T]) -> Option<T>
+    requires in_range { All (λ x. T.fits (T.value x)) numbers.now }
+    ensures { AnswersWhere
+        (T.fits (signed_sum (map T.value numbers.now)))
+        (Has T.fits T.value (λ s. s ≡ signed_sum (map T.value numbers.now)))
+        result }
+{
+    let mut total = Total::zero();
+    for number in numbers {
+        let (negative, magnitude) = parts_of(*number);
+        total = total.plus((negative, u128::from(magnitude)));
+    }
+    number_of(total.parts()?)
+}
+
+/// Returns the sum of the products of the pairs, numbers of a built-in type of at most 64 bits, or `None` if it does not fit. The products
+/// and the sum of the first of them need not fit. `dot_product(&[(2, 1999), (1, 501)])` is `Some(4499)`, and
+/// `dot_product(&[(100i8, 100), (-100, 99)])` is `Some(100)`.
+pub fn dot_product<T: NativeInteger<Magnitude = u64>>(pairs: &[(T, T)]) -> Option<T>
+    requires in_range { All (λ p. T.fits (T.value p.0) × T.fits (T.value p.1)) pairs.now }
+    ensures { AnswersWhere
+        (T.fits (signed_sum (map (λ p. T.value p.0 *ℤ T.value p.1) pairs.now)))
+        (Has T.fits T.value (λ s. s ≡ signed_sum (map (λ p. T.value p.0 *ℤ T.value p.1) pairs.now)))
+        result }
+{
+    let mut total = Total::zero();
+    for (a, b) in pairs {
+        total = total.plus(parts_of_product(*a, *b));
+    }
+    number_of(total.parts()?)
 }

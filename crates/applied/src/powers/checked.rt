@@ -10,7 +10,7 @@ use num_integer::{Integer, Roots};
 
 /// Returns [`sqrt_rem`](crate::powers::sqrt_rem), the square root and what is left, or `None` if `n` is
 /// negative. `sqrt_rem(99)` is `Some((9, 18))`, and `sqrt_rem(-99)` is `None`.
-pub fn sqrt_rem<T: Roots>(n: T) -> Option<(T, T)>
+pub fn sqrt_rem<T: Roots + Copy>(n: T) -> Option<(T, T)>
     requires { T.fits (T.value n) }
     ensures { AnswersWhere
         (pos 0 ≤ℤ T.value n)
@@ -29,7 +29,7 @@ pub fn sqrt_rem<T: Roots>(n: T) -> Option<(T, T)>
 
 /// Returns [`ilog`](crate::powers::ilog), the integer logarithm, or `None` if `number` is below 1 or `base`
 /// below 2. `ilog(1000, 10)` is `Some(3)`, `ilog(0, 10)` is `None`, and `ilog(1000, 1)` is `None`.
-pub fn ilog<T: Integer>(number: T, base: T) -> Option<u32>
+pub fn ilog<T: Integer + Copy>(number: T, base: T) -> Option<u32>
     requires in_range { T.fits (T.value number) × T.fits (T.value base) }
     ensures answer { AnswersWhere
         ((pos 0 <ℤ T.value number) × (pos 1 <ℤ T.value base))

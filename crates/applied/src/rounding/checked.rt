@@ -1,10 +1,16 @@
-//! The calls of this module for any two numbers. Each is `None` if the divisor is 0 or the quotient does not fit.
+//! The calls of this module for any two numbers, and those of a product. Each is `None` if the divisor is 0 or the quotient does not
+//! fit.
 
-ghost use Rattle.std.specs.Prelude.{◌<ℤ◌, pos};
+ghost use Rattle.std.specs.Prelude.{◌≢◌, ◌<ℤ◌, ◌≤ℤ◌, ◌*ℤ◌, pos};
 ghost use Rattle.std.specs.Option.{IsSome};
+ghost use Rattle.num_integer.specs.Checked.{AnswersWhere, Has};
+ghost use Rattle.num_integer.specs.Division.{IsQuotient};
+ghost use Rattle.num_integer.specs.Range.{EachFits};
 ghost use Rattle.applied.specs.Rounding.{AnswersQuotient, IsNearest, IsNearestEven};
 
-use num_integer::Fits;
+use num_integer::operators::{is_minus_one, is_zero};
+use num_integer::sign_magnitude::{number_of, parts_of, parts_of_product};
+use num_integer::{Fits, NativeInteger};
 
 /// Returns [`div_round`](crate::rounding::div_round), the nearest integer and a half away from zero, or `None`
 /// if `y` is 0 or the quotient does not fit. `div_round(5, 2)` is `Some(3)`, and `div_round(i8::MIN, -1)` is
@@ -33,4 +39,77 @@ pub fn div_round_even<T: Fits>(x: T, y: T) -> Option<T>
     } else {
         None
     }
+}
+
+/// Returns the quotient of `a * b` by `d`, rounded to the nearest integer, and a half away from zero, for a built-in type of at most 64
+/// bits, or `None` if `d` is 0 or the quotient does not fit. `product_div_round(1999, 19, 100)` is `Some(380)`, and
+/// `product_div_round(i64::MAX, 3, 2)` is `None`.
+///
+/// The product need not fit: then it is computed in 128 bits. No wider type has the products of `i128`, `u128` or a type of your
+/// own, so there call [`checked::product`](num_integer::checked::product) and then [`div_round`], if the product fits.
+///
+/// A part of a number is never `None`: if `a` and `b` are at least 0, and `b` is at most `d`, which is positive, the quotient is at
+/// most `a`.
+pub fn product_div_round<T: NativeInteger<Magnitude = u64>>(a: T, b: T, d: T) -> Option<T>
+    requires in_range { T.fits (T.value a) × T.fits (T.value b) × T.fits (T.value d) }
+    ensures answer { AnswersQuotient IsNearest T.fits T.value (T.value a *ℤ T.value b) (T.value d) result }
+    ensures within { pos 0 ≤ℤ T.value a → pos 0 ≤ℤ T.value b → T.value b ≤ℤ T.value d
+        → pos 0 <ℤ T.value d → IsSome result }
+{
+    if is_zero(d) {
+        return None;
+    }
+    match a.checked_mul(&b) {
+        Some(product) if !is_minus_one(d) => Some(crate::rounding::div_round(product, d)),
+        _ => wide_product_div_round(a, b, d),
+    }
+}
+
+/// Returns the quotient of [`product_div_round`], computed in 128 bits, or `None` if it does not fit. That of the magnitudes has the
+/// magnitude of that of the numbers.
+fn wide_product_div_round<T: NativeInteger<Magnitude = u64>>(a: T, b: T, d: T) -> Option<T>
+    requires in_range { T.fits (T.value a) × T.fits (T.value b) × T.fits (T.value d) }
+    requires nonzero { T.value d ≢ pos 0 }
+    ensures { AnswersWhere
+        (EachFits T.fits (IsQuotient IsNearest (T.value a *ℤ T.value b) (T.value d)))
+        (Has T.fits T.value (IsQuotient IsNearest (T.value a *ℤ T.value b) (T.value d)))
+        result }
+{
+    let (product, divisor) = (parts_of_product(a, b), parts_of(d));
+    let magnitude = crate::rounding::div_round(product.1, u128::from(divisor.1));
+    number_of((product.0 != divisor.0, magnitude))
+}
+
+/// Returns the quotient of `a * b` by `d`, rounded to the nearest integer, and a half to the even one, or `None` if
+/// [`product_div_round`] does. `product_div_round_even(250, 1, 100)` is `Some(2)`, and `product_div_round_even(350, 1, 100)` is `Some(4)`.
+///
+/// As there, the product need not fit, and a part of a number is never `None`.
+pub fn product_div_round_even<T: NativeInteger<Magnitude = u64>>(a: T, b: T, d: T) -> Option<T>
+    requires in_range { T.fits (T.value a) × T.fits (T.value b) × T.fits (T.value d) }
+    ensures answer { AnswersQuotient IsNearestEven T.fits T.value (T.value a *ℤ T.value b) (T.value d) result }
+    ensures within { pos 0 ≤ℤ T.value a → pos 0 ≤ℤ T.value b → T.value b ≤ℤ T.value d
+        → pos 0 <ℤ T.value d → IsSome result }
+{
+    if is_zero(d) {
+        return None;
+    }
+    match a.checked_mul(&b) {
+        Some(product) if !is_minus_one(d) => Some(crate::rounding::div_round_even(product, d)),
+        _ => wide_product_div_round_even(a, b, d),
+    }
+}
+
+/// Returns the quotient of [`product_div_round_even`], computed in 128 bits, or `None` if it does not fit. That of the magnitudes has
+/// the magnitude of that of the numbers.
+fn wide_product_div_round_even<T: NativeInteger<Magnitude = u64>>(a: T, b: T, d: T) -> Option<T>
+    requires in_range { T.fits (T.value a) × T.fits (T.value b) × T.fits (T.value d) }
+    requires nonzero { T.value d ≢ pos 0 }
+    ensures { AnswersWhere
+        (EachFits T.fits (IsQuotient IsNearestEven (T.value a *ℤ T.value b) (T.value d)))
+        (Has T.fits T.value (IsQuotient IsNearestEven (T.value a *ℤ T.value b) (T.value d)))
+        result }
+{
+    let (product, divisor) = (parts_of_product(a, b), parts_of(d));
+    let magnitude = crate::rounding::div_round_even(product.1, u128::from(divisor.1));
+    number_of((product.0 != divisor.0, magnitude))
 }

@@ -9,7 +9,7 @@ use integer_roots::Roots;
 
 /// Returns [`Roots::nth_root`], the root of degree `n` rounded toward zero, or `None` if `n` is 0, or if
 /// `n` is even and `x` is negative. `nth_root(-9, 3)` is `Some(-2)`, and `nth_root(-9, 2)` is `None`.
-pub fn nth_root<T: Roots>(x: T, n: u32) -> Option<T>
+pub fn nth_root<T: Roots + Copy>(x: T, n: u32) -> Option<T>
     requires { T.fits (T.value x) }
     ensures { AnswersWhere
         ((n ≢ 0) × (n % 2 ≡ 0 → pos 0 ≤ℤ T.value x))
@@ -25,7 +25,7 @@ pub fn nth_root<T: Roots>(x: T, n: u32) -> Option<T>
 
 /// Returns [`Roots::sqrt`], the square root rounded down, or `None` if `x` is negative. `sqrt(99)` is
 /// `Some(9)`, and `sqrt(-1)` is `None`.
-pub fn sqrt<T: Roots>(x: T) -> Option<T>
+pub fn sqrt<T: Roots + Copy>(x: T) -> Option<T>
     requires { T.fits (T.value x) }
     ensures { AnswersWhere
         (pos 0 ≤ℤ T.value x)

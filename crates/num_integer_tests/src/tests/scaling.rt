@@ -6,7 +6,7 @@ use num_integer::checked::product_div_mod_floor;
 /// Two factors, a divisor, and the quotient with its remainder.
 type Row<T> = (T, T, T, Option<(T, T)>);
 
-static SIGNED: [Row<i64>; 12] = [
+static SIGNED: [Row<i64>; 15] = [
     (i64::MAX, 2, 3, Some((6148914691236517204, 2))),
     (i64::MAX, 3, 2, None),
     (i64::MIN, -1, -1, Some((i64::MIN, 0))),
@@ -23,6 +23,9 @@ static SIGNED: [Row<i64>; 12] = [
     (-8, 1, 3, Some((-3, 1))),
     (8, 1, -3, Some((-3, -1))),
     (0, i64::MIN, -1, Some((0, 0))),
+    (5, 1, -1, Some((-5, 0))),
+    (i64::MIN, 1, -1, None),
+    (i64::MIN, 1, 2, Some((-4611686018427387904, 0))),
     (1, 1, 0, None),
 ];
 

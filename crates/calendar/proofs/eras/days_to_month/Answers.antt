@@ -3,6 +3,6 @@ use Rattle.calendar.proofs.eras.days_to_month.Goals as goal
 
 pub returns-clause-day : goal.returns-clause-day
 returns-clause-day c = λ era.
-    let back = c.years_back-back.ensures in
-    let months = c.days_of_months.ensures in
-    month_of_march era c.args.year c.args.month c.years_back-back.result c.days_of_years.result c.days_of_months.result c.requires.from_one c.requires.to_twelve back.before back.same c.days_of_years.ensures.day months.days months.late
+    let after = c.from_march_on.ensures in
+    let months = c.days_from_march.ensures in
+    month_of_march era c.args.year c.args.month c.from_march_on.result c.days_of_years.result c.days_from_march.result c.requires.from_one c.requires.to_twelve after.before after.after c.days_of_years.ensures.day months.early months.late

@@ -5,8 +5,8 @@ use Rattle.calendar.proofs.months.days_before_month.Goals as goal
 pub returns : goal.returns
 returns c =
     let year = c.ranges.year in
-    let back = c.years_back-back.ensures in
-    let months = c.days_of_months-days.ensures in
-    let (long, is) = days_before c.args.year c.args.month c.years_back-back.result c.days_of_months-days.result c.requires.from_one c.requires.to_twelve back.before back.same months.days months.late in
+    let after = c.from_march_on.ensures in
+    let months = c.days_from_march.ensures in
+    let (long, is) = days_before c.args.year c.args.month c.from_march_on.result c.days_from_march.result c.requires.from_one c.requires.to_twelve after.before after.after months.early months.late in
     let length = simp to_z-of_z at c.days_in_year.ensures.days in
     rw length (omega (arith, long, is))

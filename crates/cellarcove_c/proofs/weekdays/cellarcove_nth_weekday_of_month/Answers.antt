@@ -5,5 +5,5 @@ use Rattle.cellarcove_c.proofs.weekdays.cellarcove_nth_weekday_of_month.Goals as
 
 pub returns-in-Some-nth_weekday_of_month-clause-answer : goal.returns-in-Some-nth_weekday_of_month-clause-answer
 returns-in-Some-nth_weekday_of_month-clause-answer c = λ _.
-    let holds = rw (to_z-of_z w64 c.args.year c.ranges.year) at c.in-Some-nth_weekday_of_month.ensures in
+    let holds = rw (to_z-of_z w64 c.args.year c.ranges.year) at c.in-Some-nth_weekday_of_month.ensures.answer in
     of_iso_number c.in-Some.weekday c.in-Some-nth_weekday_of_month.date c.in-Some.ensures c.some.ensures.parts holds

@@ -11,28 +11,28 @@ rows-init g c =
     rw (first.remainder, first.x, first.y, c.zero.ensures.value, c.one.ensures.value)
     (rows_fit_first g.met.T.Integer.range_law c.requires.in_range.0 c.requires.in_range.1 c.requires.nonzero c.requires.has_pair)
 
-pub div_rem-requires-clause-quotient_fits : goal.div_rem-requires-clause-quotient_fits
-div_rem-requires-clause-quotient_fits g c q h =
+pub div_rem-quotient-requires-clause-quotient_fits : goal.div_rem-quotient-requires-clause-quotient_fits
+div_rem-quotient-requires-clause-quotient_fits g c q h =
     let goes_on = iff_false c.is_multiple_of.ensures c.rows-test.true in
     let keeps = c.rows.invariant in
     inexact_quotient_fits keeps.range keeps.previous_fits.remainder keeps.current_fits.remainder h.division.division (inexact h.division goes_on)
 
 pub product-requires-clause-product_fits : goal.product-requires-clause-product_fits
 product-requires-clause-product_fits g c =
-    (turn_fits c.rows.invariant (iff_false c.is_multiple_of.ensures c.rows-test.true) c.div_rem.ensures.truncated).0.product
+    (turn_fits c.rows.invariant (iff_false c.is_multiple_of.ensures c.rows-test.true) c.div_rem-quotient.ensures.truncated).0.product
 
 pub difference-x-requires-clause-difference_fits : goal.difference-x-requires-clause-difference_fits
 difference-x-requires-clause-difference_fits g c =
-    let turn = turn_fits c.rows.invariant (iff_false c.is_multiple_of.ensures c.rows-test.true) c.div_rem.ensures.truncated in
+    let turn = turn_fits c.rows.invariant (iff_false c.is_multiple_of.ensures c.rows-test.true) c.div_rem-quotient.ensures.truncated in
     rw c.product.ensures.value turn.0.next.in_range
 
 pub product-requires-in-rows-clause-product_fits : goal.product-requires-in-rows-clause-product_fits
 product-requires-in-rows-clause-product_fits g c =
-    (turn_fits c.rows.invariant (iff_false c.is_multiple_of.ensures c.rows-test.true) c.div_rem.ensures.truncated).1.product
+    (turn_fits c.rows.invariant (iff_false c.is_multiple_of.ensures c.rows-test.true) c.div_rem-quotient.ensures.truncated).1.product
 
 pub difference-y-requires-clause-difference_fits : goal.difference-y-requires-clause-difference_fits
 difference-y-requires-clause-difference_fits g c =
-    let turn = turn_fits c.rows.invariant (iff_false c.is_multiple_of.ensures c.rows-test.true) c.div_rem.ensures.truncated in
+    let turn = turn_fits c.rows.invariant (iff_false c.is_multiple_of.ensures c.rows-test.true) c.div_rem-quotient.ensures.truncated in
     rw c.product-in-rows.ensures.value turn.1.next.in_range
 
 pub overflow_add-turns : goal.overflow_add-turns
@@ -42,7 +42,7 @@ pub rows-preserved : goal.rows-preserved
 rows-preserved g c =
     let goes_on = iff_false c.is_multiple_of.ensures c.rows-test.true in
     rw (c.difference-x.ensures.value, c.product.ensures.value, c.difference-y.ensures.value, c.product-in-rows.ensures.value)
-    (rows_fit_turn c.rows.invariant goes_on c.div_rem.ensures.truncated c.div_rem.ensures.in_range.1)
+    (rows_fit_turn c.rows.invariant goes_on c.div_rem-quotient.ensures.truncated c.div_rem-quotient.ensures.in_range.1)
 
 pub returns : goal.returns
 returns g c =

@@ -5,7 +5,7 @@ ruleset of_pages = (law.pages_are_only, law.place_exists, law.place_is_only, law
 
 ruleset of_choices = (law.least_time_is_only, law.count_of_times_is_only, law.shares_by_remainder_are_only, law.choice_of_rank_is_only, law.rank_is_below, law.midpoint_is_only, law.lower_bound_is_only)
 
-ruleset of_pairs = (law.reduced_pair_exists, law.reduced_pair_is_only, law.gcd_of_exists, law.gcd_of_is_only, law.gcd_of_fits_exactly, law.lcm_of_exists, law.lcm_of_is_only)
+ruleset of_pairs = (law.reduced_pair_exists, law.reduced_pair_is_only, law.gcd_of_exists, law.gcd_of_is_only, law.gcd_of_fits_exactly, law.lcm_of_exists, law.lcm_of_is_only, law.lcm_of_is_first_common_multiple)
 
 ruleset of_rounding = (law.nearest_quotient_exists, law.no_integer_is_nearer, law.nearest_quotient_is_only, law.nearest_even_quotient_is_only, law.nearest_quotient_fits_exactly)
 

@@ -1,14 +1,17 @@
-use Rattle.calendar.proofs.Common.{◌≡◌, ◌<◌, ◌^◌, ◌+ℤ◌, ◌*ℤ◌, ◌-ℤ◌, ℕ, ℤ, pos, unsigned_abs, FitsSigned, w64, arith, ints, to_z-of_z}
+use Rattle.calendar.proofs.Common.{◌≡◌, ◌+ℤ◌, ◌*ℤ◌, ◌-ℤ◌, pos, negsuc, FitsSigned, w64, arith, refl, rules, sym, ints, to_z-of_z}
 use Rattle.calendar.specs.Dates.{number_of}
 use Rattle.calendar.proofs.date.Date.day_number.Goals as goal
 
--- the era and the day fit
-fitting : (era : ℤ) (day : ℕ) → unsigned_abs era < 2 ^ 55 → day < 2 ^ 30 → FitsSigned w64 era × FitsSigned w64 (pos day) × FitsSigned w64 (pos day -ℤ pos 865566)
-fitting era day era_small day_small = (omega (arith, ints), omega (arith, ints), omega (arith, ints))
-
-pub returns : goal.returns
-returns c =
-    let own = c.day_of_era-era in
-    let (era, day, days) = fitting own.result.0 own.result.1 own.ensures.small own.ensures.below in
-    let same : number_of c.args.self.now ≡ pos 146097 *ℤ own.result.0 +ℤ (pos own.result.1 -ℤ pos 865566) = omega (arith, ints, own.ensures.number) in
-    rw same (simp (c.from.ensures, to_z-of_z) at c.days_of_eras.ensures)
+pub returns-in-Some : goal.returns-in-Some
+returns-in-Some c =
+    let date = c.args.self.now in
+    let year : FitsSigned w64 date.year = search rules in
+    let (place, near) = simp to_z-of_z at c.in-Some.ensures in
+    let in_era : pos 400 *ℤ negsuc 3499 +ℤ pos c.in-Some.year ≡ date.year = omega (arith, ints, place) in
+    let month = rw in_era at (c.days_to_month.ensures.day (negsuc 3499)) in
+    let small = c.days_to_month.ensures.small in
+    let day = c.from-in-Some.ensures in
+    let day_fits : FitsSigned w64 c.from-in-Some.result = omega (arith, ints, day, small, c.from.ensures) in
+    let fits : FitsSigned w64 (c.from-in-Some.result -ℤ pos 512205066) = omega (arith, ints, day, small, c.from.ensures) in
+    let is : c.from-in-Some.result -ℤ pos 512205066 ≡ number_of date = omega (arith, ints, day, month, c.from.ensures) in
+    rw (sym is) (simp to_z-of_z (fits, refl))

@@ -1,5 +1,13 @@
-use Rattle.integer_core.proofs.WrittenTexts.{through_formatter}
+use Rattle.std.proofs.Common.{◌∙◌, subst, take, List, ℕ}
+use Rattle.std.specs.Fmt.{WritesStyledOnOk}
+use Rattle.integer_core.specs.Padded.{padded_text}
+use Rattle.integer_core.proofs.PaddedTexts.{kept_is_written, padded_text_plain, plain_from_styled}
 use Rattle.integer_core.proofs.padded.Text.pad.Goals as goal
 
-pub returns-then-is_none : goal.returns-then-is_none
-returns-then-is_none g c = through_formatter g.W.Write.write_str_gives c.write_to.result c.args.f.now _ c.write_to.new.f c.write_to.ensures
+pub returns-clause-styled : goal.returns-clause-styled
+returns-clause-styled g c =
+    let text = c.in_ok-as_str.ensures.text ∙ kept_is_written _ (λ b. take b.len b.bytes) (λ w bs v e. e) c.new-buffer.result _ c.write_to.new.f c.new-buffer.ensures c.in_ok-write_to.ensures in
+    subst (λ (l : List ℕ). WritesStyledOnOk g.W.Write.write_str_gives c.args.f.now c.write_filled.result (padded_text c.args.f.now.spec l) c.write_filled.new.f) text c.write_filled.ensures
+
+pub returns-clause-plain : goal.returns-clause-plain
+returns-clause-plain g c = plain_from_styled g.W.Write.write_str_gives c.args.f.now c.write_filled.result _ _ c.write_filled.new.f (padded_text_plain c.args.f.now.spec _) (returns-clause-styled g c)

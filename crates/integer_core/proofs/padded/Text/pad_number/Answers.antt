@@ -1,5 +1,13 @@
-use Rattle.integer_core.proofs.WrittenTexts.{through_formatter}
+use Rattle.std.proofs.Common.{◌∙◌, subst, take, List, ℕ}
+use Rattle.std.specs.Fmt.{WritesStyledOnOk}
+use Rattle.integer_core.specs.Padded.{padded_number}
+use Rattle.integer_core.proofs.PaddedTexts.{kept_is_written, padded_number_plain, plain_from_styled}
 use Rattle.integer_core.proofs.padded.Text.pad_number.Goals as goal
 
-pub returns : goal.returns
-returns g c = through_formatter g.W.Write.write_str_gives c.write_to-2.result c.args.f.now _ c.write_to-2.new.f c.write_to-2.ensures
+pub returns-clause-styled : goal.returns-clause-styled
+returns-clause-styled g c =
+    let text = c.in_ok-as_str.ensures.text ∙ kept_is_written _ (λ b. take b.len b.bytes) (λ w bs v e. e) c.new-buffer.result _ c.write_to.new.f c.new-buffer.ensures c.in_ok-write_to.ensures in
+    subst (λ (l : List ℕ). WritesStyledOnOk g.W.Write.write_str_gives c.args.f.now c.write_number.result (padded_number c.args.f.now.spec l) c.write_number.new.f) text c.write_number.ensures
+
+pub returns-clause-plain : goal.returns-clause-plain
+returns-clause-plain g c = plain_from_styled g.W.Write.write_str_gives c.args.f.now c.write_number.result _ _ c.write_number.new.f (padded_number_plain c.args.f.now.spec _) (returns-clause-styled g c)

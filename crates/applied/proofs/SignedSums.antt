@@ -1,0 +1,37 @@
+-- Sums of signed numbers, and their running totals.
+use Rattle.std.specs.Prelude.{◌≡◌, ◌<◌, ◌≤◌, ◌^◌, ◌+◌, ◌+ℤ◌, ◌∷◌, ◌++◌}
+use Rattle.applied.proofs.Common.{ℕ, ℤ, pos, unsigned_abs, List, [], length, get_or, map, take, arith, inl, inr, refl, map_more, IsRange, linear, sizes, signed_sum}
+
+-- ---- sums of lists
+
+pub signed_sum-nil : signed_sum [] ≡ pos 0
+signed_sum-nil = refl
+
+pub signed_sum-cons : (x : ℤ) (xs : List ℤ) → signed_sum (x ∷ xs) ≡ x +ℤ signed_sum xs
+signed_sum-cons x xs = refl
+
+pub signed_sum-append : (xs ys : List ℤ) → signed_sum (xs ++ ys) ≡ signed_sum xs +ℤ signed_sum ys
+signed_sum-append [] ys = omega (arith, linear)
+signed_sum-append (x ∷ xs) ys = omega (arith, linear, signed_sum-append xs ys)
+
+-- the sum of the first i + 1 numbers of a list is that of the first i and the number at i
+pub signed_sum_more : {X : Type 0} (value : X → ℤ) (items : List X) (i : ℕ) {x : X} {sum next : ℤ} → sum ≡ signed_sum (map value (take i items)) → i < length items → x ≡ get_or items i x
+    → next ≡ sum +ℤ value x → next ≡ signed_sum (map value (take (i + 1) items))
+signed_sum_more value items i {x = x} before within at is =
+    rw (map_more value items i x within, ← at, signed_sum-append (map value (take i items)) (value x ∷ [])) (omega (arith, linear, before, is))
+
+-- ---- totals
+
+-- a number whose magnitude has more than 128 bits is out of each range
+pub wide_out_of_range : {fits : ℤ → Type 0} {low high : ℤ} {z : ℤ} → IsRange fits low high → 2 ^ 128 ≤ unsigned_abs z → ¬ (fits z)
+wide_out_of_range {z = z} range large z_fits =
+    let between = (range.between z).0 z_fits in
+    let positive = range.positive in
+    let most = range.bounded in
+    elim range.low_end [
+      | inl none ↦ omega (arith, sizes, between, most, none)
+      | inr negative ↦ elim range.bounded_below [
+          | inl up ↦ omega (arith, sizes, between, most, up)
+          | inr small ↦ elim negative [ inl same ↦ omega (arith, sizes, between, small, same) | inr next ↦ omega (arith, sizes, between, small, next) ]
+        ]
+    ]

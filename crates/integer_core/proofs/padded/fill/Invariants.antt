@@ -1,0 +1,10 @@
+use Rattle.std.proofs.Common.{◌≡◌}
+use Rattle.std.specs.Fmt.{HasWrittenStyled, IsFlush}
+use Rattle.std.specs.List.{repeat}
+use Rattle.std.specs.Char.{encode_utf8}
+use Rattle.integer_core.proofs.padded.fill.Given as goal
+
+abbrev pub invariant-loop : goal.invariant-loop
+invariant-loop g l =
+    (l.fill ≡ encode_utf8 l.fn.f.spec.fill)
+    × (IsFlush l.fn.f → HasWrittenStyled g.W.Write.write_str_gives l.fn.f (repeat l.counter l.fill) l.f)

@@ -1,0 +1,60 @@
+-- Least common multiples are the first positive common multiples, and greatest common divisors are bounded.
+use Rattle.num_integer.proofs.Common.{◌≢◌, ◌↔◌, ◌<◌, ◌≤◌, ◌^◌, ℕ, ℤ, pos, Option, Some, None, FitsUnsignedBits, unsigned_abs, Divides, EachFits, IsGreatestCommonDivisor, IsLeastCommonMultiple, arith, inl, inr, ints, linear, lcm_exists, subst, sym, cases_lt}
+use Rattle.std.specs.Prelude.{MatchOption}
+use Rattle.integer_core.proofs.DivisorSizes.{divisor_at_most, gcd_at_most, lcm-positive}
+use Rattle.integer_core.proofs.Least.{least_is_only}
+use Rattle.num_integer.specs.Checked.{AnswersWhere, Has}
+use Rattle.num_integer.specs.Laws as law
+use Rattle.num_integer.specs.Least.{IsLeastFrom}
+
+-- ---- multiples
+
+-- The least common multiple of numbers that are not 0 is their first positive common multiple.
+pub lcm_is_first : {a b l : ℤ} → a ≢ pos 0 → b ≢ pos 0 → IsLeastCommonMultiple a b l → IsLeastFrom (pos 1) (λ u. Divides a u × Divides b u) l
+lcm_is_first a_nonzero b_nonzero h =
+    let up = lcm-positive h a_nonzero b_nonzero in
+    record {
+      from_there = omega (arith, linear);
+      holds = (h.left_divides, h.right_divides);
+      least = λ u from both. divisor_at_most (omega (arith, linear)) (h.least u both.0 both.1);
+    }
+
+pub lcm_is_first_common_multiple : law.LcmIsFirstCommonMultiple
+lcm_is_first_common_multiple = λ a b l a_nonzero b_nonzero. (
+  lcm_is_first a_nonzero b_nonzero,
+  λ first. let own = lcm_exists a b in subst (IsLeastCommonMultiple a b) (least_is_only first own.0 (lcm_is_first a_nonzero b_nonzero own.1)) own.1,
+)
+
+-- ---- calls that return the least common multiple if it fits
+
+-- A call that does returns the first common multiple, or no first common multiple fits.
+pub first_multiple_answers : {X : Type 0} (value : X → ℤ) (fits : ℤ → Type 0) {a b : ℤ} (r : Option X) → a ≢ pos 0 → b ≢ pos 0
+    → AnswersWhere (EachFits fits (IsLeastCommonMultiple a b)) (Has fits value (IsLeastCommonMultiple a b)) r
+    → MatchOption r ((t : ℤ) → IsLeastFrom (pos 1) (λ u. Divides a u × Divides b u) t → ¬ (fits t)) (λ x. IsLeastFrom (pos 1) (λ u. Divides a u × Divides b u) (value x))
+first_multiple_answers value fits (Some x) a_nonzero b_nonzero h = lcm_is_first a_nonzero b_nonzero h.1.1
+first_multiple_answers value fits None a_nonzero b_nonzero none = λ t first t_fits. none (λ z is. subst fits (sym (least_is_only first z (lcm_is_first a_nonzero b_nonzero is))) t_fits)
+
+-- The same at an unsigned type of w bits.
+pub first_natural_multiple : (w : ℕ) {a b : ℕ} (r : Option ℕ) → 0 < a → 0 < b
+    → AnswersWhere (EachFits (FitsUnsignedBits w) (IsLeastCommonMultiple (pos a) (pos b))) (λ l. (l < 2 ^ w) × IsLeastCommonMultiple (pos a) (pos b) (pos l)) r
+    → MatchOption r ((t : ℕ) → IsLeastFrom (pos 1) (λ u. Divides (pos a) u × Divides (pos b) u) (pos t) → 2 ^ w ≤ t) (λ t. IsLeastFrom (pos 1) (λ u. Divides (pos a) u × Divides (pos b) u) (pos t))
+first_natural_multiple w {a} {b} (Some l) a_up b_up h = first_multiple_answers pos (FitsUnsignedBits w) (Some l) (λ zero. omega (arith, ints)) (λ zero. omega (arith, ints)) h
+first_natural_multiple w {a} {b} None a_up b_up none = λ t first. elim (cases_lt t (2 ^ w)) [
+  | inl below ↦ absurd (first_multiple_answers pos (FitsUnsignedBits w) None (λ zero. omega (arith, ints)) (λ zero. omega (arith, ints)) none (pos t) first below)
+  | inr far ↦ far
+]
+
+-- The same at `u64`.
+pub first_multiple_at_u64 : {a b : ℕ} (r : Option ℕ) → 0 < a → 0 < b
+    → AnswersWhere (EachFits (FitsUnsignedBits 64) (IsLeastCommonMultiple (pos a) (pos b))) (λ l. (l < 2 ^ 64) × IsLeastCommonMultiple (pos a) (pos b) (pos l)) r
+    → MatchOption r ((t : ℕ) → IsLeastFrom (pos 1) (λ u. Divides (pos a) u × Divides (pos b) u) (pos t) → 2 ^ 64 ≤ t) (λ t. IsLeastFrom (pos 1) (λ u. Divides (pos a) u × Divides (pos b) u) (pos t))
+first_multiple_at_u64 = first_natural_multiple 64
+
+-- ---- bounds
+
+pub gcd_is_at_most_each_bound : law.GcdIsAtMostEachBound
+gcd_is_at_most_each_bound = λ a b g most left right h. gcd_at_most most left right h
+
+-- The gcd of two natural numbers is at most each number that both are at most.
+pub natural_gcd_at_most : (a b g most : ℕ) → a ≤ most → b ≤ most → IsGreatestCommonDivisor (pos a) (pos b) (pos g) → g ≤ most
+natural_gcd_at_most a b g most left right h = gcd_at_most most left right h
