@@ -15,13 +15,16 @@ with_core() {
         RUSTC=$rustc RUSTFLAGS="$flags -C panic=abort" "${@:2}"
 }
 
-on_bare_arm() {
-    takes_debian "$work" && cp -r rust "$work" &&
-        with_core "$1" cargo --config "$work/.cargo/config.toml" check --quiet --offline --lib --no-default-features --target "$1" \
-            --manifest-path "$work/rust/Cargo.toml" --target-dir "$work/target"
+# by_cargo FOLDER TARGET WORD..: cargo runs in a folder of a copy of the sources, for a target.
+by_cargo() {
+    takes_debian "$work" && cp -r rust "$work" && with_core "$2" cargo "${@:3}" --config "$work/.cargo/config.toml" --quiet --offline --lib --target "$2" \
+        --manifest-path "$work/rust/$1/Cargo.toml" --target-dir "$work/target"
 }
 
-on_32_bits() { CC="$compiler -static" AR=${compiler%gcc}ar with_core "$1" bindings/build --cargo --target "$1" "$work/there"; }
+# The library of cargo has the multiplication and division of 128 bits, which C has not on 32 bits.
+on_32_bits() {
+    by_cargo c "$1" rustc --release --crate-type staticlib && mkdir -p "$work/there" && cp "$work/target/$1/release/libcellarcove_c.a" "$work/there"
+}
 
 # checksums FOLDER COMPILER: a line of checksums for each call of the archive of a folder, in a file of its name.
 checksums() {
@@ -31,7 +34,7 @@ checksums() {
 
 tests_in_c() { $compiler -std=c11 -O2 -static -I bindings/c bindings/c/test.c "$work/there/libcellarcove_c.a" -o "$work/tests" && "$work/tests"; }
 
-check 'the crate for bare ARM, without std' on_bare_arm thumbv7em-none-eabihf
+check 'the crate for bare ARM, without std' by_cargo . thumbv7em-none-eabihf check --no-default-features
 if has $compiler 'the calls on 32 bits'; then
     tools/cellarcove make checksums >"$work/checksums.c"
     check 'the archive for this machine' bindings/build --cargo "$work/here"
