@@ -166,6 +166,7 @@ function fitting(x, kind, seen) {
 /** A form of a call: its export, its parameters, and what reads its result. */
 function formOf([symbol, parameters, result]) {
   const raw = exports[`cellarcove_${symbol}`], whole = result in STRUCTS ? layout(result) : null;
+  if (!raw) throw new Error(`cellarcove.wasm has no ${symbol}: it is of another version`);
   const leaves = whole ? whole.leaves.filter(({name}) => name !== 'status') : layout(result).leaves;
   const made = CLASSES[result.replace('Answer', '')]?.make ?? (leaves.length === 1 ? ([value]) => value
     : (values) => Object.fromEntries(leaves.map(({name}, place) => [name, values[place]])));

@@ -25,19 +25,12 @@ class BadEdit(Exception):
     """What is wrong with the text of an edit."""
 
 
-def text_of(crate: Path, name: str, texts: dict[str, str]) -> str:
-    """Returns the file of the crate as the pairs so far have left it."""
-    if name not in texts:
-        path = crate / name
-        if '..' in path.parts or not name.startswith(PARTS) or not path.is_file():
-            raise BadEdit(f'there is no file {name}')
-        texts[name] = path.read_text(encoding='utf-8')
-    return texts[name]
-
-
 def replaced(crate: Path, name: str, texts: dict[str, str], old: str, new: str) -> str:
-    """Returns the file with the old text, which stands in it once, replaced."""
-    text = text_of(crate, name, texts)
+    """Returns the file, as the pairs so far have left it, with the old text, which stands in it once, replaced."""
+    path = crate / name
+    if '..' in path.parts or not name.startswith(PARTS) or not path.is_file():
+        raise BadEdit(f'there is no file {name}')
+    text = texts.get(name) or path.read_text(encoding='utf-8')
     found = text.count(old)
     if found != 1:
         raise BadEdit(f'{name} has an old text {found} times: {old}')

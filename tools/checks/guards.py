@@ -88,10 +88,8 @@ class Crate(Made):
 
     def sample(self) -> list[Guard]:
         """A few guards of each kind."""
-        kinds: dict[str, list[Guard]] = {}
-        for guard in self.guards:
-            kinds.setdefault(guard.name, []).append(guard)
-        return [guard for guards in kinds.values() for guard in guards[::FEW]]
+        kinds = dict.fromkeys(guard.name for guard in self.guards)
+        return [guard for kind in kinds for guard in [guard for guard in self.guards if guard.name == kind][::FEW]]
 
 
 def copy(folder: Path) -> Crate:

@@ -24,10 +24,6 @@ def proofs(log: str) -> Iterator[tuple[str, str, list[tuple[str, str, str]]]]:
             yield name, verdict.group(1), REPORT.findall(text[:verdict.start()])
 
 
-def listed(names: list[str]) -> str:
-    return ' and '.join(filter(None, (', '.join(names[:-1]), names[-1])))
-
-
 def facts_of(log: str) -> Iterator[str]:
     """What a run printed of the axioms, as the page says it."""
     found = {name: (words, reports) for name, words, reports in proofs(log)}
@@ -36,8 +32,8 @@ def facts_of(log: str) -> Iterator[str]:
     for name in LINKED:
         reports = found.get(name, ('', ()))[1]
         if reports:
-            declared = sum(int(count) for _, _, count in reports)
-            yield f'{listed([crate for crate, _, _ in reports])} state the contracts of {declared} functions in C'
+            declared, crates = sum(int(count) for _, _, count in reports), ', '.join(crate for crate, _, _ in reports)
+            yield f'{" and ".join(crates.rsplit(", ", 1))} state the contracts of {declared} functions in C'
             yield f'`{name}` reaches {sum(int(count or 0) for _, count, _ in reports) or "none"}'
 
 

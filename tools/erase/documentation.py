@@ -136,23 +136,18 @@ def comment(eraser: Eraser, item: Item, owner: Item | None, place: Place, prose:
 
 def linked(eraser: Eraser, comment: str) -> str:
     """A comment whose links to names of the root lead there where the file does not import them."""
-    if eraser.crate not in AT_ROOT:
-        comment = re.sub(r'(\[`|\]\()crate::', rf'\1crate::{eraser.crate}::', comment)
+    own = () if eraser.crate in AT_ROOT else (eraser.crate,)
+    comment = re.sub(r'(\[`|\]\()crate::', rf'\1{"::".join(("crate", *own, ""))}', comment)
     # rustdoc rejects a target to which the label leads by itself
-    here = '::'.join(('crate', *(() if eraser.crate in AT_ROOT else (eraser.crate,)), *eraser.module.path))
-    comment = re.sub(rf'(\[`(\w+(?:::\w+)+)`\])\({here}::\2\)', r'\1', comment)
-    roots = {name for (_, _, name), place in eraser.library.public.items() if place == () and name[0].isupper()}
+    comment = re.sub(rf'(\[`(\w+(?:::\w+)+)`\])\({"::".join(("crate", *own, *eraser.module.path))}::\2\)', r'\1', comment)
     found = {(*place, name) for (_, _, name), place in eraser.library.public.items()}
-    bases: list[Place] = [()] if eraser.crate in AT_ROOT else [(eraser.crate,), ()]
 
     def link(match: re.Match[str]) -> str:
-        words = tuple(match.group(1).split('::'))
-        name = words[0]
-        for base in bases if len(words) > 1 else ():
-            if (*base, *words) in found:
-                return f'[`{match.group(1)}`]({"::".join(("crate", *base, *words))})'
-        away = name in roots and name not in eraser.words
-        return f'[`{match.group(1)}`](crate::{match.group(1)})' if away else match.group()
+        words = tuple(match[1].split('::'))
+        paths = [(*base, *words) for base in ((own, ()) if len(words) > 1 else ()) if (*base, *words) in found]
+        if words[0][0].isupper() and words[:1] in found and words[0] not in eraser.words:
+            paths.append(words)
+        return f'[`{match[1]}`]({"::".join(("crate", *paths[0]))})' if paths else match[0]
 
     return re.sub(r'\[`(\w+(?:::\w+)*)`\](?!\()', link, comment)
 

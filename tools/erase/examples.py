@@ -80,19 +80,12 @@ def places(library: RustLibrary) -> dict[str, set[Place]]:
     return found
 
 
-def place_of(library: RustLibrary, name: str, place: Place) -> Place | None:
-    """The public place of a name in an example of an item at `place`: the same, the root, or the only one."""
-    found = places(library).get(name, set())
-    near = [at for at in (place, ()) if at in found]
-    return near[0] if near else next(iter(found)) if len(found) == 1 else None
-
-
 def imports(library: RustLibrary, code: str, place: Place) -> list[str]:
-    """The lines that import the names of an example."""
+    """The lines that import the names of an example of an item at `place`, each from there, from the root, or from its only place."""
     names: dict[Place, set[str]] = {}
     for match in NAME.finditer(code):
-        at = place_of(library, match.group(1), place) if match.group(1) else None
-        if at is not None:
+        found = places(library).get(match.group(1), set())
+        for at in [at for at in (place, ()) if at in found][:1] or (found if len(found) == 1 else ()):
             names.setdefault(at, set()).add(match.group(1))
     for match in METHOD.finditer(code):
         for at, trait in methods(library).get(match.group(1), ()):
@@ -114,13 +107,6 @@ def assertion(call: str, answer: str) -> list[str]:
     return [line] if len(line) <= WIDTH - INDENT else ['assert_eq!(', f'    {call},', f'    {answer}', ');']
 
 
-def code_of(source: Source, item: Item, lines: list[str]) -> list[str]:
-    """The code of the section `# Examples` that a comment has."""
-    if lines and (lines[0] != '```' or lines.index('```', 1) != len(lines) - 1):
-        source.refuse(item.word, 'a section `# Examples` that is no block of code')
-    return lines[1:-1]
-
-
 def block(library: RustLibrary, pairs: list[tuple[str, str]], more: list[str], place: Place) -> list[str]:
     """The lines of a section: an assertion of each pair, and more code."""
     if not pairs and not more:
@@ -131,5 +117,7 @@ def block(library: RustLibrary, pairs: list[tuple[str, str]], more: list[str], p
 
 
 def section(eraser: Eraser, item: Item, place: Place, lines: list[str]) -> list[str]:
-    """The lines of the section of an item at a public place, whose own section has these lines."""
-    return block(eraser.library, sentences(eraser.source, item), code_of(eraser.source, item, lines), place)
+    """The lines of the section of an item at a public place, whose own section has these lines, a block of code."""
+    if lines and (lines[0] != '```' or lines.index('```', 1) != len(lines) - 1):
+        eraser.source.refuse(item.word, 'a section `# Examples` that is no block of code')
+    return block(eraser.library, sentences(eraser.source, item), lines[1:-1], place)

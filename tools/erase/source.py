@@ -201,26 +201,15 @@ class Source:
 
     def imports(self, item: Item) -> list[tuple[tuple[str, ...], str]]:
         """The paths that a `use` imports, each with the name that it gives."""
-        return list(self.imports_below((), item.word + 1, item.last))
-
-    def imports_below(self, above: tuple[str, ...], k: int, last: int) -> Iterator[tuple[tuple[str, ...], str]]:
-        """The same of a list from `k` to `last`, below a path."""
-        while k < last:
-            path, stop = above, self.next_field(k, last)
-            for j in range(k, stop):
-                if self.at(j) == '{':
-                    yield from self.imports_below(path, j + 1, self.close(j))
-                    break
-                if self.at(j) == 'as':
-                    yield path, self.at(j + 1)
-                    break
-                if self.kind(j) == 'word':
-                    path += (self.at(j),) * (self.at(j) != 'self' or not path)
-                elif self.at(j) != ':':
-                    self.refuse(j, f'`{self.at(j)}` in a `use`')
-            else:
-                yield path, path[-1]
-            k = stop + 1
+        text = ''.join(f' {self.at(k)} ' if self.at(k) == 'as' else self.at(k) for k in range(item.word + 1, item.last))
+        while '{' in text:                      # `a::{b, c}` is `a::b, a::c`
+            text = re.sub('([^{},]*){([^{}]*)}', lambda found: ','.join(found[1] + end for end in found[2].split(',') if end), text)
+        other = re.search(r'[^\w:, ]', text)
+        if other:
+            self.refuse(item.word, f'`{other[0]}` in a `use`')
+        pairs = (path.partition(' as ')[::2] for path in text.split(',') if path)
+        paths = [(tuple(path.removesuffix('::self').split('::')), name) for path, name in pairs]
+        return [(path, name or path[-1]) for path, name in paths]
 
     # ---- items
 
@@ -284,14 +273,10 @@ class Source:
 
     def read_impl(self, item: Item) -> None:
         brace = self.end(item.word, '{')
-        head = self.angle(item.word + 1)
-        names, depth = [], 0
-        for k in range(head, brace):
-            depth += self.is_sign(k, '<') - (self.is_sign(k, '>') and self.at(k - 1) != '-')
-            if depth == 0 and self.at(k) == 'where':
-                break
-            if depth == 0 and self.kind(k) == 'word':
-                names.append(self.at(k))
+        names, k = list[str](), self.angle(item.word + 1)
+        while k < brace and self.at(k) != 'where':
+            names += [self.at(k)] * (self.kind(k) == 'word')
+            k = max(k + 1, self.angle(k))
         if 'for' in names:
             item.of_trait, names = names[names.index('for') - 1], names[names.index('for') + 1:]
         item.name = names[-1] if names else ''
@@ -354,12 +339,6 @@ class Source:
 
     def next_field(self, k: int, last: int) -> int:
         """The place of the comma after a field, or `last`."""
-        depth = 0
-        while k < last:
-            if self.is_sign(k, '([{'):
-                k = self.close(k)
-            depth += self.is_sign(k, '<') - (self.is_sign(k, '>') and self.at(k - 1) != '-')
-            if depth == 0 and self.is_sign(k, ','):
-                return k
-            k += 1
-        return last
+        while k < last and not self.is_sign(k, ','):
+            k = self.close(k) + 1 if self.is_sign(k, '([{') else max(k + 1, self.angle(k))
+        return min(k, last)

@@ -1,4 +1,5 @@
 """The words of contracts: where a file imports them from, and how `specs/` define them."""
+import functools
 import re
 from collections.abc import Container
 from dataclasses import dataclass
@@ -46,24 +47,21 @@ class Specs:
 
     def __init__(self, folder: Path, crates: Container[str] = ()) -> None:
         self.folder, self.crates = folder, crates
-        self.files: dict[tuple[str, str], tuple[dict[str, Definition], dict[str, tuple[str, str]]]] = {}
         self.cited: dict[tuple[str, str, str], Definition] = {}
         self.outside = set[str]()
 
+    @functools.cache
     def read(self, crate: str, file: str) -> tuple[dict[str, Definition], dict[str, tuple[str, str]]]:
         """The words that a file defines, and what it imports. A crate may have the file of a lower one."""
-        if (crate, file) not in self.files:
-            path = self.folder / crate / 'specs' / f'{file}.antt'
-            if not path.is_file():
-                lib = (self.folder / crate / 'specs' / 'Lib.antt').read_text()
-                lower = re.search(rf'pub use Rattle\.(\w+)\.specs\.{file}\b', lib)
-                if not lower:
-                    raise Unknown(f'{path}: no such file')
-                self.files[crate, file] = self.read(lower.group(1), file)
-            else:
-                text = path.read_text()
-                self.files[crate, file] = (self.words(crate, file, text), imported(text))
-        return self.files[crate, file]
+        path = self.folder / crate / 'specs' / f'{file}.antt'
+        if path.is_file():
+            text = path.read_text()
+            return self.words(crate, file, text), imported(text)
+        lower = re.search(rf'pub use Rattle\.(\w+)\.specs\.{file}\b', path.with_name('Lib.antt').read_text())
+        if not lower:
+            raise Unknown(f'{path}: no such file')
+        found: tuple[dict[str, Definition], dict[str, tuple[str, str]]] = self.read(lower[1], file)
+        return found
 
     def words(self, crate: str, file: str, text: str) -> dict[str, Definition]:
         found = {}
@@ -87,8 +85,7 @@ class Specs:
 
     def cite(self, text: str, imports: dict[str, tuple[str, str]]) -> list[Definition]:
         """The definitions of the imported words that a text names. Notes them, and the words that they cite."""
-        found = (self.cite_word(name, *imports[name]) for name in cited(text, imports))
-        return [word for word in found if word]
+        return list(filter(None, [self.cite_word(name, *imports[name]) for name in cited(text, imports)]))
 
     def cite_word(self, name: str, crate: str, path: str) -> Definition | None:
         if crate not in self.crates:
@@ -97,13 +94,10 @@ class Specs:
         word = self.find(crate, path, name)
         if word and word.key not in self.cited:
             self.cited[word.key] = word
-            for below in self.below(word):
-                self.cite_word(*below)
+            self.cite(word.text, self.names(word))
         return word
 
-    def below(self, definition: Definition) -> list[tuple[str, str, str]]:
-        """The definitions that a definition cites, and the words of the toolchain that it cites."""
-        words, imports = self.read(definition.crate, definition.file)
-        names = {name: (definition.crate, 'specs.' + definition.file) for name in words} | imports
-        found = [(name, *names[name]) for name in cited(definition.text, names) if name != definition.name]
-        return found
+    def names(self, word: Definition) -> dict[str, tuple[str, str]]:
+        """What the definition of a word may cite: the other words of its file, and what that imports."""
+        words, imports = self.read(word.crate, word.file)
+        return {name: path for name, path in ({name: (word.crate, f'specs.{word.file}') for name in words} | imports).items() if name != word.name}

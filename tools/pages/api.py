@@ -32,7 +32,7 @@ class Shown(Made):
 
 def folded(text: str) -> str:
     text = re.sub(r'\s+', ' ', re.sub(r'//[^\n]*', '', text)).strip()
-    return re.sub(r',? ?([)>])', r'\1', re.sub(r'([(<]) ', r'\1', text)).replace('=>', '=>').replace(' }', ' }')
+    return re.sub(r',? ?([)>])', r'\1', re.sub(r'([(<]) ', r'\1', text))
 
 
 def is_hidden(source: Source, item: Item) -> bool:

@@ -192,7 +192,8 @@ class Reference:
         if item.kind in ('trait', 'impl'):
             ghosts = [source.text(inner.first, inner.last) for inner in item.items
                       if inner.kind == 'ghost' and inner.name != 'use' and (item.kind == 'trait' or inner.name in STATED)]
-            methods = [inner for inner in item.items if inner.kind == 'fn' and self.has_part(item, inner)]
+            # each method of a trait, each public one of a type, each with a clause of an implementation
+            methods = [inner for inner in item.items if inner.kind == 'fn' and (item.kind == 'trait' or (inner.clauses if item.of_trait else inner.public))]
             stated = item.kind == 'trait' or ghosts or (item.of_trait and methods)
             if stated:
                 head = head_of(source, item) + ' { .. }' * (not ghosts)
@@ -205,12 +206,6 @@ class Reference:
                 yield f'`{item.name}::{inner.name}`', doc_of(source, inner), head_of(source, inner), item.items, 'fn', inner.name
         else:
             yield f'`{item.name}`', doc_of(source, item), head_of(source, item), [], item.kind, item.name
-
-    def has_part(self, item: Item, inner: Item) -> bool:
-        """Whether a page shows a method: each of a trait, each public one of a type, each with a clause of an `impl`."""
-        if item.kind == 'trait':
-            return True
-        return bool(inner.clauses) if item.of_trait else inner.public
 
     def block(self, page: Page, place: Place, module: Module, title: str, doc: list[str], code: str, inner: list[Item], kind: str, name: str) -> None:
         anchor = page.heading(3, title)
@@ -242,8 +237,7 @@ class Reference:
             for name, word in words.items():
                 if word.key in self.specs.cited:
                     self.anchors[word.key] = page.word(3, name, word.comment, word.text)
-                    names = {other: (crate, 'specs.' + file) for other in words} | self.specs.read(crate, file)[1]
-                    self.links(page, word.text, {other: path for other, path in names.items() if other != name})
+                    self.links(page, word.text, self.specs.names(word))
 
     def laws_of(self, page: Page) -> None:
         if (CRATES / page.name / 'specs' / 'Laws.antt').is_file():

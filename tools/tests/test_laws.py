@@ -16,7 +16,7 @@ def repository(tmp_path: Path) -> Path:
 
 
 def test_sample(root: Path) -> None:
-    assert [passed for _, passed in laws.judged(root)] == [True] * 3
+    assert [passed for _, passed in laws.judged(root)] == [True] * 4
 
 
 @pytest.mark.parametrize('head, slip', samples.cases('law_slips'))

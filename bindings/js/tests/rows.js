@@ -47,7 +47,7 @@ const agrees = (name, given, found, wanted) => {
   return String(gcd) === wanted[0] && p * x + q * y === gcd && (size(p) <= 1n || 2n * size(p) * gcd <= size(y)) && (size(q) <= 1n || 2n * size(q) * gcd <= size(x));
 };
 
-const shown = (row, found) => `${row[0]} ${row[1]} ${JSON.stringify(row[2]).slice(0, 200)}: ${found}, and not status ${row[3]}, ${row[4]}`;
+const shown = (row, found) => `${row[0]} ${row[1]} ${JSON.stringify(row[2]).slice(0, 200)}: ${found}, and not ${`status ${row[3]}, ${row[4]}`.slice(0, 200)}`;
 
 /** What is wrong in a row of numbers, or an empty text: the call, and its form without exceptions. */
 function ofNumbers(row, functions) {

@@ -15,7 +15,6 @@ pub fn rsa_round_trip(m: u64, e: u64, n: u64) -> u64
 }
 
 /// Returns `m` to the power `e` modulo `n`.
-#[tactic(auto, using(modular::proofs::ForCallers::power_is_natural))]
 pub fn power_remainder(m: u64, e: u128, n: u64) -> u64
     requires { 0 < n }
     ensures { result ≡ m ^ e % n }
