@@ -100,8 +100,8 @@ pub fn binomial_counted<T: Integer + Copy>(n: T, k: T) -> (T, u32) {
 
 /// Returns the binomial coefficient of `n` and `k`, the number of ways to choose `k` of `n` things.
 ///
-/// [`Fits::binomial_fits`](crate::Fits::binomial_fits) tests the domain, and
-/// [`checked::binomial`](crate::checked::binomial) returns `None` outside it.
+/// [`Fits::binomial_fits`](crate::Fits::binomial_fits) tests the precondition, and
+/// [`checked::binomial`](crate::checked::binomial) returns `None` if it does not hold.
 ///
 /// This is the largest `n` of which every coefficient fits. For a larger `n`, those near the middle
 /// overflow:
@@ -133,8 +133,8 @@ pub fn binomial<T: Integer + Copy>(n: T, k: T) -> T {
 /// Returns the multinomial coefficient of the counts `k`, the number of ways to divide their sum
 /// into parts of these sizes.
 ///
-/// [`Fits::multinomial_fits`](crate::Fits::multinomial_fits) tests the domain, and
-/// [`checked::multinomial`](crate::checked::multinomial) returns `None` outside it.
+/// [`Fits::multinomial_fits`](crate::Fits::multinomial_fits) tests the precondition, and
+/// [`checked::multinomial`](crate::checked::multinomial) returns `None` if it does not hold.
 ///
 /// # Examples
 ///

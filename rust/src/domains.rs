@@ -109,9 +109,9 @@ pub trait Fits: Integer + Copy {
         product_is_within(self.parts(), other.parts(), Self::ends())
     }
 
-    /// Returns `true` if `div_rem`, `div_floor`, `div_mod_floor` and `div_ceil` may be called:
-    /// `other` is not 0, and the quotient fits. The only quotient that may not fit is that of the
-    /// smallest number by -1.
+    /// Returns `true` if the precondition of `div_rem`, `div_floor`, `div_mod_floor` and `div_ceil`
+    /// holds: `other` is not 0, and the quotient fits. The only quotient that may not fit is that
+    /// of the smallest number by -1.
     ///
     /// [`checked::div_rem`](crate::checked::div_rem) and the others of these names test and divide.
     ///
@@ -136,9 +136,9 @@ pub trait Fits: Integer + Copy {
         }
     }
 
-    /// Returns `true` if `next_multiple_of` may be called: `other` is not 0, and the multiple fits.
-    /// [`checked::next_multiple_of`](crate::checked::next_multiple_of) tests and returns the
-    /// multiple.
+    /// Returns `true` if the precondition of `next_multiple_of` holds: `other` is not 0, and the
+    /// multiple fits. [`checked::next_multiple_of`](crate::checked::next_multiple_of) tests and
+    /// returns the multiple.
     ///
     /// # Examples
     ///
@@ -159,9 +159,9 @@ pub trait Fits: Integer + Copy {
         is_zero(remainder) || self.sum_fits(&difference(*other, remainder))
     }
 
-    /// Returns `true` if `prev_multiple_of` may be called: `other` is not 0, and the multiple fits.
-    /// [`checked::prev_multiple_of`](crate::checked::prev_multiple_of) tests and returns the
-    /// multiple.
+    /// Returns `true` if the precondition of `prev_multiple_of` holds: `other` is not 0, and the
+    /// multiple fits. [`checked::prev_multiple_of`](crate::checked::prev_multiple_of) tests and
+    /// returns the multiple.
     ///
     /// # Examples
     ///
@@ -178,8 +178,8 @@ pub trait Fits: Integer + Copy {
         !is_zero(*other) && self.difference_fits(&self.mod_floor(other))
     }
 
-    /// Returns `true` if `gcd` may be called: the result fits. The only gcd that may not fit is
-    /// that of the smallest number and itself or 0.
+    /// Returns `true` if the precondition of `gcd` holds: the result fits. The only gcd that may
+    /// not fit is that of the smallest number and itself or 0.
     ///
     /// [`checked::gcd`](crate::checked::gcd) tests and computes the gcd.
     ///
@@ -205,7 +205,7 @@ pub trait Fits: Integer + Copy {
         }
     }
 
-    /// Returns `true` if `lcm` may be called: the result fits.
+    /// Returns `true` if the precondition of `lcm` holds: the result fits.
     /// [`checked::lcm`](crate::checked::lcm) tests and computes the lcm, with one gcd for both.
     ///
     /// # Examples
@@ -234,8 +234,8 @@ pub trait Fits: Integer + Copy {
     }
 
     /// Returns `true` if Bezout's coefficients of the two numbers fit: always in a type with
-    /// negative numbers, and in an unsigned type if one of the two divides the other.
-    /// `extended_gcd` may be called if this and [`Fits::gcd_fits`] return true.
+    /// negative numbers, and in an unsigned type if one of the two divides the other. The
+    /// precondition of `extended_gcd` holds if this and [`Fits::gcd_fits`] return true.
     /// [`checked::extended_gcd`](crate::checked::extended_gcd) tests both.
     ///
     /// # Examples
@@ -253,8 +253,8 @@ pub trait Fits: Integer + Copy {
         Self::ends().0 != 0 || self.is_multiple_of(other) || other.is_multiple_of(self)
     }
 
-    /// Returns `true` if `binomial(self, k)` may be called: neither number is negative, and the
-    /// coefficient fits. The loop stops at the first coefficient that does not fit.
+    /// Returns `true` if the precondition of `binomial(self, k)` holds: neither number is negative,
+    /// and the coefficient fits. The loop stops at the first coefficient that does not fit.
     /// [`checked::binomial`](crate::checked::binomial) tests and computes the coefficient.
     ///
     /// # Examples
@@ -277,8 +277,8 @@ pub trait Fits: Integer + Copy {
         coefficient_within(n, k, Self::ends().1).is_some()
     }
 
-    /// Returns `true` if `multinomial(counts)` may be called: no count is negative, and the
-    /// multinomial fits. The loops stop at the first multinomial that does not fit.
+    /// Returns `true` if the precondition of `multinomial(counts)` holds: no count is negative, and
+    /// the multinomial fits. The loops stop at the first multinomial that does not fit.
     /// [`checked::multinomial`](crate::checked::multinomial) tests and computes the multinomial.
     ///
     /// # Examples

@@ -31,7 +31,7 @@ wide_out_of_range {z = z} range large z_fits =
     elim range.low_end [
       | inl none ↦ omega (arith, sizes, between, most, none)
       | inr negative ↦ elim range.bounded_below [
-          | inl up ↦ omega (arith, sizes, between, most, up)
-          | inr small ↦ elim negative [ inl same ↦ omega (arith, sizes, between, small, same) | inr next ↦ omega (arith, sizes, between, small, next) ]
-        ]
+        | inl up ↦ omega (arith, sizes, between, most, up)
+        | inr small ↦ elim negative [ inl same ↦ omega (arith, sizes, between, small, same) | inr next ↦ omega (arith, sizes, between, small, next) ]
+      ]
     ]

@@ -71,7 +71,7 @@ pub trait Modular: Integer + Copy {
 /// Returns `a * b` modulo `m`, by [`Modular::product_modulo`]. The product need not fit the type.
 /// `product_modulo(4, 5, 7)` is `6`, and `product_modulo(200u8, 200, 201)` is `1`.
 ///
-/// [`checked::product_modulo`] returns `None` outside the domain.
+/// [`checked::product_modulo`] returns `None` if the precondition does not hold.
 ///
 /// # Panics
 ///
@@ -89,7 +89,7 @@ pub fn product_modulo<T: Modular>(a: T, b: T, m: T) -> T
 /// Returns `a` to the power `exponent` modulo `m`, by squaring. `power_modulo(3, 4, 7)` is `4`, and
 /// `power_modulo(3, 0, 7)` is `1`.
 ///
-/// [`checked::power_modulo`] returns `None` outside the domain.
+/// [`checked::power_modulo`] returns `None` if the precondition does not hold.
 ///
 /// # Panics
 ///

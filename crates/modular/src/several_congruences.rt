@@ -20,7 +20,7 @@ use num_integer::{Fits, Integer, checked};
 /// No product of the moduli has to fit. `next_common_solution_of(10, &[(1, 4), (3, 6), (0, 7)])` is
 /// `CommonSolution::At(21)`.
 ///
-/// [`checked::next_common_solution_of`] returns `None` outside the domain.
+/// [`checked::next_common_solution_of`] returns `None` if the precondition does not hold.
 ///
 /// In Rattle, a function that passes on a slice of its own parameters asks its callers for `in_range` too.
 ///

@@ -60,8 +60,8 @@ pub trait Fits: Integer + Copy {
         product_is_within(self.parts(), other.parts(), Self::ends())
     }
 
-    /// Returns `true` if `div_rem`, `div_floor`, `div_mod_floor` and `div_ceil` may be called:
-    /// `other` is not 0, and the quotient fits. `i8::MIN.quotient_fits(&2)` is `true`, and
+    /// Returns `true` if the precondition of `div_rem`, `div_floor`, `div_mod_floor` and `div_ceil`
+    /// holds: `other` is not 0, and the quotient fits. `i8::MIN.quotient_fits(&2)` is `true`, and
     /// `i8::MIN.quotient_fits(&-1)` is `false`. The only quotient that may not fit is that of the
     /// smallest number by -1.
     ///
@@ -83,10 +83,10 @@ pub trait Fits: Integer + Copy {
         }
     }
 
-    /// Returns `true` if `next_multiple_of` may be called: `other` is not 0, and the multiple fits.
-    /// `250u8.next_multiple_fits(&5)` is `true`, and `251u8.next_multiple_fits(&8)` is `false`.
-    /// [`checked::next_multiple_of`](crate::checked::next_multiple_of) tests and returns the
-    /// multiple.
+    /// Returns `true` if the precondition of `next_multiple_of` holds: `other` is not 0, and the
+    /// multiple fits. `250u8.next_multiple_fits(&5)` is `true`, and `251u8.next_multiple_fits(&8)`
+    /// is `false`. [`checked::next_multiple_of`](crate::checked::next_multiple_of) tests and
+    /// returns the multiple.
     fn next_multiple_fits(&self, other: &Self) -> bool
         requires self_in_range { Self.fits (Self.value self.now) }
         requires other_in_range { Self.fits (Self.value other.now) }
@@ -100,9 +100,10 @@ pub trait Fits: Integer + Copy {
         is_zero(remainder) || self.sum_fits(&difference(*other, remainder))
     }
 
-    /// Returns `true` if `prev_multiple_of` may be called: `other` is not 0, and the multiple fits.
-    /// `(-120i8).prev_multiple_fits(&8)` is `true`, and `(-125i8).prev_multiple_fits(&10)` is
-    /// `false`. [`checked::prev_multiple_of`](crate::checked::prev_multiple_of) tests and returns the
+    /// Returns `true` if the precondition of `prev_multiple_of` holds: `other` is not 0, and the
+    /// multiple fits. `(-120i8).prev_multiple_fits(&8)` is `true`, and
+    /// `(-125i8).prev_multiple_fits(&10)` is `false`.
+    /// [`checked::prev_multiple_of`](crate::checked::prev_multiple_of) tests and returns the
     /// multiple.
     fn prev_multiple_fits(&self, other: &Self) -> bool
         requires self_in_range { Self.fits (Self.value self.now) }
@@ -113,9 +114,9 @@ pub trait Fits: Integer + Copy {
         !is_zero(*other) && self.difference_fits(&self.mod_floor(other))
     }
 
-    /// Returns `true` if `gcd` may be called: the result fits. `i8::MIN.gcd_fits(&64)` is `true`, and
-    /// `i8::MIN.gcd_fits(&0)` is `false`. The only gcd that may not fit is that of the smallest number
-    /// and itself or 0.
+    /// Returns `true` if the precondition of `gcd` holds: the result fits. `i8::MIN.gcd_fits(&64)`
+    /// is `true`, and `i8::MIN.gcd_fits(&0)` is `false`. The only gcd that may not fit is that of
+    /// the smallest number and itself or 0.
     ///
     /// [`checked::gcd`](crate::checked::gcd) tests and computes the gcd.
     fn gcd_fits(&self, other: &Self) -> bool
@@ -135,9 +136,9 @@ pub trait Fits: Integer + Copy {
         }
     }
 
-    /// Returns `true` if `lcm` may be called: the result fits. `15u8.lcm_fits(&17)` is `true`, and
-    /// `16u8.lcm_fits(&17)` is `false`. [`checked::lcm`](crate::checked::lcm) tests and computes the
-    /// lcm, with one gcd for both.
+    /// Returns `true` if the precondition of `lcm` holds: the result fits. `15u8.lcm_fits(&17)` is
+    /// `true`, and `16u8.lcm_fits(&17)` is `false`. [`checked::lcm`](crate::checked::lcm) tests and
+    /// computes the lcm, with one gcd for both.
     fn lcm_fits(&self, other: &Self) -> bool
         requires self_in_range { Self.fits (Self.value self.now) }
         requires other_in_range { Self.fits (Self.value other.now) }
@@ -157,11 +158,11 @@ pub trait Fits: Integer + Copy {
         }
     }
 
-    /// Returns `true` if Bezout's coefficients of the two numbers fit: always in a type with negative
-    /// numbers, and in an unsigned type if one of the two divides the other. `12u8.pair_fits(&4)` is
-    /// `true`, and `10u8.pair_fits(&4)` is `false`. `extended_gcd` may be called if this and
-    /// [`Fits::gcd_fits`] return true. [`checked::extended_gcd`](crate::checked::extended_gcd) tests
-    /// both.
+    /// Returns `true` if Bezout's coefficients of the two numbers fit: always in a type with
+    /// negative numbers, and in an unsigned type if one of the two divides the other.
+    /// `12u8.pair_fits(&4)` is `true`, and `10u8.pair_fits(&4)` is `false`. The precondition of
+    /// `extended_gcd` holds if this and [`Fits::gcd_fits`] return true.
+    /// [`checked::extended_gcd`](crate::checked::extended_gcd) tests both.
     final fn pair_fits(&self, other: &Self) -> bool
         requires in_range { Self.fits (Self.value self.now) × Self.fits (Self.value other.now) }
         ensures { IsTrue result ↔ HasPair Self.fits (Self.value self.now) (Self.value other.now) }
@@ -169,9 +170,9 @@ pub trait Fits: Integer + Copy {
         Self::ends().0 != 0 || self.is_multiple_of(other) || other.is_multiple_of(self)
     }
 
-    /// Returns `true` if `binomial(self, k)` may be called: neither number is negative, and the
-    /// coefficient fits. `11u8.binomial_fits(&3)` is `true`, and `11u8.binomial_fits(&4)` is `false`.
-    /// The loop stops at the first coefficient that does not fit.
+    /// Returns `true` if the precondition of `binomial(self, k)` holds: neither number is negative,
+    /// and the coefficient fits. `11u8.binomial_fits(&3)` is `true`, and `11u8.binomial_fits(&4)`
+    /// is `false`. The loop stops at the first coefficient that does not fit.
     /// [`checked::binomial`](crate::checked::binomial) tests and computes the coefficient.
     fn binomial_fits(&self, k: &Self) -> bool
         requires self_in_range { Self.fits (Self.value self.now) }
@@ -187,8 +188,8 @@ pub trait Fits: Integer + Copy {
         coefficient_within(n, k, Self::ends().1).is_some()
     }
 
-    /// Returns `true` if `multinomial(counts)` may be called: no count is negative, and the
-    /// multinomial fits. `u8::multinomial_fits(&[254, 1])` is `true`, and
+    /// Returns `true` if the precondition of `multinomial(counts)` holds: no count is negative, and
+    /// the multinomial fits. `u8::multinomial_fits(&[254, 1])` is `true`, and
     /// `u8::multinomial_fits(&[255, 1])` is `false`. The loops stop at the first multinomial that
     /// does not fit. [`checked::multinomial`](crate::checked::multinomial) tests and computes the
     /// multinomial.

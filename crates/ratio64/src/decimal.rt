@@ -61,9 +61,12 @@ impl Ratio {
 /// Prints the digits, with a point before those of its places.
 /// `Ratio::new(-1, 20).unwrap().to_decimal(2).unwrap().to_string()` is `"-0.05"`.
 impl fmt::Display for Decimal {
+    ghost use Rattle.num_integer.specs.Padded.{padded_number};
     ghost use Rattle.ratio64.specs.Decimal.{decimal_text, places_of, units_of};
 
     ghost output = { λ x. Some (decimal_text (units_of x) (places_of x)) };
+
+    ghost styled_output = { λ x spec. Some (padded_number spec (decimal_text (units_of x) (places_of x))) };
 
     fn fmt<W: fmt::Write>(&self, f: &mut fmt::Formatter<W>) -> fmt::Result {
         self.pad_number(f)

@@ -1,6 +1,7 @@
 //! The error of the calls that make a fraction.
 
 ghost use Rattle.std.specs.Prelude.{◌≡◌, Some};
+ghost use Rattle.std.specs.Fmt.{padded};
 ghost use Rattle.ratio64.specs.RatioError.{error_text, number_of};
 
 use std::error::Error;
@@ -31,6 +32,8 @@ impl RatioError {
 /// `RatioError::ZeroDenominator.to_string()` is `"the denominator is 0"`.
 impl fmt::Display for RatioError {
     ghost output = { λ e. Some (error_text e) };
+
+    ghost styled_output = { λ e spec. Some (padded spec (error_text e)) };
 
     fn fmt<W: fmt::Write>(&self, f: &mut fmt::Formatter<W>) -> fmt::Result {
         match self {

@@ -231,9 +231,11 @@ impl Default for Ratio {
 /// `fmt::Error`, with which `format!` panics.
 impl fmt::Display for Ratio {
     ghost use Rattle.std.specs.Prelude.{Some};
-    ghost use Rattle.ratio64.specs.Ratio.{text_of};
+    ghost use Rattle.ratio64.specs.Ratio.{styled_text_of, text_of};
 
     ghost output = { λ x. Some (text_of x) };
+
+    ghost styled_output = { λ x spec. styled_text_of spec x };
 
     fn fmt<W: fmt::Write>(&self, f: &mut fmt::Formatter<W>) -> fmt::Result {
         let Some(places) = f.precision() else {

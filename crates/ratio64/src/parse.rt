@@ -42,9 +42,12 @@ impl From<RatioError> for ParseRatioError {
 /// `ParseRatioError::NotAFraction.to_string()` is `"the text is not a fraction"`.
 impl fmt::Display for ParseRatioError {
     ghost use Rattle.std.specs.Prelude.{Some};
+    ghost use Rattle.std.specs.Fmt.{padded};
     ghost use Rattle.ratio64.specs.RatioText.{parse_error_text};
 
     ghost output = { λ e. Some (parse_error_text e) };
+
+    ghost styled_output = { λ e spec. Some (padded spec (parse_error_text e)) };
 
     fn fmt<W: fmt::Write>(&self, f: &mut fmt::Formatter<W>) -> fmt::Result {
         match self {

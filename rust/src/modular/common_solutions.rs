@@ -13,8 +13,8 @@ use crate::{checked, Fits};
 /// negative and the step from each to the next. It is `None` if there is no such number.
 ///
 /// [`Fits::lcm_fits`] tests whether the least common multiple fits, and
-/// [`checked::chinese_remainder`](crate::modular::checked::chinese_remainder) returns `None`
-/// outside the domain.
+/// [`checked::chinese_remainder`](crate::modular::checked::chinese_remainder) returns `None` if the
+/// precondition does not hold.
 ///
 /// # Examples
 ///
@@ -91,7 +91,7 @@ impl<T> CommonSolution<T> {
 /// common multiple of `m` and `n` need not fit.
 ///
 /// [`checked::next_common_solution`](crate::modular::checked::next_common_solution) returns `None`
-/// outside the domain.
+/// if the precondition does not hold.
 ///
 /// # Examples
 ///

@@ -11,8 +11,8 @@ use crate::Integer;
 /// Returns the inverse of `a` modulo `m`: the number x of 0..m for which `a` times x is 1 modulo
 /// `m`. It is `None` if `a` and `m` have a common divisor above 1.
 ///
-/// [`checked::inverse_modulo`](crate::modular::checked::inverse_modulo) returns `None` outside the
-/// domain.
+/// [`checked::inverse_modulo`](crate::modular::checked::inverse_modulo) returns `None` if the
+/// precondition does not hold.
 ///
 /// # Examples
 ///
@@ -42,8 +42,8 @@ pub fn inverse_modulo<T: Integer + Copy>(a: T, m: T) -> Option<T> {
 /// Returns the number x of 0..m for which `b` times x is `a` modulo `m`, or `None` if `b` has no
 /// inverse.
 ///
-/// [`checked::quotient_modulo`](crate::modular::checked::quotient_modulo) returns `None` outside
-/// the domain.
+/// [`checked::quotient_modulo`](crate::modular::checked::quotient_modulo) returns `None` if the
+/// precondition does not hold.
 ///
 /// # Examples
 ///

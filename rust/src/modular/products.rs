@@ -85,8 +85,8 @@ pub trait Modular: Integer + Copy {
 
 /// Returns `a * b` modulo `m`, by [`Modular::product_modulo`]. The product need not fit the type.
 ///
-/// [`checked::product_modulo`](crate::modular::checked::product_modulo) returns `None` outside the
-/// domain.
+/// [`checked::product_modulo`](crate::modular::checked::product_modulo) returns `None` if the
+/// precondition does not hold.
 ///
 /// # Examples
 ///
@@ -111,8 +111,8 @@ pub fn product_modulo<T: Modular>(a: T, b: T, m: T) -> T {
 
 /// Returns `a` to the power `exponent` modulo `m`, by squaring.
 ///
-/// [`checked::power_modulo`](crate::modular::checked::power_modulo) returns `None` outside the
-/// domain.
+/// [`checked::power_modulo`](crate::modular::checked::power_modulo) returns `None` if the
+/// precondition does not hold.
 ///
 /// # Examples
 ///

@@ -13,7 +13,8 @@ use crate::{checked, Fits, Integer};
 /// the smallest that is not negative and the step from each to the next. It is `None` if there is
 /// no such number.
 ///
-/// [`checked::solutions`](crate::modular::checked::solutions) returns `None` outside the domain.
+/// [`checked::solutions`](crate::modular::checked::solutions) returns `None` if the precondition
+/// does not hold.
 ///
 /// # Examples
 ///
@@ -44,8 +45,8 @@ pub fn solutions<T: Modular>(a: T, b: T, m: T) -> Option<(T, T)> {
 /// Returns the smallest number from `from` on that is congruent to `first` modulo `step`, or `None`
 /// if it is too large for the type.
 ///
-/// [`checked::next_congruent`](crate::modular::checked::next_congruent) returns `None` outside the
-/// domain.
+/// [`checked::next_congruent`](crate::modular::checked::next_congruent) returns `None` if the
+/// precondition does not hold.
 ///
 /// # Examples
 ///
@@ -71,8 +72,8 @@ pub fn next_congruent<T: Fits>(from: T, first: T, step: T) -> Option<T> {
 /// Returns the largest number up to `to` that is congruent to `first` modulo `step`, or `None` if
 /// it is too small for the type.
 ///
-/// [`checked::previous_congruent`](crate::modular::checked::previous_congruent) returns `None`
-/// outside the domain.
+/// [`checked::previous_congruent`](crate::modular::checked::previous_congruent) returns `None` if
+/// the precondition does not hold.
 ///
 /// # Examples
 ///
@@ -98,8 +99,8 @@ pub fn previous_congruent<T: Fits>(to: T, first: T, step: T) -> Option<T> {
 /// Returns how many numbers of `from..=to` are congruent to `first` modulo `step`, or `None` if the
 /// type cannot hold that count.
 ///
-/// [`checked::count_congruent`](crate::modular::checked::count_congruent) returns `None` outside
-/// the domain.
+/// [`checked::count_congruent`](crate::modular::checked::count_congruent) returns `None` if the
+/// precondition does not hold.
 ///
 /// # Examples
 ///

@@ -7,7 +7,8 @@ use crate::{mod_floor, Integer};
 
 /// Returns the residue of `a` modulo `m`, which is in 0..m even if `a` is negative.
 ///
-/// [`checked::residue`](crate::modular::checked::residue) returns `None` outside the domain.
+/// [`checked::residue`](crate::modular::checked::residue) returns `None` if the precondition does
+/// not hold.
 ///
 /// # Examples
 ///
@@ -31,7 +32,8 @@ pub fn residue<T: Integer>(a: T, m: T) -> T {
 
 /// Returns `a + b` modulo `m`. The sum need not fit the type.
 ///
-/// [`checked::sum_modulo`](crate::modular::checked::sum_modulo) returns `None` outside the domain.
+/// [`checked::sum_modulo`](crate::modular::checked::sum_modulo) returns `None` if the precondition
+/// does not hold.
 ///
 /// # Examples
 ///
@@ -65,8 +67,8 @@ pub(crate) fn sum_of_residues<T: Integer + Copy>(x: T, y: T, m: T) -> T {
 
 /// Returns `a - b` modulo `m`, which is in 0..m. The difference need not fit the type.
 ///
-/// [`checked::difference_modulo`](crate::modular::checked::difference_modulo) returns `None`
-/// outside the domain.
+/// [`checked::difference_modulo`](crate::modular::checked::difference_modulo) returns `None` if the
+/// precondition does not hold.
 ///
 /// # Examples
 ///
@@ -90,8 +92,8 @@ pub fn difference_modulo<T: Integer + Copy>(a: T, b: T, m: T) -> T {
 
 /// Returns `-a` modulo `m`, which is in 0..m.
 ///
-/// [`checked::negation_modulo`](crate::modular::checked::negation_modulo) returns `None` outside
-/// the domain.
+/// [`checked::negation_modulo`](crate::modular::checked::negation_modulo) returns `None` if the
+/// precondition does not hold.
 ///
 /// # Examples
 ///

@@ -13,7 +13,7 @@ use crate::{checked, Fits, Integer};
 /// modulo the second. No product of the moduli has to fit.
 ///
 /// [`checked::next_common_solution_of`](crate::modular::checked::next_common_solution_of) returns
-/// `None` outside the domain.
+/// `None` if the precondition does not hold.
 ///
 /// # Examples
 ///

@@ -44,7 +44,7 @@ pub(crate) fn narrowed(number: i128) -> Option<i64> {
 /// Returns both parts divided by their greatest common divisor, with a positive denominator. Two
 /// fractions need no divisor: 0 over any number is 0/1, and a number over itself is 1/1.
 ///
-/// May be called if each number of at most the magnitude of a part fits.
+/// Each number of at most the magnitude of a part must fit.
 #[track_caller]
 fn reduced_terms<T: Integer + Copy>(num: T, den: T) -> (T, T) {
     if is_zero(num) {
@@ -64,7 +64,7 @@ fn reduced_terms<T: Integer + Copy>(num: T, den: T) -> (T, T) {
 
 /// Returns both parts, negated if the denominator is negative.
 ///
-/// May be called if [`reduced_terms`] may.
+/// The precondition is that of [`reduced_terms`].
 fn with_positive_denominator<T: Integer + Copy>(num: T, den: T) -> (T, T) {
     if is_negative(den) {
         (negated(num), negated(den))

@@ -60,7 +60,7 @@ pub(crate) enum Call {
 }
 
 impl Call {
-    /// The call that tests the domain of this one, if it is checked together with it.
+    /// The call that tests the precondition of this one, if it is checked together with it.
     pub(crate) fn test(self) -> Option<Call> {
         match self {
             Call::DivFloor | Call::DivCeil => Some(Call::QuotientFits),

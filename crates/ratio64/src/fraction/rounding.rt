@@ -62,7 +62,7 @@ impl Ratio {
 
 /// Returns the integer nearest to `num / den`, and of two equally near the one farther from 0.
 ///
-/// May be called if `den` is positive.
+/// `den` must be positive.
 pub(crate) fn nearest<T: Integer + Copy>(num: T, den: T) -> T
     requires in_range { T.fits (T.value num) × T.fits (T.value den) }
     requires positive { pos 0 <ℤ T.value den }
@@ -86,7 +86,7 @@ pub(crate) fn nearest<T: Integer + Copy>(num: T, den: T) -> T
 
 /// Returns the integer nearest to `num / den`, and of two equally near the even one.
 ///
-/// May be called if `den` is positive.
+/// `den` must be positive.
 pub(crate) fn nearest_even<T: Integer + Copy>(num: T, den: T) -> T
     requires in_range { T.fits (T.value num) × T.fits (T.value den) }
     requires positive { pos 0 <ℤ T.value den }

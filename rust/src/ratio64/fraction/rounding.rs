@@ -98,7 +98,7 @@ impl Ratio {
 
 /// Returns the integer nearest to `num / den`, and of two equally near the one farther from 0.
 ///
-/// May be called if `den` is positive.
+/// `den` must be positive.
 #[track_caller]
 pub(crate) fn nearest<T: Integer + Copy>(num: T, den: T) -> T {
     let (whole, rest) = div_rem(num, den);
@@ -117,7 +117,7 @@ pub(crate) fn nearest<T: Integer + Copy>(num: T, den: T) -> T {
 
 /// Returns the integer nearest to `num / den`, and of two equally near the even one.
 ///
-/// May be called if `den` is positive.
+/// `den` must be positive.
 #[track_caller]
 pub(crate) fn nearest_even<T: Integer + Copy>(num: T, den: T) -> T {
     let (below, rest) = div_mod_floor(num, den);

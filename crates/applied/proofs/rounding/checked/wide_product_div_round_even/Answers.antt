@@ -8,6 +8,6 @@ div_round_even-magnitude-requires-clause-nonzero g c = rw c.from.ensures (magnit
 pub returns : goal.returns
 returns g c =
     let own = rw (c.parts_of_product-product.ensures, c.parts_of-divisor.ensures) at
-        (nearest_even_by_magnitudes c.parts_of_product-product.result.0 c.parts_of-divisor.result.0 c.parts_of_product-product.result.1 c.parts_of-divisor.result.1 c.div_round_even-magnitude.result
-        (rw c.from.ensures at c.div_round_even-magnitude.ensures.nearest)) in
+    (nearest_even_by_magnitudes c.parts_of_product-product.result.0 c.parts_of-divisor.result.0 c.parts_of_product-product.result.1 c.parts_of-divisor.result.1 c.div_round_even-magnitude.result
+    (rw c.from.ensures at c.div_round_even-magnitude.ensures.nearest)) in
     answers_only g.T.Number.fits (IsQuotient IsNearestEven _ _) g.T.Number.value c.number_of.result own (λ y h. sym (nearest_even_quotient_is_only _ _ _ own y h)) c.number_of.ensures
