@@ -222,6 +222,15 @@ typedef struct {
     int32_t order;
 } cellarcove_order_answer;
 
+/** A status, and a decimal number: its sign, its integer part, and the number that its digits after the point
+ *  write. Those of -2.05 are true, 2 and 5. */
+typedef struct {
+    uint32_t status;
+    bool is_negative;
+    uint64_t whole;
+    uint64_t part;
+} cellarcove_decimal_answer;
+
 /** A year, a month and a day of the month. The year before year 1 is year 0. January is month 1. */
 typedef struct {
     int64_t year;
@@ -886,6 +895,26 @@ CELLARCOVE_CONST cellarcove_fraction_answer cellarcove_fraction_ceil_to(cellarco
  *  result. */
 CELLARCOVE_CONST cellarcove_fraction_answer cellarcove_fraction_round_to(cellarcove_fraction a, int64_t parts);
 
+/* ---- Fractions rounded half to even, and their decimal digits. A fraction that is passed is reduced first ---- */
+
+/** The integer nearest to the fraction times n, and of two that are equally near the even one. That of 1/2 and -3
+ *  is -2. CELLARCOVE_ZERO_DENOMINATOR if the denominator is 0. CELLARCOVE_NOT_FITTING if a part of the reduced
+ *  fraction does not fit, or the result. */
+CELLARCOVE_CONST cellarcove_i64_answer cellarcove_fraction_round_even_times(cellarcove_fraction a, int64_t n);
+
+/** The nearest multiple of 1 / parts, and of two that are equally near the one that is an even number of parts.
+ *  That of 1/8 and 100 is 3/25. CELLARCOVE_OUTSIDE if parts is not positive, whatever a is.
+ *  CELLARCOVE_ZERO_DENOMINATOR if the denominator is 0. CELLARCOVE_NOT_FITTING if a part of the reduced fraction
+ *  does not fit, or a part of the result. */
+CELLARCOVE_CONST cellarcove_fraction_answer cellarcove_fraction_round_even_to(cellarcove_fraction a, int64_t parts);
+
+/** The nearest decimal number with so many digits after the point, and of two that are equally near the one whose
+ *  last digit is even. Its text is a minus if is_negative, then whole, and, if there are places, a point and part
+ *  with zeros in front. That of 1234/5 and 2 is 246.80. CELLARCOVE_ZERO_DENOMINATOR if the denominator is 0.
+ *  CELLARCOVE_NOT_FITTING if a part of the reduced fraction does not fit. CELLARCOVE_OUTSIDE if there are more
+ *  than 18 places and neither holds. */
+CELLARCOVE_CONST cellarcove_decimal_answer cellarcove_fraction_to_decimal(cellarcove_fraction a, uint32_t places);
+
 /* ---- Dates of the proleptic Gregorian calendar, and days counted from 1970-01-01, which is day 0 ---- */
 
 /** The date of a day, counted from 1970-01-01, which is day 0. That of -1 is 1969-12-31. */
@@ -990,6 +1019,14 @@ CELLARCOVE_CONST cellarcove_u64_answer cellarcove_day_of_year(cellarcove_date da
  *  zeros aside. CELLARCOVE_ZERO_DENOMINATOR if the denominator is 0. CELLARCOVE_NOT_FITTING if a part of the
  *  reduced fraction does not fit. */
 CELLARCOVE_PURE cellarcove_fraction_answer cellarcove_fraction_from_text(const uint8_t *text, size_t text_len);
+
+/* ---- Dates that are read from a text. The text is its bytes, with no zero at the end ---- */
+
+/** The date of a text of ISO 8601: a year of at least four digits, a month and a day of two digits, with hyphens
+ *  between them. A year below 0 has a minus, and one above 9999 has a plus. That of 2026-11-28 is 2026-11-28. text
+ *  points to text_len numbers, aligned, which do not change during the call; it may be null if text_len is 0.
+ *  CELLARCOVE_NO_DATE if it is the text of no date whose year fits. */
+CELLARCOVE_PURE cellarcove_date_answer cellarcove_date_from_text(const uint8_t *text, size_t text_len);
 
 /* ---- Products divided by a number, rounded to the nearest integer ---- */
 

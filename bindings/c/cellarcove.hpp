@@ -134,6 +134,16 @@ struct week_of_year {
     friend constexpr bool operator==(const week_of_year &a, const week_of_year &b) { return a.week == b.week && a.year == b.year; }
 };
 
+/// A decimal number: its sign, its integer part, and the number that its digits after the point write, which are `places`.
+struct decimal {
+    bool is_negative;
+    std::uint64_t whole, part;
+    std::uint32_t places;
+    friend constexpr bool operator==(const decimal &a, const decimal &b) {
+        return a.is_negative == b.is_negative && a.whole == b.whole && a.part == b.part && a.places == b.places;
+    }
+};
+
 namespace detail {
 
 template <class T, class... Others> constexpr bool is_one_of = (std::is_same_v<T, Others> || ...);
@@ -192,7 +202,7 @@ template <class... T> constexpr status error_of(const checked<T> &...numbers) {
     return found;
 }
 
-/// The text of a fraction, a date or a week. Of the settings of a stream only the width and the fill change it.
+/// The text of a fraction, a decimal number, a date or a week. Of the settings of a stream only the width and the fill change it.
 class line {
   public:
     void add(char part) { *end_++ = part; }
@@ -1314,6 +1324,41 @@ template <class N0, class N1, class N2, class N3> [[nodiscard]] auto count_times
     return r.status == CELLARCOVE_ANSWER ? result<fraction>(fraction::from_c(r.value)) : result<fraction>(static_cast<status>(r.status));
 }
 
+/// The integer nearest to the fraction times n, and of two that are equally near the even one. That of 1/2 and -3 is
+/// -2. status::zero_denominator if the denominator is 0. status::not_fitting if a part of the reduced fraction does
+/// not fit, or the result.
+[[nodiscard]] inline result<std::int64_t> fraction_round_even_times(const fraction &a, detail::checked<std::int64_t> n) {
+    if (auto error = detail::error_of(n); error != status::answer) {
+        return result<std::int64_t>(error);
+    }
+    auto r = cellarcove_fraction_round_even_times(a.to_c(), n.value);
+    return r.status == CELLARCOVE_ANSWER ? result<std::int64_t>(r.value) : result<std::int64_t>(static_cast<status>(r.status));
+}
+
+/// The nearest multiple of 1 / parts, and of two that are equally near the one that is an even number of parts. That
+/// of 1/8 and 100 is 3/25. status::outside if parts is not positive, whatever a is. status::zero_denominator if the
+/// denominator is 0. status::not_fitting if a part of the reduced fraction does not fit, or a part of the result.
+[[nodiscard]] inline result<fraction> fraction_round_even_to(const fraction &a, detail::checked<std::int64_t> parts) {
+    if (auto error = detail::error_of(parts); error != status::answer) {
+        return result<fraction>(error);
+    }
+    auto r = cellarcove_fraction_round_even_to(a.to_c(), parts.value);
+    return r.status == CELLARCOVE_ANSWER ? result<fraction>(fraction::from_c(r.value)) : result<fraction>(static_cast<status>(r.status));
+}
+
+/// The nearest decimal number with so many digits after the point, and of two that are equally near the one whose
+/// last digit is even. Its text is a minus if is_negative, then whole, and, if there are places, a point and part
+/// with zeros in front. That of 1234/5 and 2 is 246.80. status::zero_denominator if the denominator is 0.
+/// status::not_fitting if a part of the reduced fraction does not fit. status::outside if there are more than 18
+/// places and neither holds.
+[[nodiscard]] inline result<decimal> fraction_to_decimal(const fraction &a, detail::checked<std::uint32_t> places) {
+    if (auto error = detail::error_of(places); error != status::answer) {
+        return result<decimal>(error);
+    }
+    auto r = cellarcove_fraction_to_decimal(a.to_c(), places.value);
+    return r.status == CELLARCOVE_ANSWER ? result<decimal>(decimal{r.is_negative, r.whole, r.part, places.value}) : result<decimal>(static_cast<status>(r.status));
+}
+
 /// The date of a day, counted from 1970-01-01, which is day 0. That of -1 is 1969-12-31.
 [[nodiscard]] inline date date_from_day(detail::exact<std::int64_t> day) {
     auto r = cellarcove_date_from_day(day.value);
@@ -1503,6 +1548,14 @@ template <class N0, class N1, class N2, class N3> [[nodiscard]] auto count_times
     return r.status == CELLARCOVE_ANSWER ? result<fraction>(fraction::from_c(r.value)) : result<fraction>(static_cast<status>(r.status));
 }
 
+/// The date of a text of ISO 8601: a year of at least four digits, a month and a day of two digits, with hyphens
+/// between them. A year below 0 has a minus, and one above 9999 has a plus. That of 2026-11-28 is 2026-11-28.
+/// status::no_date if it is the text of no date whose year fits.
+[[nodiscard]] inline result<date> date_from_text(std::string_view text) {
+    auto r = cellarcove_date_from_text(reinterpret_cast<const std::uint8_t *>(text.data()), text.size());
+    return r.status == CELLARCOVE_ANSWER ? result<date>(date::from_c(r.date)) : result<date>(static_cast<status>(r.status));
+}
+
 /// The quotient of a * b by d, rounded to the nearest integer, and a half away from 0. The product need not fit. That
 /// for -1999, 19 and 100 is -380. status::outside if d is 0. status::not_fitting if the quotient does not fit.
 template <class N0, class N1, class N2> [[nodiscard]] auto product_div_round(N0 a, N1 b, N2 d) {
@@ -1574,6 +1627,19 @@ inline std::ostream &operator<<(std::ostream &out, const fraction &a) {
     if (a.den() != 1) {
         line.add('/');
         line.add(detail::line::magnitude(a.den()), 1);
+    }
+    return out << line;
+}
+
+inline std::ostream &operator<<(std::ostream &out, const decimal &a) {
+    detail::line line;
+    if (a.is_negative) {
+        line.add('-');
+    }
+    line.add(a.whole, 1);
+    if (a.places > 0) {
+        line.add('.');
+        line.add(a.part, static_cast<std::ptrdiff_t>(a.places));
     }
     return out << line;
 }

@@ -2,6 +2,7 @@
  * they reach C, field by field. */
 #include "cellarcove.h"
 
+#include <inttypes.h>
 #include <stdio.h>
 #include <string.h>
 
@@ -560,6 +561,29 @@ static void more_of_fractions(void) {
     CHECK(cellarcove_fraction_round_to(thirds, 100).value.num == 167 && cellarcove_fraction_round_to(thirds, 0).status == CELLARCOVE_OUTSIDE);
 }
 
+static bool is_decimal(cellarcove_decimal_answer r, bool is_negative, uint64_t whole, uint64_t part) {
+    return r.status == CELLARCOVE_ANSWER && r.is_negative == is_negative && r.whole == whole && r.part == part;
+}
+
+static void decimals(void) {
+    const cellarcove_fraction price = {1234, 5}, eighth = {1, 8}, minus = {-1, 20}, none = {1, 0}, lowest = {INT64_MIN, 1};
+    ANSWERS(cellarcove_fraction_round_even_times(eighth, 4), 0);
+    ANSWERS(cellarcove_fraction_round_even_times(eighth, -12), -2);
+    REFUSES(cellarcove_fraction_round_even_times(lowest, -1), CELLARCOVE_NOT_FITTING);
+    CHECK(cellarcove_fraction_round_even_to(eighth, 100).value.den == 25 && cellarcove_fraction_round_even_to(eighth, 100).value.num == 3);
+    CHECK(cellarcove_fraction_round_even_to(none, 0).status == CELLARCOVE_OUTSIDE);
+    CHECK(is_decimal(cellarcove_fraction_to_decimal(price, 2), false, 246, 80));
+    CHECK(is_decimal(cellarcove_fraction_to_decimal(minus, 2), true, 0, 5) && is_decimal(cellarcove_fraction_to_decimal(minus, 1), false, 0, 0));
+    CHECK(is_decimal(cellarcove_fraction_to_decimal(lowest, 18), true, UINT64_C(1) << 63, 0));
+    cellarcove_decimal_answer refused = cellarcove_fraction_to_decimal(minus, 19);
+    CHECK(refused.status == CELLARCOVE_OUTSIDE && !refused.is_negative && refused.whole == 0 && refused.part == 0);
+    CHECK(cellarcove_fraction_to_decimal(none, 19).status == CELLARCOVE_ZERO_DENOMINATOR);
+    cellarcove_decimal_answer amount = cellarcove_fraction_to_decimal(minus, 2);
+    char text[48];
+    snprintf(text, sizeof text, "%s%" PRIu64 ".%0*" PRIu64, amount.is_negative ? "-" : "", amount.whole, 2, amount.part);
+    CHECK(strcmp(text, "-0.05") == 0);
+}
+
 static void more_of_dates(void) {
     const cellarcove_date leap = {2000, 2, 29}, later = {2025, 2, 28}, none = {1900, 2, 29};
     ANSWERS(cellarcove_years_between(leap, later), 25);
@@ -581,6 +605,9 @@ static void texts(void) {
     CHECK(cellarcove_fraction_from_text(half, 2).status == CELLARCOVE_OUTSIDE && cellarcove_fraction_from_text(NULL, 0).status == CELLARCOVE_OUTSIDE);
     CHECK(cellarcove_fraction_from_text((const uint8_t *)"1/0", 3).status == CELLARCOVE_ZERO_DENOMINATOR);
     CHECK(cellarcove_fraction_from_text((const uint8_t *)"9223372036854775808", 19).status == CELLARCOVE_NOT_FITTING);
+    const uint8_t *day = (const uint8_t *)"+12000-04-02";
+    CHECK(is_date(cellarcove_date_from_text(day, 12).date, 12000, 4, 2) && is_date(cellarcove_date_from_text(day + 2, 10).date, 2000, 4, 2));
+    CHECK(cellarcove_date_from_text(day + 1, 11).status == CELLARCOVE_NO_DATE && cellarcove_date_from_text(NULL, 0).status == CELLARCOVE_NO_DATE);
 }
 
 int main(void) {
@@ -606,6 +633,7 @@ int main(void) {
     numbers_of_pages();
     counts_and_times();
     more_of_fractions();
+    decimals();
     more_of_dates();
     texts();
     printf("%d results right, %d wrong\n", passed, failed);

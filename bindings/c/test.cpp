@@ -61,6 +61,9 @@ static void numbers() {
     std::vector<std::int64_t> parts(3);
     CHECK(cellarcove::shares(-100, std::vector<std::uint64_t>{1, 1, 1}, parts) == status::answer && parts == std::vector<std::int64_t>{-34, -33, -33});
     CHECK(cellarcove::shares(-100, std::vector<std::uint64_t>{0, 0, 0}, parts) == status::outside);
+    CHECK(*cellarcove::date_from_text("-0001-12-31") == *date::make(-1, 12, 31) && cellarcove::date_from_text("2026-1-1") == status::no_date);
+    CHECK(*cellarcove::fraction_to_decimal(*fraction::make(-1, 20), 2) == cellarcove::decimal{true, 0, 5, 2});
+    CHECK(cellarcove::fraction_to_decimal(1, 19) == status::outside && cellarcove::fraction_to_decimal(1, -1) == status::outside);
     CHECK(*cellarcove::fraction_from_text("6/-4") == *fraction::make(-3, 2) && cellarcove::fraction_from_text("1/0") == status::zero_denominator);
     static_assert(std::is_same_v<decltype(cellarcove::weekday(0)), int> && std::is_same_v<decltype(date::make(1, 1, 1)->month()), int>);
     static_assert(!std::is_convertible_v<std::int64_t, cellarcove::result<std::int64_t>>);
@@ -140,6 +143,9 @@ static void texts() {
     CHECK(text_of(*fraction::make(6, -4)) == "-3/2" && text_of(fraction(7)) == "7" && text_of(fraction()) == "0");
     CHECK(text_of(fraction(INT64_MIN)) == "-9223372036854775808");
     CHECK(text_of(*fraction::make(INT64_MIN, INT64_MAX)) == "-9223372036854775808/9223372036854775807");
+    CHECK(text_of(*cellarcove::fraction_to_decimal(*fraction::make(1234, 5), 2)) == "246.80");
+    CHECK(text_of(*cellarcove::fraction_to_decimal(*fraction::make(-1, 20), 2)) == "-0.05" && text_of(*cellarcove::fraction_to_decimal(7, 0)) == "7");
+    CHECK(text_of(*cellarcove::fraction_to_decimal(INT64_MIN, 18)) == "-9223372036854775808.000000000000000000");
     CHECK(text_of(*date::make(2000, 2, 29)) == "2000-02-29" && text_of(*date::make(9999, 12, 31)) == "9999-12-31");
     CHECK(text_of(cellarcove::easter(12000)) == "+12000-04-02" && text_of(cellarcove::easter(5)) == "0005-04-17");
     CHECK(text_of(*date::make(0, 1, 1)) == "0000-01-01" && text_of(*date::make(-1, 12, 3)) == "-0001-12-03");

@@ -576,6 +576,27 @@ export function fractionRoundTo(a: Fractional, parts: Integer): Fraction;
 export function fractionRoundTo(a: Fractional | FractionColumns, parts: Integer | BigInt64Array): {num: BigInt64Array; den: BigInt64Array; status: Uint8Array};
 export function tryFractionRoundTo(a: Fractional, parts: Integer): Attempt<Fraction>;
 
+/** The integer nearest to the fraction times `n`, and of two that are equally near the even one. That of 1/2 and -3 is -2.
+ *  `ZERO_DENOMINATOR` if the denominator is 0. `NOT_FITTING` if a part of the reduced fraction does not fit, or the result. */
+export function fractionRoundEvenTimes(a: Fractional, n: Integer): bigint;
+export function fractionRoundEvenTimes(a: Fractional | FractionColumns, n: Integer | BigInt64Array): {value: BigInt64Array; status: Uint8Array};
+export function tryFractionRoundEvenTimes(a: Fractional, n: Integer): Attempt<bigint>;
+
+/** The nearest multiple of `1 / parts`, and of two that are equally near the one that is an even number of parts. That of 1/8 and 100 is
+ *  3/25. `OUTSIDE` if `parts` is not positive, whatever `a` is. `ZERO_DENOMINATOR` if the denominator is 0. `NOT_FITTING` if a part of
+ *  the reduced fraction does not fit, or a part of the result. */
+export function fractionRoundEvenTo(a: Fractional, parts: Integer): Fraction;
+export function fractionRoundEvenTo(a: Fractional | FractionColumns, parts: Integer | BigInt64Array): {num: BigInt64Array; den: BigInt64Array; status: Uint8Array};
+export function tryFractionRoundEvenTo(a: Fractional, parts: Integer): Attempt<Fraction>;
+
+/** The nearest decimal number with so many digits after the point, and of two that are equally near the one whose last digit is even. For
+ *  arrays it is whether each is negative, its integer part, and the number that its digits after the point write. `ZERO_DENOMINATOR` if
+ *  the denominator is 0. `NOT_FITTING` if a part of the reduced fraction does not fit. `OUTSIDE` if there are more than 18 places and
+ *  neither holds. */
+export function fractionToDecimal(a: Fractional, places: Integer): {isNegative: boolean; whole: bigint; part: bigint};
+export function fractionToDecimal(a: Fractional | FractionColumns, places: Integer | Uint32Array): {isNegative: Uint8Array; whole: BigUint64Array; part: BigUint64Array; status: Uint8Array};
+export function tryFractionToDecimal(a: Fractional, places: Integer): Attempt<{isNegative: boolean; whole: bigint; part: bigint}>;
+
 /** The date of a day, counted from 1970-01-01, which is day 0. That of -1 is 1969-12-31. */
 export function dateFromDay(day: Integer): PlainDate;
 export function dateFromDay(day: Integer | BigInt64Array): {year: BigInt64Array; month: Uint8Array; day: Uint8Array};
@@ -706,6 +727,12 @@ export function tryDayOfYear(date: Dated): Attempt<bigint>;
  *  `NOT_FITTING` if a part of the reduced fraction does not fit. */
 export function fractionFromText(text: string): Fraction;
 export function tryFractionFromText(text: string): Attempt<Fraction>;
+
+/** The date of a text of ISO 8601: a year of at least four digits, a month and a day of two digits, with hyphens between them. A year
+ *  below 0 has a minus, and one above 9999 has a plus. That of `2026-11-28` is 2026-11-28. `NO_DATE` if it is the text of no date whose
+ *  year fits. */
+export function dateFromText(text: string): PlainDate;
+export function tryDateFromText(text: string): Attempt<PlainDate>;
 
 /** The quotient of `a * b` by `d`, rounded to the nearest integer, and a half away from 0. The product need not fit. That for -1999, 19
  *  and 100 is -380. `OUTSIDE` if `d` is 0. `NOT_FITTING` if the quotient does not fit. */

@@ -89,6 +89,9 @@ export const fractionRoundTimes = call('fractionRoundTimes'), tryFractionRoundTi
 export const fractionFloorTo = call('fractionFloorTo'), tryFractionFloorTo = attempt('fractionFloorTo');
 export const fractionCeilTo = call('fractionCeilTo'), tryFractionCeilTo = attempt('fractionCeilTo');
 export const fractionRoundTo = call('fractionRoundTo'), tryFractionRoundTo = attempt('fractionRoundTo');
+export const fractionRoundEvenTimes = call('fractionRoundEvenTimes'), tryFractionRoundEvenTimes = attempt('fractionRoundEvenTimes');
+export const fractionRoundEvenTo = call('fractionRoundEvenTo'), tryFractionRoundEvenTo = attempt('fractionRoundEvenTo');
+export const fractionToDecimal = call('fractionToDecimal'), tryFractionToDecimal = attempt('fractionToDecimal');
 export const dateFromDay = call('dateFromDay'), tryDateFromDay = attempt('dateFromDay');
 export const dayFromDate = call('dayFromDate'), tryDayFromDate = attempt('dayFromDate');
 export const plusDays = call('plusDays'), tryPlusDays = attempt('plusDays');
@@ -112,6 +115,7 @@ export const weeksInYear = call('weeksInYear'), tryWeeksInYear = attempt('weeksI
 export const daysInMonth = call('daysInMonth'), tryDaysInMonth = attempt('daysInMonth');
 export const dayOfYear = call('dayOfYear'), tryDayOfYear = attempt('dayOfYear');
 export const fractionFromText = call('fractionFromText'), tryFractionFromText = attempt('fractionFromText');
+export const dateFromText = call('dateFromText'), tryDateFromText = attempt('dateFromText');
 export const productDivRound = call('productDivRound'), tryProductDivRound = attempt('productDivRound');
 export const productDivRoundEven = call('productDivRoundEven'), tryProductDivRoundEven = attempt('productDivRoundEven');
 export const sumOf = call('sumOf'), trySumOf = attempt('sumOf');

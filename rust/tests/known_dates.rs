@@ -24,7 +24,7 @@ const MAX: i64 = i64::MAX;
 type Parts = (i64, u8, u8);
 
 /// The parts of a date, the day, the day of the year, and the day of the week.
-const DATES: [(Parts, i64, u16, Weekday); 25] = [
+const DATES: [(Parts, i64, u16, Weekday); 27] = [
     ((1970, 1, 1), 0, 1, Thursday),
     ((1969, 12, 31), -1, 365, Wednesday),
     ((2000, 2, 29), 11016, 60, Tuesday),
@@ -42,6 +42,8 @@ const DATES: [(Parts, i64, u16, Weekday); 25] = [
     ((-1, 12, 31), -719529, 365, Friday),
     ((-4, 2, 29), -720930, 60, Thursday),
     ((9999, 12, 31), 2932896, 365, Friday),
+    ((2799999, 12, 31), 1021959471, 365, Friday),
+    ((2800000, 1, 1), 1021959472, 1, Saturday),
     ((-25252734927764585, 6, 7), MIN, 158, Wednesday),
     ((-25252734927764585, 12, 31), MIN + 207, 365, Sunday),
     ((-25252734927764584, 1, 1), MIN + 208, 1, Monday),
@@ -97,6 +99,18 @@ fn known_dates() {
     for (month, day) in [(2, 30), (4, 31), (0, 1), (13, 1), (1, 0), (1, 32)] {
         let date = Date::new(2000, month, day);
         holds_at(date.is_none(), &("Date::new", month, day));
+    }
+}
+
+/// Beside the numbers as std writes them.
+#[test]
+fn strings_of_years_with_four_digits() {
+    for year in 0..=9999 {
+        for month in 1..=12 {
+            let day = days_in_month(year, month);
+            let string = format!("{year:04}-{month:02}-{day:02}");
+            holds_at(date((year, month, day)).to_string() == string, &string);
+        }
     }
 }
 

@@ -24,6 +24,7 @@ DAY_0 = datetime.date(1970, 1, 1).toordinal()
 CYCLE = 400                                     # years, after which the calendar repeats
 DAYS_OF_CYCLE = 146_097
 MOST_CONGRUENCES = 64                           # of a call with a list of them
+MOST_PLACES = 18                                # of a decimal number
 WIDEST_CHOICE = 34                              # of 2k things, k of them can be chosen in more than 2**64 ways from here on
 
 
@@ -304,6 +305,13 @@ def to_parts(make: Callable[[Fraction], int]) -> Model:
     return over(lambda a, count: Fraction(make(a * count), count))
 
 
+def to_decimal(a: Fraction, places: int) -> tuple[int, ...]:
+    """The sign, the integer part and the digits after the point."""
+    let(places <= MOST_PLACES)
+    units = round(a * 10**places)
+    return int(units < 0), *divmod(abs(units), 10**places)
+
+
 # ---- dates
 
 def near(year: int) -> int:
@@ -348,6 +356,14 @@ def of_number(number: int) -> Day:
     cycles, rest = divmod(number - Day(2000, 1, 1).number(), DAYS_OF_CYCLE)
     year = 2000 + cycles * CYCLE
     return dated(year, Day(year, 1, 1).near() + datetime.timedelta(rest))
+
+
+def date_from_text(text: str) -> Day:
+    """A year of ISO 8601 has at least four digits, and a sign if it is not from 0 to 9999."""
+    found = re.fullmatch('(-(?!0000)[0-9]{4}|-[1-9][0-9]{4,}|[0-9]{4}|[+][1-9][0-9]{4,})-([0-9]{2})-([0-9]{2})', text, re.ASCII)
+    made = Day(*map(int, found.groups() if found else (0, 0, 0)))
+    let(I64[0] <= made.year <= I64[1], NO_DATE)
+    return made.valid()
 
 
 def days_in(year: int, month: int) -> int:
@@ -501,9 +517,10 @@ FRACTIONS: dict[str, Maker] = {
     'fraction_floor_times': lambda a, n: math.floor(a * n),
     'fraction_ceil_times': lambda a, n: math.ceil(a * n),
     'fraction_round_times': lambda a, n: away_from_zero(a * n),
+    'fraction_round_even_times': lambda a, n: round(a * n),
 }
 DATES: dict[str, Maker] = {
-    **named(months_between, years_between, date_from_year_day, date_from_iso_week, easter, nth_weekday_of_month),
+    **named(months_between, years_between, date_from_text, date_from_year_day, date_from_iso_week, easter, nth_weekday_of_month),
     'date_from_day': of_number,
     'day_from_date': Day.number,
     'plus_months': Day.plus_months,
@@ -530,5 +547,7 @@ RESULTS: dict[str, Model] = {
     'fraction_floor_to': to_parts(math.floor),
     'fraction_ceil_to': to_parts(math.ceil),
     'fraction_round_to': to_parts(away_from_zero),
+    'fraction_round_even_to': to_parts(round),
+    'fraction_to_decimal': lambda _, *given: model(to_decimal, ZERO_DENOMINATOR, OUTSIDE)(U64, *given),  # its integer part is below 2**64
 }
 PROPERTIES: dict[str, Callable[..., bool]] = {'extended_gcd': is_bezout}

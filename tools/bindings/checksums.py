@@ -11,7 +11,7 @@ def arguments(parameters: list[str]) -> tuple[list[str], list[str]]:
         kind, name = parameter.rsplit(' ', 1)
         if name.startswith('*'):
             kind = kind.removeprefix('const ')
-            lines += [f'{kind} counts{number}[COUNTS] = {{0}};', f'size_t length{number} = fill_{kind}(counts{number});']
+            lines += [f'{kind} counts{number}[{"BYTES" if kind == "uint8_t" else "COUNTS"}] = {{0}};', f'size_t length{number} = fill_{kind}(counts{number});']
             lines += [f'if (random_bits() % 8 > 0) length{number} = {length};' for length in lengths]  # most lists have one length
             names += [f'counts{number}', f'length{number}']
             lengths.append(f'length{number}')

@@ -8,7 +8,7 @@ RESULTS = {
     'I64Answer': 'std::int64_t', 'U64Answer': 'std::uint64_t', 'I64Division': 'division<std::int64_t>', 'U64Division': 'division<std::uint64_t>',
     'I64Bezout': 'bezout', 'I64GcdLcm': 'gcd_and_lcm<std::int64_t>', 'U64GcdLcm': 'gcd_and_lcm<std::uint64_t>',
     'I64Solutions': 'solution_class<std::int64_t>', 'U64Solutions': 'solution_class<std::uint64_t>', 'FractionAnswer': 'fraction',
-    'OrderAnswer': 'int', 'DateAnswer': 'date', 'IsoWeekAnswer': 'week_of_year',
+    'OrderAnswer': 'int', 'DateAnswer': 'date', 'IsoWeekAnswer': 'week_of_year', 'DecimalAnswer': 'decimal',
 } | {f'{form}{name}': f'{of}<std::{kind}>' for form, kind in (('I64', 'int64_t'), ('U64', 'uint64_t'))
      for name, of in (('Root', 'root_and_rest'), ('Place', 'place_on_page'), ('Range', 'range'))}
 PLAIN = {'i64': 'std::int64_t', 'u64': 'std::uint64_t', 'u32': 'std::uint32_t', 'u8': 'std::uint8_t', 'bool': 'bool', 'Date': 'date',
@@ -17,6 +17,7 @@ PLAIN = {'i64': 'std::int64_t', 'u64': 'std::uint64_t', 'u32': 'std::uint32_t', 
 CLASSES = ('Fraction', 'Date')
 TEXT = 'u8'  # the items of a text
 FROM_C = {'FractionAnswer': 'fraction::from_c(r.value)', 'DateAnswer': 'date::from_c(r.date)', 'Date': 'date::from_c(r)',
+          'DecimalAnswer': 'decimal{r.is_negative, r.whole, r.part, places.value}',
           'I64Pair': 'std::pair(r.first, r.second)', 'U64Pair': 'std::pair(r.first, r.second)', 'u8': 'static_cast<int>(r)'}
 
 

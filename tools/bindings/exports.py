@@ -14,7 +14,8 @@ NUMBERS = {f'{sign}{bits}': f'{"u" if sign == "u" else ""}int{bits}_t' for sign 
 NUMBERS |= {'usize': 'size_t', 'bool': 'bool'}
 # The order of the modules in the header. One that is not here comes last.
 ORDER = ('operators', 'division', 'divisors', 'coprime', 'lists', 'roots', 'powers', 'coefficients', 'counting', 'ranking', 'shares', 'paging',
-         'layout', 'modulo', 'congruences', 'several_congruences', 'schedules', 'fractions', 'rounding', 'dates', 'weekdays', 'years', 'texts')
+         'layout', 'modulo', 'congruences', 'several_congruences', 'schedules', 'fractions', 'rounding', 'decimals', 'dates', 'weekdays', 'years',
+         'texts', 'date_texts')
 
 
 class Field(NamedTuple):

@@ -17,6 +17,7 @@ import itertools
 import random
 import time
 from collections.abc import Callable, Iterable, Iterator, Sequence
+from decimal import Decimal
 from fractions import Fraction
 from functools import partial
 from types import SimpleNamespace
@@ -27,7 +28,7 @@ with contextlib.suppress(ImportError):  # the rows for JavaScript need only the 
 
 from tools.bindings.by_python import BAD_MODULUS, I64, NOT_FITTING, OUTSIDE, PROPERTIES, RESULTS, U64, ZERO_DENOMINATOR
 from tools.bindings.exports import EXPORTS, Call
-from tools.bindings.python import LETTERS, MODULI, cells, public_calls, results
+from tools.bindings.python import DIVIDES, LETTERS, MODULI, cells, public_calls, results
 
 COUNT = 200                                     # elements of an array
 ONE_BY_ONE = 8                                  # of them, which are called alone too
@@ -97,6 +98,10 @@ def plain(result: Any) -> tuple[int, ...]:
     """The numbers of a result."""
     if isinstance(result, Fraction):
         return result.numerator, result.denominator
+    if isinstance(result, Decimal):
+        sign, digits, exponent = result.as_tuple()
+        assert isinstance(exponent, int)
+        return sign, *divmod(int(''.join(map(str, digits))), 10**-exponent)
     return tuple(result) if isinstance(result, tuple) else (int(result),)
 
 
@@ -222,7 +227,7 @@ def of_slice(name: str, forms: list[Call]) -> int:
 def is_by_zero(call: Call, status: int, arguments: Sequence[Any]) -> bool:
     """Whether the reason of a status is that a divisor, a modulus or a denominator is 0."""
     if status != BAD_MODULUS:
-        return status == ZERO_DENOMINATOR or status == OUTSIDE and call.module == 'division'
+        return status == ZERO_DENOMINATOR or status == OUTSIDE and call.module in DIVIDES
     pairs = zip((parameter.name for parameter in call.parameters), arguments)
     return any(m == 0 for name, given in pairs for m in ((item[1] for item in given) if isinstance(given, list) else [given])
                if isinstance(given, list) or name in MODULI)

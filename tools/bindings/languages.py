@@ -13,7 +13,9 @@ a form for each type in braces. If a cell is empty, the last one says what to us
 
 '''
 TRAITS = ('Integer::', 'Average::', 'Roots::')  # whose methods are free functions too
-BY_TRAIT = {'fraction_cmp': 'Ord of `Ratio`', 'fraction_from_text': 'FromStr of `Ratio`'}
+BY_TRAIT = {'fraction_cmp': 'Ord of `Ratio`', 'fraction_from_text': 'FromStr of `Ratio`', 'date_from_text': 'FromStr of `Date`'}
+NAMED = {'date_from_text': ('date_from_text', 'Date.fromisoformat, date_from_text',
+                            'PlainDate.from`, `dateFromText')}  # their names in C++, in Python and in JavaScript
 
 
 def paths() -> list[str]:
@@ -44,8 +46,7 @@ def rows() -> list[tuple[str, ...]]:
             shown = reason.removesuffix('::') or path
             made.append((f'`{rattle.replace(path, shown)}`', f'`cellarcove::{shown}`', *(('', '', '', '', reasons[reason]) if reason else (*cells(export, *others), ''))))
         used |= {reason} if reason else {path, export}
-    made.append(('FromStr of `Date`', 'FromStr of `Date`', '', '', '`Date.fromisoformat`', '`PlainDate.from`', '`scanf` and `day_of_year`, whose status is `NO_DATE` if there is no such date'))
-    made += [(where, where, *cells(export), '') for export, where in BY_TRAIT.items()]
+    made += [(where, where, *cells(export, *NAMED.get(export, ())), '') for export, where in BY_TRAIT.items()]
     unknown = (names.keys() | reasons.keys()) - used
     lost = forms.keys() - used - BY_TRAIT.keys()
     assert not unknown and not lost, f'tools/bindings/languages.txt: no such call {sorted(unknown)}, no row of {sorted(lost)}'

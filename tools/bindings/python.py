@@ -25,6 +25,7 @@ OBJECTS = {'i64': 'PyLong_FromLongLong', 'u64': 'PyLong_FromUnsignedLongLong', '
 CLASSES = {'Bezout': ('class_gcd', 'ExtendedGcd'), 'Solutions': ('class_solutions', 'Solutions'), 'IsoWeek': ('class_week', 'IsoWeek')}
 SHAPES = {'Fraction': 'f', 'Date': 'd'}
 MODULI = {'m', 'n', 'step', 'p', 'q', 'period'}  # the parameters whose 0 is the reason of `BAD_MODULUS`
+DIVIDES = ('division', 'products')  # the modules whose parameters `y` and `d` are divisors
 # What says, before there is room for the numbers that a call writes, whether it has a result.
 ASKED = {'choice_of_rank': 'is_below_binomial(numbers[0].u, numbers[1].u, numbers[2].u)'}
 
@@ -52,7 +53,7 @@ def results(call: Call) -> list[tuple[str, str]]:
 def divides(call: Call) -> list[bool]:
     """Whether each number is a divisor, whose 0 is the reason of a status."""
     reasons = ' '.join(call.statuses)
-    divisors = {'y', 'd'} if call.module == 'division' else set()
+    divisors = {'y', 'd'} if call.module in DIVIDES else set()
     divisors |= MODULI if '`BAD_MODULUS`' in reasons else set()
     return [parameter.name in divisors for parameter in call.parameters for _ in EXPORTS().leaves(parameter.kind)]
 
@@ -70,7 +71,8 @@ def arguments(call: Call, number: Callable[[int, str], str]) -> str:
 
 def object_of(call: Call) -> str:
     """The result in Python of the result `r` in C."""
-    whole = {'FractionAnswer': 'fraction_of(r.value)', 'DateAnswer': 'date_of(r.date)', 'Date': 'date_of(r)'}
+    whole = {'FractionAnswer': 'fraction_of(r.value)', 'DateAnswer': 'date_of(r.date)', 'Date': 'date_of(r)',
+             'DecimalAnswer': f'decimal_of(r, (uint32_t)a[{len(cells(call)) - 1}].u)'}
     items = [f'{OBJECTS[kind]}(r{path})' for path, kind in results(call)]
     if call.result in whole or len(items) == 1:
         return whole.get(call.result, items[0])
@@ -112,7 +114,7 @@ RAISED = {'NOT_FITTING': '`NotFitting`', 'ZERO_DENOMINATOR': '`DivisionByZero`'}
 
 def raised(call: Call, unsigned: Call | None) -> str:
     """What a docstring says of the errors."""
-    by_zero = {'OUTSIDE': '`DivisionByZero`'} if call.module == 'division' else {}
+    by_zero = {'OUTSIDE': '`DivisionByZero`'} if call.module in DIVIDES else {}
 
     def exception(status: re.Match[str]) -> str:
         return 'Raises ' + (RAISED | by_zero).get(status[1], f'`Refused` with {status[0]}')
@@ -233,6 +235,8 @@ def scalar_result(call: Call) -> str:
         return 'Fraction'
     if call.result.startswith('Date'):
         return 'Date'
+    if call.result.startswith('Decimal'):
+        return 'Decimal'
     if call.result == 'bool':
         return 'bool'
     if len(found) == 1:

@@ -11,7 +11,7 @@ are allowed. None names an item of the library, and rustc refuses what one could
 
 An item that differs otherwise is `changed`; one that Rust lacks is `absent`; one that is in Rust alone is `by hand`. tools/checks/erased.txt
 names each of these with a reason, and no other item, so none comes or goes unseen. `use` and `mod` count by what they lead to.
-tools/tests/test_check_erased.py tries it on small files, and on random changes of a token, which it has to find."""
+tools/tests/test_erased.py tries it on small files, and on random changes of a token, which it has to find."""
 import collections, itertools, pathlib, re, sys
 from typing import Callable, Collection, Iterator, NamedTuple
 
@@ -54,7 +54,7 @@ RULES: dict[str, tuple[str, str | Callable[[Item, re.Match[str]], str]]] = {
 def tokens_of(text: str) -> list[str]:
     """The tokens of a file, without comments. In a text, spaces are other signs, so that a token has none."""
     found = [match['token'].translate({32: 1, 10: 2}) for match in TOKEN.finditer(text) if match['token']]
-    return found if '/*' not in found else sys.exit('check_erased.py: a comment in /* */, which it does not read')
+    return found if '/*' not in found else sys.exit('erased.py: a comment in /* */, which it does not read')
 
 def close(t: list[str], k: int) -> int:
     """The place of the bracket that closes the one at `k`."""
@@ -63,7 +63,7 @@ def close(t: list[str], k: int) -> int:
         depth += (t[i] in OPENING) - (t[i] in CLOSING)
         if depth == 0:
             return i
-    return sys.exit(f'check_erased.py: `{" ".join(t[k:k + 9])}` is not closed')
+    return sys.exit(f'erased.py: `{" ".join(t[k:k + 9])}` is not closed')
 
 def without_contracts(t: list[str], is_source: bool) -> list[str]:
     """The tokens without attributes that change no result. A source loses `requires {..}` and `ensures {..}`, with a name or without;

@@ -22,6 +22,7 @@ import enum
 import operator
 import re
 from collections.abc import Iterable
+from decimal import Decimal
 from fractions import Fraction
 from typing import NamedTuple, Protocol, SupportsIndex
 
@@ -222,6 +223,6 @@ def _out_of_range(number: SupportsIndex, kind: str) -> OverflowError:
 
 
 _calls._install({
-    'refusal': _refusal, 'out_of_range': _out_of_range, 'Fraction': Fraction, 'Tuple': _Tuple, 'array': array.array, 'Date': Date,
-    'ExtendedGcd': ExtendedGcd, 'Solutions': Solutions, 'IsoWeek': IsoWeek, 'Weekday': Weekday, 'weekdays': tuple(Weekday),
+    'refusal': _refusal, 'out_of_range': _out_of_range, 'Fraction': Fraction, 'Decimal': Decimal, 'Tuple': _Tuple, 'array': array.array,
+    'Date': Date, 'ExtendedGcd': ExtendedGcd, 'Solutions': Solutions, 'IsoWeek': IsoWeek, 'Weekday': Weekday, 'weekdays': tuple(Weekday),
 })

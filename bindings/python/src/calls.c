@@ -151,6 +151,19 @@ static PyObject *py_fraction_from_text(PyObject *module, PyObject *object) {
     return r.status == CELLARCOVE_ANSWER ? fraction_of(r.value) : refused(r.status, r.status == CELLARCOVE_ZERO_DENOMINATOR);
 }
 
+static PyObject *py_date_from_text(PyObject *module, PyObject *object) {
+    (void)module;
+    const uint8_t *bytes;
+    size_t count;
+    PyObject *text = bytes_of("date_from_text", object, &bytes, &count);
+    if (text == NULL) {
+        return NULL;
+    }
+    cellarcove_date_answer r = cellarcove_date_from_text(bytes, count);
+    Py_DECREF(text);
+    return r.status == CELLARCOVE_ANSWER ? date_of(r.date) : refused(r.status, r.status == CELLARCOVE_ZERO_DENOMINATOR);
+}
+
 static PyObject *py_sum_of(PyObject *module, PyObject *object) {
     (void)module;
     list of;
@@ -3310,6 +3323,90 @@ static PyObject *py_fraction_round_to(PyObject *module, PyObject *const *args, P
     return run(&call_fraction_round_to, args, count, names);
 }
 
+static PyObject *one_fraction_round_even_times(const cell *a, uint32_t *status) {
+    cellarcove_i64_answer r = cellarcove_fraction_round_even_times((cellarcove_fraction){(int64_t)a[0].i, (int64_t)a[1].i}, (int64_t)a[2].i);
+    if (r.status != CELLARCOVE_ANSWER) {
+        *status = r.status;
+        return NULL;
+    }
+    return PyLong_FromLongLong(r.value);
+}
+
+static void many_fraction_round_even_times(Py_ssize_t count, char *const *in, const Py_ssize_t *steps, char *const *out) {
+    for (Py_ssize_t k = 0; k < count; k++) {
+        cellarcove_i64_answer r = cellarcove_fraction_round_even_times((cellarcove_fraction){AT(int64_t, 0), AT(int64_t, 1)}, AT(int64_t, 2));
+        TO(int64_t, 0) = r.value;
+        TO(uint8_t, 1) = (uint8_t)r.status;
+    }
+}
+
+static const form form_fraction_round_even_times = {"qqq", "qB", true, one_fraction_round_even_times, many_fraction_round_even_times};
+
+static const call call_fraction_round_even_times = {"fraction_round_even_times", 2, {"a", "n"}, "fn",
+    (const bool[]){false, false, false}, (const bool[]){false, false, false}, &form_fraction_round_even_times, NULL, NULL};
+
+static PyObject *py_fraction_round_even_times(PyObject *module, PyObject *const *args, Py_ssize_t count, PyObject *names) {
+    (void)module;
+    return run(&call_fraction_round_even_times, args, count, names);
+}
+
+static PyObject *one_fraction_round_even_to(const cell *a, uint32_t *status) {
+    cellarcove_fraction_answer r = cellarcove_fraction_round_even_to((cellarcove_fraction){(int64_t)a[0].i, (int64_t)a[1].i}, (int64_t)a[2].i);
+    if (r.status != CELLARCOVE_ANSWER) {
+        *status = r.status;
+        return NULL;
+    }
+    return fraction_of(r.value);
+}
+
+static void many_fraction_round_even_to(Py_ssize_t count, char *const *in, const Py_ssize_t *steps, char *const *out) {
+    for (Py_ssize_t k = 0; k < count; k++) {
+        cellarcove_fraction_answer r = cellarcove_fraction_round_even_to((cellarcove_fraction){AT(int64_t, 0), AT(int64_t, 1)}, AT(int64_t, 2));
+        TO(int64_t, 0) = r.value.num;
+        TO(int64_t, 1) = r.value.den;
+        TO(uint8_t, 2) = (uint8_t)r.status;
+    }
+}
+
+static const form form_fraction_round_even_to = {"qqq", "qqB", true, one_fraction_round_even_to, many_fraction_round_even_to};
+
+static const call call_fraction_round_even_to = {"fraction_round_even_to", 2, {"a", "parts"}, "fn",
+    (const bool[]){false, false, false}, (const bool[]){false, false, false}, &form_fraction_round_even_to, NULL, NULL};
+
+static PyObject *py_fraction_round_even_to(PyObject *module, PyObject *const *args, Py_ssize_t count, PyObject *names) {
+    (void)module;
+    return run(&call_fraction_round_even_to, args, count, names);
+}
+
+static PyObject *one_fraction_to_decimal(const cell *a, uint32_t *status) {
+    cellarcove_decimal_answer r = cellarcove_fraction_to_decimal((cellarcove_fraction){(int64_t)a[0].i, (int64_t)a[1].i}, (uint32_t)a[2].u);
+    if (r.status != CELLARCOVE_ANSWER) {
+        *status = r.status;
+        return NULL;
+    }
+    return decimal_of(r, (uint32_t)a[2].u);
+}
+
+static void many_fraction_to_decimal(Py_ssize_t count, char *const *in, const Py_ssize_t *steps, char *const *out) {
+    for (Py_ssize_t k = 0; k < count; k++) {
+        cellarcove_decimal_answer r = cellarcove_fraction_to_decimal((cellarcove_fraction){AT(int64_t, 0), AT(int64_t, 1)}, AT(uint32_t, 2));
+        TO(uint8_t, 0) = r.is_negative;
+        TO(uint64_t, 1) = r.whole;
+        TO(uint64_t, 2) = r.part;
+        TO(uint8_t, 3) = (uint8_t)r.status;
+    }
+}
+
+static const form form_fraction_to_decimal = {"qqI", "?QQB", true, one_fraction_to_decimal, many_fraction_to_decimal};
+
+static const call call_fraction_to_decimal = {"fraction_to_decimal", 2, {"a", "places"}, "fn",
+    (const bool[]){false, false, false}, (const bool[]){false, false, false}, &form_fraction_to_decimal, NULL, NULL};
+
+static PyObject *py_fraction_to_decimal(PyObject *module, PyObject *const *args, Py_ssize_t count, PyObject *names) {
+    (void)module;
+    return run(&call_fraction_to_decimal, args, count, names);
+}
+
 static PyObject *one_date_from_day(const cell *a, uint32_t *status) {
     cellarcove_date r = cellarcove_date_from_day((int64_t)a[0].i);
     (void)status;
@@ -3936,7 +4033,7 @@ static void many_product_div_round_u64(Py_ssize_t count, char *const *in, const 
 static const form form_product_div_round_u64 = {"QQQ", "QB", true, one_product_div_round_u64, many_product_div_round_u64};
 
 static const call call_product_div_round = {"product_div_round", 3, {"a", "b", "d"}, "nnn",
-    (const bool[]){false, false, false}, (const bool[]){true, true, true}, NULL, &form_product_div_round_i64, &form_product_div_round_u64};
+    (const bool[]){false, false, true}, (const bool[]){true, true, true}, NULL, &form_product_div_round_i64, &form_product_div_round_u64};
 
 static PyObject *py_product_div_round(PyObject *module, PyObject *const *args, Py_ssize_t count, PyObject *names) {
     (void)module;
@@ -3982,7 +4079,7 @@ static void many_product_div_round_even_u64(Py_ssize_t count, char *const *in, c
 static const form form_product_div_round_even_u64 = {"QQQ", "QB", true, one_product_div_round_even_u64, many_product_div_round_even_u64};
 
 static const call call_product_div_round_even = {"product_div_round_even", 3, {"a", "b", "d"}, "nnn",
-    (const bool[]){false, false, false}, (const bool[]){true, true, true}, NULL, &form_product_div_round_even_i64, &form_product_div_round_even_u64};
+    (const bool[]){false, false, true}, (const bool[]){true, true, true}, NULL, &form_product_div_round_even_i64, &form_product_div_round_even_u64};
 
 static PyObject *py_product_div_round_even(PyObject *module, PyObject *const *args, Py_ssize_t count, PyObject *names) {
     (void)module;
@@ -4961,6 +5058,45 @@ static PyMethodDef methods[] = {
     "\n"
     ">>> fraction_round_to((5, 3), 100)\n"
     "Fraction(167, 100)\n"},
+    {"fraction_round_even_times", (PyCFunction)(void (*)(void))py_fraction_round_even_times, METH_FASTCALL | METH_KEYWORDS,
+    "fraction_round_even_times($module, /, a, n, *, out=None)\n"
+    "--\n"
+    "\n"
+    "The integer nearest to the fraction times `n`, and of two that are equally near the even\n"
+    "one.\n"
+    "\n"
+    "Raises `DivisionByZero` if the denominator is 0. Raises `NotFitting` if a part of the\n"
+    "reduced fraction does not fit, or the result.\n"
+    "\n"
+    ">>> fraction_round_even_times((1, 2), -3)\n"
+    "-2\n"},
+    {"fraction_round_even_to", (PyCFunction)(void (*)(void))py_fraction_round_even_to, METH_FASTCALL | METH_KEYWORDS,
+    "fraction_round_even_to($module, /, a, parts, *, out=None)\n"
+    "--\n"
+    "\n"
+    "The nearest multiple of `1 / parts`, and of two that are equally near the one that is an\n"
+    "even number of parts.\n"
+    "\n"
+    "Raises `Refused` with `OUTSIDE` if `parts` is not positive, whatever `a` is. Raises\n"
+    "`DivisionByZero` if the denominator is 0. Raises `NotFitting` if a part of the reduced\n"
+    "fraction does not fit, or a part of the result.\n"
+    "\n"
+    ">>> fraction_round_even_to((1, 8), 100)\n"
+    "Fraction(3, 25)\n"},
+    {"fraction_to_decimal", (PyCFunction)(void (*)(void))py_fraction_to_decimal, METH_FASTCALL | METH_KEYWORDS,
+    "fraction_to_decimal($module, /, a, places, *, out=None)\n"
+    "--\n"
+    "\n"
+    "The nearest decimal number with so many digits after the point, and of two that are\n"
+    "equally near the one whose last digit is even. For arrays it is whether each is\n"
+    "negative, its integer part, and the number that its digits after the point write.\n"
+    "\n"
+    "Raises `DivisionByZero` if the denominator is 0. Raises `NotFitting` if a part of the\n"
+    "reduced fraction does not fit. Raises `Refused` with `OUTSIDE` if there are more than 18\n"
+    "places and neither holds.\n"
+    "\n"
+    ">>> fraction_to_decimal((1234, 5), 2)\n"
+    "Decimal('246.80')\n"},
     {"date_from_day", (PyCFunction)(void (*)(void))py_date_from_day, METH_FASTCALL | METH_KEYWORDS,
     "date_from_day($module, /, day, *, out=None)\n"
     "--\n"
@@ -5208,6 +5344,18 @@ static PyMethodDef methods[] = {
     "\n"
     ">>> fraction_from_text('6/-4')\n"
     "Fraction(-3, 2)\n"},
+    {"date_from_text", py_date_from_text, METH_O,
+    "date_from_text($module, text, /)\n"
+    "--\n"
+    "\n"
+    "The date of a text of ISO 8601: a year of at least four digits, a month and a day of two\n"
+    "digits, with hyphens between them. A year below 0 has a minus, and one above 9999 has a\n"
+    "plus.\n"
+    "\n"
+    "Raises `Refused` with `NO_DATE` if it is the text of no date whose year fits.\n"
+    "\n"
+    ">>> date_from_text('2026-11-28')\n"
+    "Date(year=2026, month=11, day=28)\n"},
     {"product_div_round", (PyCFunction)(void (*)(void))py_product_div_round, METH_FASTCALL | METH_KEYWORDS,
     "product_div_round($module, /, a, b, d, *, out=None)\n"
     "--\n"
@@ -5215,8 +5363,7 @@ static PyMethodDef methods[] = {
     "The quotient of `a * b` by `d`, rounded to the nearest integer, and a half away from 0.\n"
     "The product need not fit. That for -1999, 19 and 100 is -380.\n"
     "\n"
-    "Raises `Refused` with `OUTSIDE` if `d` is 0. Raises `NotFitting` if the quotient does\n"
-    "not fit.\n"
+    "Raises `DivisionByZero` if `d` is 0. Raises `NotFitting` if the quotient does not fit.\n"
     "\n"
     ">>> product_div_round(-1999, 19, 100)\n"
     "-380\n"},
@@ -5227,8 +5374,7 @@ static PyMethodDef methods[] = {
     "The quotient of `a * b` by `d`, rounded to the nearest integer, and a half to the even\n"
     "one. The product need not fit. That for -5, 3 and 6 is -2.\n"
     "\n"
-    "Raises `Refused` with `OUTSIDE` if `d` is 0. Raises `NotFitting` if the quotient does\n"
-    "not fit.\n"
+    "Raises `DivisionByZero` if `d` is 0. Raises `NotFitting` if the quotient does not fit.\n"
     "\n"
     ">>> product_div_round_even(-5, 3, 6)\n"
     "-2\n"},

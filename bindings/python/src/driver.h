@@ -33,7 +33,7 @@ PyAPI_FUNC(void) PyBuffer_Release(Py_buffer *view);
 #define PyBUF_STRIDES (0x0010 | PyBUF_ND)
 #endif
 
-enum { MAX_PARAMETERS = 6, MAX_CELLS = 6, MAX_RESULTS = 4 };
+enum { MAX_PARAMETERS = 6, MAX_CELLS = 6, MAX_RESULTS = 4, MAX_PLACES = 18 };
 
 /* The number of a cell. */
 typedef union {
@@ -64,7 +64,7 @@ typedef struct {
 } call;
 
 /* What the package installs. */
-static PyObject *refusal, *out_of_range, *new_fraction, *new_array;
+static PyObject *refusal, *out_of_range, *new_fraction, *new_decimal, *new_array;
 static PyObject *class_dates, *class_date, *class_gcd, *class_solutions, *class_week, *class_weekday, *weekdays;
 static newfunc new_tuple;
 static PyObject *name_numerator, *name_denominator, *name_year, *name_month, *name_day, *name_value, *name_out;
@@ -112,6 +112,21 @@ static PyObject *fraction_of(cellarcove_fraction fraction) {
     }
     Py_XDECREF(num);
     Py_XDECREF(den);
+    return result;
+}
+
+/* The decimal number of its sign, its integer part, and its digits after the point, which are `places`. */
+static PyObject *decimal_of(cellarcove_decimal_answer r, uint32_t places) {
+    char digits[MAX_PLACES + 1];
+    for (uint32_t k = places; k-- > 0; r.part /= 10) {
+        digits[k] = (char)('0' + r.part % 10);
+    }
+    digits[places] = '\0';
+    PyObject *text = PyUnicode_FromFormat("%s%llu.%s", r.is_negative ? "-" : "", (unsigned long long)r.whole, digits), *result = NULL;
+    if (text != NULL) {
+        result = PyObject_CallFunctionObjArgs(new_decimal, text, NULL);
+        Py_DECREF(text);
+    }
     return result;
 }
 
@@ -1038,7 +1053,7 @@ static PyObject *install(PyObject *module, PyObject *from) {
         return NULL;
     }
     static PyObject *class_tuple;
-    if (keep(from, "refusal", &refusal) || keep(from, "out_of_range", &out_of_range) || keep(from, "Fraction", &new_fraction) ||
+    if (keep(from, "refusal", &refusal) || keep(from, "out_of_range", &out_of_range) || keep(from, "Fraction", &new_fraction) || keep(from, "Decimal", &new_decimal) ||
         keep(from, "Tuple", &class_tuple) || keep(from, "array", &new_array) || keep(from, "Date", &class_date) ||
         keep(from, "ExtendedGcd", &class_gcd) || keep(from, "Solutions", &class_solutions) || keep(from, "IsoWeek", &class_week) ||
         keep(from, "Weekday", &class_weekday) || keep(from, "weekdays", &weekdays)) {

@@ -17,10 +17,10 @@ import random
 import re
 import subprocess
 import sys
-import textwrap
 import threading
 import types
 import unittest
+from decimal import Decimal
 from fractions import Fraction
 
 import cellarcove
@@ -29,7 +29,7 @@ from cellarcove import Date, DivisionByZero, NotFitting, Refused, Status
 HERE = pathlib.Path(__file__).resolve().parent
 # A source distribution has the first of these pages.
 PAGES = [page for page in (HERE.parent / 'README.md', HERE.parents[1] / 'README.md', HERE.parents[2] / 'docs/COOKBOOK.md') if page.exists()]
-ROW_NAMES = {**vars(cellarcove), 'array': array.array, 'copy': copy, 'date': datetime.date, 'Fraction': Fraction,
+ROW_NAMES = {**vars(cellarcove), 'array': array.array, 'copy': copy, 'date': datetime.date, 'Fraction': Fraction, 'Decimal': Decimal,
              'SimpleNamespace': types.SimpleNamespace, 'addressof': ctypes.addressof, 'c_char': ctypes.c_char}
 random.seed(64)
 
@@ -181,97 +181,16 @@ class Threads(unittest.TestCase):
         self.assertEqual(failed, [])
 
 
-class Shutdown(unittest.TestCase):
-    """The end of a program, and a module that is imported again."""
+class Programs(unittest.TestCase):
+    """The end of a program, other interpreters, and a module that is imported again: the programs of programs.txt."""
 
-    def ends(self, code, said=''):
-        ran = subprocess.run([sys.executable, '-c', textwrap.dedent(code)], capture_output=True, text=True, timeout=120)
-        self.assertEqual(ran.returncode, 0, ran.stderr)
-        self.assertEqual([line for line in ran.stderr.splitlines() if not re.search(said or '$^', line)], [])
-
-    def test_running_thread(self):
-        """A thread that runs calls when the program ends."""
-        self.ends('''
-            import array, threading, time, cellarcove
-            numbers = array.array('Q', range(10**5))
-            def run():
-                while True:
-                    cellarcove.power_modulo(numbers, 2**60, 10**9 + 7)
-            threading.Thread(target=run, daemon=True).start()
-            time.sleep(0.2)
-        ''')
-
-    def test_late_calls(self):
-        """Calls at exit, and of an object that goes with the modules."""
-        self.ends('''
-            import atexit, cellarcove
-            def fails(call=cellarcove.lcm):
-                try:
-                    call(2**63, 3)
-                except OverflowError:
-                    pass
-            class Late:
-                def __del__(self, fails=fails, call=cellarcove.gcd):
-                    call(12, 18)
-                    fails()
-            atexit.register(fails)
-            cellarcove.late = late = Late()
-        ''')
-
-    def test_second_interpreter(self):
-        """Another interpreter of the process cannot import the package, and the first one goes on."""
-        self.ends('''
-            import cellarcove
-            try:
-                import _xxsubinterpreters as interpreters
-            except ImportError:
-                import _interpreters as interpreters
-            other = interpreters.create()
-            try:
-                failed = interpreters.run_string(other, 'import cellarcove')
-            except Exception as error:
-                failed = error
-            assert 'ImportError' in str(failed), failed
-            interpreters.destroy(other)
-            try:
-                cellarcove.lcm(2**63, 3)
-            except cellarcove.NotFitting:
-                assert cellarcove.easter(2024) == cellarcove.Date(2024, 3, 31)
-        ''')
-
-    def test_next_interpreter(self):
-        """So it is after the one that imported it has ended, though its memory may be used again."""
-        self.ends('''
-            try:
-                import _xxsubinterpreters as interpreters
-            except ImportError:
-                import _interpreters as interpreters
-            def imported():
-                other = interpreters.create()
-                try:
-                    return interpreters.run_string(other, 'import cellarcove; assert cellarcove.gcd(12, 18) == 6')
-                except Exception as error:
-                    return error
-                finally:
-                    interpreters.destroy(other)
-            if imported() is None: # from Python 3.12 on an interpreter with a lock of its own imports no such extension
-                failed = imported()
-                assert 'another interpreter of this process has imported cellarcove' in str(failed), failed
-        ''', said='mpd_setminalloc|^$') # the module decimal warns of a second interpreter
-
-    def test_import_again(self):
-        """The calls raise the errors of the package that was imported last."""
-        self.ends('''
-            import sys, cellarcove as before
-            del sys.modules['cellarcove'], sys.modules['cellarcove._calls']
-            import cellarcove as again
-            try:
-                again.lcm(2**63, 3)
-            except again.NotFitting:
-                assert again.easter(2024) == again.Date(2024, 3, 31)
-            date, now = before.Date(2024, 3, 31), again.Date(2024, 3, 31)
-            assert date + 1 == now + 1 and date - now == 0 and date.fromisoformat('2024-03-31') == now
-        ''')
+    def test_programs(self):
+        for program in (HERE / 'programs.txt').read_text().split('\n\n')[1:]:
+            said = re.search('^# may print: (.*)', program, re.M)
+            with self.subTest(program.splitlines()[0]):
+                ran = subprocess.run([sys.executable, '-c', program], capture_output=True, text=True, timeout=120)
+                self.assertEqual(ran.returncode, 0, ran.stderr)
+                self.assertEqual([line for line in ran.stderr.splitlines() if not (said and re.search(said[1], line))], [])
 
 
 class Names(unittest.TestCase):

@@ -98,6 +98,10 @@ zero_padded places n =
     let same : places - length (decimal n) - 0 - 0 ≡ places - length (decimal n) = omega arith in
     rw (append-nil, same) refl
 
+-- a year of four digits needs no sign
+pub short_text : (date : Date) (year : ℕ) → date.year ≡ pos year → year < 10000 → with_number (with_number (padded 4 year) date.month) date.day_of_month ≡ text_of date
+short_text date year is small = ap (λ (front : List ℕ). with_number (with_number front date.month) date.day_of_month) (sym (ap year_text is ∙ below year small))
+
 sign_padded : (negative : Bool) (n : ℕ) → padded_integral (format_spec 32 0 5 5 18446744073709551615) negative [] (decimal n) ≡ cond negative 45 43 ∷ padded 4 n
 unfolding padded_integral char_count
 sign_padded true n = let same : 5 - length (decimal n) - 1 - 0 ≡ 4 - length (decimal n) = omega arith in rw (append-nil, same) refl

@@ -1,5 +1,5 @@
 -- The weeks of ISO 8601.
-use Rattle.calendar.proofs.Common.{◌≡◌, ◌+◌, ◌/◌, ◌%◌, ◌<◌, ◌≤◌, ◌≤ℤ◌, ◌<ℤ◌, ◌+ℤ◌, ◌-ℤ◌, ◌*ℤ◌, ℕ, ℤ, pos, negsuc, FitsSigned, MatchOption, Option, Some, None, w64, ap, arith, inl, inr, refl, subst, sym, cases_lt, ints, floored_by_range, floored_remainder_range, linear, IsFloored, IsRemainder}
+use Rattle.calendar.proofs.Common.{◌≡◌, ◌+◌, ◌-◌, ◌/◌, ◌%◌, ◌<◌, ◌≤◌, ◌≤ℤ◌, ◌<ℤ◌, ◌+ℤ◌, ◌-ℤ◌, ◌*ℤ◌, ℕ, ℤ, pos, negsuc, FitsSigned, MatchOption, Option, Some, None, w64, ap, arith, inl, inr, refl, subst, sym, cases_lt, ints, floored_by_range, floored_remainder_range, linear, IsFloored, IsRemainder}
 use Rattle.std.proofs.Math.Logic.{∥∥₁_elim, ∥∥₁_prop}
 use Rattle.std.proofs.Props.{props}
 use mathlib.Core.HLevel.{is_prop→PathP}
@@ -12,6 +12,7 @@ use Rattle.calendar.specs.Weekday.{weekday_number}
 use Rattle.calendar.specs.Weeks.{HasWeekday}
 use Rattle.calendar.specs.declared.weekday.Weekday.{Weekday}
 use Rattle.calendar.specs.declared.weekday.Weekday.TheVariants.{Monday, Thursday}
+use Rattle.calendar.proofs.DateOrder.{year_day_range}
 use Rattle.calendar.proofs.WeekdayPlaces.{below_seven, days_earlier, days_later, on_weekday, same_day, weekday_within, weeks_apart}
 use Rattle.calendar.proofs.YearLengths.{later_year, length_range, next_first_day}
 
@@ -31,8 +32,17 @@ same_thursday h k =
     same_day Thursday h.has_weekday k.has_weekday (omega (arith, linear, h.to, k.from)) (omega (arith, linear, h.from, k.to))
 
 -- by the day of an era
-pub since_monday : {day : ℤ} (era : ℤ) (n : ℕ) → day ≡ pos 146097 *ℤ era +ℤ pos n -ℤ pos 865566 → IsRemainder IsFloored (day +ℤ pos 3) (pos 7) (pos ((n + 1) % 7))
+since_monday : {day : ℤ} (era : ℤ) (n : ℕ) → day ≡ pos 146097 *ℤ era +ℤ pos n -ℤ pos 865566 → IsRemainder IsFloored (day +ℤ pos 3) (pos 7) (pos ((n + 1) % 7))
 since_monday era n place = record { quotient = pos 20871 *ℤ era -ℤ pos 123652 +ℤ pos ((n + 1) / 7); division = floored_by_range (omega (arith, ints)) (omega (arith, ints)) (omega (arith, ints)) }
+
+-- the days from 1 January to the Thursday of the week, by the days of an era
+pub days_to_thursday : (date : Date) (era days : ℤ) (n january : ℕ) → number_of date ≡ pos 146097 *ℤ era +ℤ pos n -ℤ pos 865566 → first_day date.year ≡ pos 146097 *ℤ era +ℤ pos january -ℤ pos 865565
+    → days ≡ pos (n + 2 - (n + 1) % 7) -ℤ pos january → IsThursdayOfWeek (number_of date) (first_day date.year +ℤ days) × (pos 0 ≤ℤ (days +ℤ pos 6)) × (days <ℤ pos 372)
+days_to_thursday date era days n january place first is =
+    let (from, to) = year_day_range date.valid in
+    let length = length_range date.year in
+    let same : number_of date +ℤ pos 3 -ℤ pos ((n + 1) % 7) ≡ first_day date.year +ℤ days = omega (arith, ints, place, first, is) in
+    (rw same at (of_week {day = number_of date} (since_monday era n place)), omega (arith, ints, place, first, is, from), omega (arith, ints, place, first, is, to, length.1))
 
 pub to_thursday : {first : ℤ} (era : ℤ) (n : ℕ) → first ≡ pos 146097 *ℤ era +ℤ pos n -ℤ pos 865565 → IsRemainder IsFloored (pos 0 -ℤ first) (pos 7) (pos 6 -ℤ pos ((n + 5) % 7))
 to_thursday era n place = record { quotient = pos 123652 -ℤ pos 20871 *ℤ era -ℤ pos ((n + 5) / 7); division = floored_by_range (omega (arith, ints)) (omega (arith, ints)) (omega (arith, ints)) }

@@ -39,6 +39,28 @@ two_places n small = elim (cases_lt n 10) [
   | inr two ↦ rw (decimal_step n two (omega arith), decimal_digit (n / 10) (omega arith)) refl
 ]
 
+-- and of four
+four_bytes : {a b c d w x y z : ℕ} → a ≡ w → b ≡ x → c ≡ y → d ≡ z → a ∷ b ∷ c ∷ d ∷ [] ≡ w ∷ x ∷ y ∷ z ∷ []
+four_bytes first second third fourth = λ i. first i ∷ second i ∷ third i ∷ fourth i ∷ []
+
+pub four_places : (n : ℕ) → n < 10000 → padded 4 n ≡ (48 + n / 100 / 10) ∷ (48 + n / 100 % 10) ∷ (48 + n % 100 / 10) ∷ (48 + n % 100 % 10) ∷ []
+four_places n small = elim (cases_lt n 10) [
+  | inl one ↦ rw (decimal_digit n one) (four_bytes (omega arith) (omega arith) (omega arith) (omega arith))
+  | inr two ↦
+      elim (cases_lt n 100) [
+        | inl below ↦ rw (decimal_step n two (omega arith), decimal_digit (n / 10) (omega arith)) (four_bytes (omega arith) (omega arith) (omega arith) (omega arith))
+        | inr three ↦
+            elim (cases_lt n 1000) [
+              | inl below ↦
+                  rw (decimal_step n two (omega arith), decimal_step (n / 10) (omega arith) (omega arith), decimal_digit (n / 10 / 10) (omega arith))
+                  (four_bytes (omega arith) (omega arith) (omega arith) (omega arith))
+              | inr four ↦
+                  rw (decimal_step n two (omega arith), decimal_step (n / 10) (omega arith) (omega arith), decimal_step (n / 10 / 10) (omega arith) (omega arith), decimal_digit (n / 10 / 10 / 10) (omega arith))
+                  (four_bytes (omega arith) (omega arith) (omega arith) (omega arith))
+            ]
+      ]
+]
+
 -- ---- four places or more
 
 pub padded_shortest : (n : ℕ) → n < 2 ^ 64 → IsShortest (padded 4 n)

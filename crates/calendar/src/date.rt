@@ -16,9 +16,6 @@ use crate::years::{at_64_bits, nearby_year};
 /// The day of era 0 that is 1970-01-01, as [`Date::day_of_era`] counts days.
 const EPOCH_IN_ERA_0: i64 = 865566;
 
-/// The day of the era that begins in year -1400000 that is 1970-01-01.
-const EPOCH_IN_NEAR_ERA: i64 = 512205066;
-
 /// A date of the proleptic Gregorian calendar, in any year of `i64`. The year before year 1 is year 0.
 /// An earlier date is less than a later one.
 ///
@@ -108,7 +105,7 @@ impl Date {
         match near_year(self.year) {
             Some(year) => {
                 let day = days_to_month(year, self.month) + u32::from(self.day_of_month);
-                Some(i64::from(day) - EPOCH_IN_NEAR_ERA)
+                Some(i64::from(day) - EPOCH_IN_ERA_0)
             }
             None => self.far_day_number(),
         }

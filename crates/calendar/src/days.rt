@@ -10,7 +10,7 @@ ghost use Rattle.calendar.specs.Dates.{day_numbers, number_of};
 use crate::Date;
 use std::marker::Model;
 
-/// An iterator over the dates from one on, to the one before another. [`Date::days_until`] makes it.
+/// An iterator over the dates from a first one to the day before an end. [`Date::days_until`] makes it.
 /// `Date::from_day_number(0).days_until(Date::from_day_number(3)).count()` is `3`.
 #[derive(Drop)]
 pub struct Days {
@@ -27,8 +27,8 @@ impl Model for Days {
 }
 
 impl Date {
-    /// Returns an iterator over the dates from this one on, to the one before `end`. It is empty if `end` is
-    /// not later than this date. `Date::from_day_number(-1).days_until(Date::from_day_number(2)).last()` is
+    /// Returns an iterator over the dates from this one to the day before `end`. It is empty if `end` is not
+    /// later than this date. `Date::from_day_number(-1).days_until(Date::from_day_number(2)).last()` is
     /// `Some(Date::from_day_number(1))`.
     pub fn days_until(self, end: Self) -> Days
         ensures { result ≡ day_numbers (number_of self) (number_of end) }

@@ -1,5 +1,8 @@
 //! Eras of 400 years, after which the calendar repeats. An era has 146097 days. The years of this file
 //! begin on 1 March, so a leap day is the last day of its year.
+//!
+//! The formulas are those of C. Neri and L. Schneider, "Euclidean affine functions and their application to
+//! calendar algorithms" (2022), with a table for the days of the months.
 
 ghost use Rattle.std.specs.Prelude.{◌≡◌, ◌+◌, ◌<◌, ◌≤◌, ◌*◌, ◌^◌, ◌≤ℤ◌, ◌<ℤ◌, ◌+ℤ◌, ◌-ℤ◌, ◌*ℤ◌, ℤ, pos, unsigned_abs, FitsSigned, MatchOption};
 ghost use Rattle.std.specs.Int.{w64};
@@ -14,9 +17,6 @@ pub(crate) const YEARS_PER_ERA: i64 = 400;
 
 /// The days of an era.
 pub(crate) const DAYS_PER_ERA: i64 = 146097;
-
-/// The era that begins in year -1400000. The years from there to 1399999 are counted from it.
-const NEAR_ERA: i64 = -3500;
 
 /// The quarters of a day in a century, on average.
 const QUARTERS_PER_CENTURY: u32 = 146097;
@@ -36,18 +36,18 @@ const DAYS_TO_EPOCH: u32 = 135080;
 
 /// The days from a 1 March to the first of each month, from January of the next year on. No month has the
 /// number 0.
-const DAYS_FROM_MARCH_TO_MONTH: [u16; 13] =
-    [0, 306, 337, 0, 31, 61, 92, 122, 153, 184, 214, 245, 275];
+const DAYS_FROM_MARCH_TO_MONTH: [u16; 13] = [
+    0, 306, 337, 0, 31, 61, 92, 122, 153, 184, 214, 245, 275,
+];
 
-/// Returns how many years from year -1400000 on come before the year, or `None` if there are none, or if the
-/// year is after 1399999.
+/// Returns the year as a `u32`, or `None` if it is not from 0 to 2799999.
 #[inline]
 pub(crate) const fn near_year(year: i64) -> Option<u32>
-    ensures { MatchOption result (¬ ((pos 0 ≤ℤ (year +ℤ pos 1400000)) × (year <ℤ pos 1400000)))
-        (λ years. (pos years ≡ year +ℤ pos 1400000) × (years < 2800000)) }
+    ensures { MatchOption result (¬ ((pos 0 ≤ℤ year) × (year <ℤ pos 2800000)))
+        (λ years. (pos years ≡ year) × (years < 2800000)) }
 {
-    if -1400000 <= year && year < 1400000 {
-        Some((year + 1400000) as u32)
+    if 0 <= year && year < 2800000 {
+        Some(year as u32)
     } else {
         None
     }
@@ -60,7 +60,7 @@ pub(crate) const fn era_before_year(year: i64) -> (i64, u32)
     ensures below { result.1 < 2800000 }
 {
     match near_year(year) {
-        Some(years) => (NEAR_ERA, years),
+        Some(years) => (0, years),
         None => groups_and_rest(year, YEARS_PER_ERA),
     }
 }
@@ -131,7 +131,7 @@ const fn days_of_years(years: u32) -> u32
     ensures small { result < 1022900000 }
 {
     let centuries = years / 100;
-    QUARTERS_PER_YEAR * years / 4 - centuries + centuries / 4
+    QUARTERS_PER_YEAR * years / 4 - 3 * (centuries + 1) / 4
 }
 
 /// Returns the days from the last 1 March to the first of `month`.

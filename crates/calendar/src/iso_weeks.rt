@@ -122,25 +122,17 @@ pub fn weeks_in_year(year: i64) -> u8
 
 /// Returns the number of days from 1 January of the date's year to the Thursday of the date's week. The number
 /// is negative if that Thursday is in the year before.
-#[tactic(auto, using(crate::proofs::YearLengths::length_range))]
 #[inline]
 fn days_to_thursday_of_date(date: &Date) -> i64
     ensures of_week { IsThursdayOfWeek (number_of date.now) (first_day date.now.year +ℤ result) }
     ensures from { pos 0 ≤ℤ (result +ℤ pos 6) }
     ensures below { result <ℤ pos 372 }
 {
-    i64::from(date.day_of_year()) + 2 - days_since_monday(date)
-}
-
-/// Returns the number of days from the Monday of the date's week to the date.
-#[inline]
-fn days_since_monday(date: &Date) -> i64
-    ensures value { IsRemainder IsFloored (number_of date.now +ℤ pos 3) (pos 7) result }
-    ensures from { pos 0 ≤ℤ result }
-    ensures below { result <ℤ pos 7 }
-{
-    let (_, day) = date.day_of_era();
-    i64::from((day + 1) % 7)
+    // 1 March of the first year of an era is a Wednesday.
+    let (_, year_of_era) = era_before_year(date.year);
+    let day = days_to_month(year_of_era, date.month) + u32::from(date.day_of_month);
+    let thursday = day + 2 - (day + 1) % 7;
+    i64::from(thursday) - i64::from(days_to_month(year_of_era, 1))
 }
 
 /// Returns the number of days from 1 January to the Thursday of the week. The year may be too short to have

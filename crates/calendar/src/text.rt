@@ -11,8 +11,8 @@ ghost use Rattle.calendar.specs.declared.date.Date.{Date};
 use crate::{Date, IsoWeek};
 use integer_core::padded::Text;
 use std::error::Error;
-use std::fmt;
 use std::str::FromStr;
+use std::{fmt, str};
 
 /// The error that parsing returns for a string that is not a date. `"1900-02-29".parse::<Date>()` is `Err(DateError)`.
 #[derive(Debug, Clone, Copy, PartialEq, Eq, Hash)]
@@ -46,10 +46,48 @@ impl fmt::Display for Date {
 impl Text for Date {
     ghost text = { text_of };
 
+    #[tactic(auto, using(crate::proofs::DateTexts::small_parts))]
     fn write_to<W: fmt::Write>(&self, f: &mut W) -> fmt::Result {
+        if matches!(self.year, 0..=9999) {
+            let text = ten_bytes(self.year as u16, self.month, self.day_of_month);
+            return write_ascii(&text, f);
+        }
         write_year(self.year, f)?;
         write!(f, "-{:02}-{:02}", self.month, self.day_of_month)
     }
+}
+
+/// Returns the text of a date in a year of four digits.
+#[inline]
+fn ten_bytes(year: u16, month: u8, day_of_month: u8) -> [u8; 10]
+    requires year { year < 10000 }
+    requires month { month < 100 }
+    requires day { day_of_month < 100 }
+    ensures { result ≡ with_number (with_number (padded 4 year) month) day_of_month }
+{
+    let [thousands, hundreds] = two_digits((year / 100) as u8);
+    let [tens, ones] = two_digits((year % 100) as u8);
+    let [month_tens, month_ones] = two_digits(month);
+    let [day_tens, day_ones] = two_digits(day_of_month);
+    [
+        thousands, hundreds, tens, ones, b'-', month_tens, month_ones, b'-', day_tens, day_ones,
+    ]
+}
+
+/// Returns the two digits of a number below 100.
+#[inline]
+fn two_digits(number: u8) -> [u8; 2]
+    requires { number < 100 }
+    ensures { result ≡ padded 2 number }
+{
+    [b'0' + number / 10, b'0' + number % 10]
+}
+
+/// Writes a text in ASCII by one call.
+fn write_ascii<W: fmt::Write>(text: &[u8], f: &mut W) -> fmt::Result
+    ensures { OnOk result (WritesInCalls W.write_str_gives f.old text.now f.new) }
+{
+    f.write_str(str::from_utf8(text).map_err(|_| fmt::Error)?)
 }
 
 /// Prints the week in the format of ISO 8601. `IsoWeek::new(2004, 53).unwrap().to_string()` is
@@ -99,7 +137,7 @@ impl FromStr for Date {
     }
 }
 
-/// Returns the date that prints as the string, or `None` if there is none.
+/// Returns the date that prints as the string, or `None` if no date does.
 fn parse_date(text: &str) -> Option<Date>
     ensures { (date : Date) → FitsSigned w64 date.year → (result ≡ Some date) ↔ (text.now ≡ text_of date) }
 {
@@ -125,7 +163,7 @@ fn split_last_two_digits(text: &str) -> Option<(&str, u8)>
     Some((front, 10 * (*tens - b'0') + (*ones - b'0')))
 }
 
-/// Returns the year that prints as the string, or `None` if there is none.
+/// Returns the year that prints as the string, or `None` if no year does.
 fn parse_year(text: &str) -> Option<i64>
     ensures { (year : ℤ) → FitsSigned w64 year → (result ≡ Some year) ↔ (text.now ≡ year_text year) }
 {

@@ -456,7 +456,7 @@ pub fn sunday_on_or_before(day: i64) -> i64
     }
 }
 
-/// Returns the day of the week with this ISO number, or Monday if there is none.
+/// Returns the day of the week with this ISO number, or Monday if no day has it.
 pub fn weekday_or_monday(number: u8) -> Weekday
     ensures weekday { 1 ≤ number → number ≤ 7 → iso_number result ≡ number }
     ensures monday { ¬ ((1 ≤ number) × (number ≤ 7)) → result ≡ Weekday.Monday }
@@ -625,7 +625,7 @@ pub fn next_payday(today: &Date) -> Option<Date>
     today.next_last_weekday(Weekday::Friday)
 }
 
-/// Returns the last date that is not before `from` and is before `end`, or `None` if there is none.
+/// Returns the last date that is not before `from` and is before `end`, or `None` if no date is.
 pub fn last_date(from: Date, end: Date) -> Option<Date>
     ensures { MatchOption result (day_numbers (number_of from) (number_of end) ≡ [])
         (λ last. (others : List ℤ) × (day_numbers (number_of from) (number_of end) ≡ others ++ number_of last ∷ [])) }

@@ -11,6 +11,7 @@
 //! | `rows.rt` | rows of Pascal's triangle |
 //! | `residues.rt` | `modular`: residues, inverses, congruences |
 //! | `fractions.rt` | `ratio64`: exact results and errors, rounding |
+//! | `decimals.rt` | `ratio64`: fractions rounded half to even, and decimal numbers |
 //! | `dates.rt` | `calendar`: dates, days of the week, weeks, months |
 //! | `pages.rt` | `applied`: pages and parts, shares, offsets, schedules |
 //! | `combinations.rt` | `applied`: combinations and their ranks |
@@ -30,6 +31,7 @@
 pub mod amounts;
 pub mod combinations;
 pub mod dates;
+pub mod decimals;
 pub mod divisors;
 pub mod fractions;
 pub mod lists;

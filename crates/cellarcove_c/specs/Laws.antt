@@ -1,15 +1,24 @@
 -- The laws of what the calls for C say. Each is proved in proofs/Laws.antt, by a lemma of its name in small letters.
-use Rattle.std.specs.Prelude.{◌≡◌, ℕ, ℤ, pos, FitsSigned, IfSome, Option, Result}
+use Rattle.std.specs.Prelude.{◌≡◌, ◌<ℤ◌, ℕ, ℤ, Bool, List, pos, FitsSigned, IfSome, Option, Result}
 use Rattle.std.specs.Int.{w64}
 use Rattle.std.specs.declared.cmp.Ordering.{Ordering}
 use Rattle.calendar.specs.Months.{IsDate}
+use Rattle.calendar.specs.declared.date.Date.{Date}
+use Rattle.calendar.specs.declared.weekday.Weekday.{Weekday}
 use Rattle.ratio64.specs.declared.error.RatioError.{RatioError}
 use Rattle.ratio64.specs.declared.fraction.Ratio.{Ratio}
+use Rattle.ratio64.specs.declared.parse.ParseRatioError.{ParseRatioError}
 use Rattle.cellarcove_c.specs.Answers.{Answers}
 use Rattle.cellarcove_c.specs.Congruences.{AnswersModulo}
-use Rattle.cellarcove_c.specs.Dates.{IsMonthsLater, MatchMonthsBetween}
-use Rattle.cellarcove_c.specs.Fractions.{OnBoth, StandsFor, StandsForNumber, order_number}
+use Rattle.cellarcove_c.specs.Dates.{IsDayOfIsoNumber, IsMonthsLater, IsOfIsoNumber, MatchMonthsBetween, MatchYearsBetween}
+use Rattle.cellarcove_c.specs.DateTexts.{ReadsDate}
+use Rattle.cellarcove_c.specs.Decimals.{IsInDigits}
+use Rattle.cellarcove_c.specs.Fractions.{IsInParts, IsPower, OnBoth, StandsFor, StandsForNumber, order_number}
+use Rattle.cellarcove_c.specs.Paging.{IsFewestPages, IsPadding}
+use Rattle.cellarcove_c.specs.Roots.{IsRootWithRest}
 use Rattle.cellarcove_c.specs.Statuses.{IsReason}
+use Rattle.cellarcove_c.specs.Texts.{StandsForRead}
+use Rattle.cellarcove_c.specs.declared.dates.Date.{Date as Parts}
 
 -- ---- statuses
 
@@ -28,6 +37,20 @@ abbrev pub AnswersModuloIsOnly : {A : Type 0} → ℤ → ℕ → Type 0 → (A 
 AnswersModuloIsOnly {A} modulus reason without Is = (zeros : A) (s t : ℕ) (a b : A) → ((x y : A) → Is x → Is y → x ≡ y) → (without → (x : A) → ¬ (Is x))
     → AnswersModulo modulus reason without Is zeros s a → AnswersModulo modulus reason without Is zeros t b → (s ≡ t) × (a ≡ b)
 
+-- ---- numbers
+
+-- Each number of items has at most one fewest number of pages.
+abbrev pub FewestPagesIsOnly : Type 0
+FewestPagesIsOnly = (items page_size a b : ℤ) → IsFewestPages items page_size a → IsFewestPages items page_size b → a ≡ b
+
+-- Each offset has at most one padding for an alignment.
+abbrev pub PaddingIsOnly : Type 0
+PaddingIsOnly = (offset alignment a b : ℤ) → IsPadding offset alignment a → IsPadding offset alignment b → a ≡ b
+
+-- Each number has at most one square root with a rest.
+abbrev pub RootWithRestIsOnly : Type 0
+RootWithRestIsOnly = (x root other rest left : ℤ) → IsRootWithRest x root rest → IsRootWithRest x other left → (root ≡ other) × (rest ≡ left)
+
 -- ---- fractions
 
 -- Each result has at most one status and one pair of numbers.
@@ -43,6 +66,24 @@ StandsForNumberIsOnly Says = (answered : Result Ratio RatioError) (s t : ℕ) (a
 abbrev pub OnBothIsOnly : {A : Type 0} → (A → Ratio → Ratio → Type 0) → (A → RatioError → Type 0) → Type 0
 OnBothIsOnly {A} Says Refuses = (x y : Result Ratio RatioError) (a b : A) → ((p q : Ratio) → Says a p q → Says b p q → a ≡ b)
     → ((e : RatioError) → Refuses a e → Refuses b e → a ≡ b) → OnBoth x y (Says a) (Refuses a) → OnBoth x y (Says b) (Refuses b) → a ≡ b
+
+-- Each fraction has at most one power of a degree.
+abbrev pub PowerIsOnly : Type 0
+PowerIsOnly = (exponent : ℤ) (x : Ratio) (r s : Result Ratio RatioError) → IsPower exponent x r → IsPower exponent x s → r ≡ s
+
+-- If a rounding of each fraction is at most one number, each fraction has at most one result in parts.
+abbrev pub InPartsIsOnly : (ℤ → ℤ → ℤ → Type 0) → Type 0
+InPartsIsOnly IsRounded = (parts : ℤ) (x : Ratio) (r s : Result Ratio RatioError) → ((n d p q : ℤ) → pos 0 <ℤ d → IsRounded n d p → IsRounded n d q → p ≡ q)
+    → IsInParts IsRounded parts x r → IsInParts IsRounded parts x s → r ≡ s
+
+-- Each fraction has at most one sign, integer part and digits after the point.
+abbrev pub InDigitsIsOnly : Type 0
+InDigitsIsOnly = (n d : ℤ) (places : ℕ) (a b : Bool) (whole other part rest : ℕ) → pos 0 <ℤ d → IsInDigits n d places a whole part → IsInDigits n d places b other rest
+    → (a ≡ b) × (whole ≡ other) × (part ≡ rest)
+
+-- Each result of reading has at most one status and one pair of numbers.
+abbrev pub StandsForReadIsOnly : Type 0
+StandsForReadIsOnly = (read : Result Ratio ParseRatioError) (s t : ℕ) (a b c d : ℤ) → StandsForRead read s a b → StandsForRead read t c d → (s ≡ t) × (a ≡ c) × (b ≡ d)
 
 -- Each number is that of at most one order.
 abbrev pub OrderNumberIsOnly : Type 0
@@ -60,3 +101,23 @@ MonthsLaterIsOnly = (from_year months a_year b_year : ℤ) (from_month from_day 
 abbrev pub MonthsBetweenIsOnly : Type 0
 MonthsBetweenIsOnly = (year to_year : ℤ) (month day to_month to_day : ℕ) (a b : Option ℤ) → IfSome a (FitsSigned w64) → IfSome b (FitsSigned w64)
     → MatchMonthsBetween year month day to_year to_month to_day a → MatchMonthsBetween year month day to_year to_month to_day b → a ≡ b
+
+-- From each date to each other there is at most one number of years that fits, or none at all.
+abbrev pub YearsBetweenIsOnly : Type 0
+YearsBetweenIsOnly = (year to_year : ℤ) (month day to_month to_day : ℕ) (a b : Option ℤ) → IfSome a (FitsSigned w64) → IfSome b (FitsSigned w64)
+    → MatchYearsBetween year month day to_year to_month to_day a → MatchYearsBetween year month day to_year to_month to_day b → a ≡ b
+
+-- If each day of the week has at most one date with a property, each ISO number has at most one.
+abbrev pub OfIsoNumberIsOnly : (Weekday → Date → Type 0) → Type 0
+OfIsoNumberIsOnly Is = (weekday : ℕ) (year other : ℤ) (month day other_month other_day : ℕ) → ((w : Weekday) (a b : Date) → Is w a → Is w b → a ≡ b)
+    → IsOfIsoNumber weekday Is year month day → IsOfIsoNumber weekday Is other other_month other_day → (year ≡ other) × (month ≡ other_month) × (day ≡ other_day)
+
+-- If each day of the week has at most one day with a property, each ISO number has at most one.
+abbrev pub DayOfIsoNumberIsOnly : (Weekday → ℤ → Type 0) → Type 0
+DayOfIsoNumberIsOnly Is = (weekday : ℕ) (a b : ℤ) → ((w : Weekday) (x y : ℤ) → Is w x → Is w y → x ≡ y) → IsDayOfIsoNumber weekday Is a → IsDayOfIsoNumber weekday Is b → a ≡ b
+
+-- Each text is read as at most one date.
+abbrev pub ReadDateIsOnly : Type 0
+ReadDateIsOnly = (text : List ℕ) (s t : ℕ) (a b : Parts) → FitsSigned w64 a.year → FitsSigned w64 b.year
+    → ReadsDate text (record { status = s; date = a }) → ReadsDate text (record { status = t; date = b })
+    → (s ≡ t) × (a.year ≡ b.year) × (a.month ≡ b.month) × (a.day_of_month ≡ b.day_of_month)

@@ -5,6 +5,8 @@ pub mod Roots
 pub mod Paging
 pub mod Congruences
 pub mod Fractions
+pub mod Decimals
 pub mod Texts
 pub mod Dates
+pub mod DateTexts
 pub mod Laws

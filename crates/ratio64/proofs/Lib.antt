@@ -12,6 +12,7 @@ pub mod EqualFractions
 pub mod EqualQuotients
 pub mod FractionPowers
 pub mod SpelledDecimals
+pub mod RoundedProducts
 pub mod ReducedAnswers
 pub mod ReducedParts
 pub mod NearestNumbers

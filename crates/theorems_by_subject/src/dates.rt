@@ -225,7 +225,7 @@ pub fn weekday_of_date(date: &Date) -> Weekday
     date.weekday()
 }
 
-/// Returns the `n`-th such day of the week in the month, or `None` if there is none.
+/// Returns the `n`-th such day of the week in the month, or `None` if the month has fewer.
 pub fn nth_weekday(year: i64, month: u8, weekday: Weekday, n: u8) -> Option<Date>
     ensures { MatchOption result
         ((date : Date) → ¬ (IsNthWeekday year month weekday n date))

@@ -1,5 +1,6 @@
 //! Theorems beside the main ones, by subject. The contract of each function fixes its result, as those of the crate `theorems` do.
-//! Two of them write to a writer of the caller, and say nothing of when it fails: `printed` of `dates.rt` and of `fractions.rt`.
+//! Three of them write to a writer of the caller, and say nothing of when it fails: `printed` of `dates.rt` and of `fractions.rt`, and
+//! `printed_decimal` of `decimals.rt`.
 //!
 //! | file | what it states |
 //! |---|---|
@@ -7,6 +8,7 @@
 //! | `checked.rt` | calls of `num_integer::checked`, and when each returns `None` |
 //! | `residues.rt` | `modular`: residues, powers, inverses, congruences |
 //! | `fractions.rt` | `ratio64`: exact results and errors, order, text, rounding |
+//! | `decimals.rt` | `ratio64`: fractions rounded half to even, and decimal numbers |
 //! | `dates.rt` | `calendar`: dates and their days, weeks, months, Easter |
 //! | `rounding.rt` | `applied`: nearest quotients, roots with their remainder, logarithms, factorials, offsets |
 //! | `pages.rt` | `applied`: pages, schedules, shares |
@@ -19,6 +21,7 @@
 pub mod checked;
 pub mod combinations;
 pub mod dates;
+pub mod decimals;
 pub mod fractions;
 pub mod integers;
 pub mod lists;

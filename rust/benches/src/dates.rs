@@ -7,16 +7,33 @@ use chrono::{Datelike, Duration, Months, NaiveDate};
 use std::hint::black_box;
 use std::time::Instant;
 
-/// The least nanoseconds of a call over all inputs, of twelve passes.
-fn time<T, R>(inputs: &[T], call: impl Fn(&T) -> R) -> f64 {
-    let pass = || {
-        let start = Instant::now();
-        for input in inputs {
+/// The number of inputs of a pass.
+const INPUTS: usize = 4096;
+
+/// A call of each input.
+type Pass = Box<dyn Fn()>;
+
+/// A call, here and there.
+struct Row {
+    name: &'static str,
+    here: Pass,
+    there: Pass,
+}
+
+fn pass<T: Clone + 'static, R>(inputs: &[T], call: impl Fn(&T) -> R + 'static) -> Pass {
+    let inputs = inputs.to_vec();
+    Box::new(move || {
+        for input in &inputs {
             black_box(call(black_box(input)));
         }
-        start.elapsed().as_nanos() as f64 / inputs.len() as f64
-    };
-    (0..12).map(|_| pass()).fold(f64::INFINITY, f64::min)
+    })
+}
+
+/// The nanoseconds of a call.
+fn time(pass: &Pass) -> f64 {
+    let start = Instant::now();
+    pass();
+    start.elapsed().as_nanos() as f64 / INPUTS as f64
 }
 
 /// Random day numbers, by SplitMix64.
@@ -26,7 +43,7 @@ fn days() -> Vec<i64> {
         let z = (z ^ (z >> 30)).wrapping_mul(0xBF58476D1CE4E5B9);
         ((z ^ (z >> 27)) % 292194) as i64 - 135140
     };
-    (0..4096).map(number).collect()
+    (0..INPUTS as u64).map(number).collect()
 }
 
 /// Each item, with the one as far from the end.
@@ -38,17 +55,21 @@ fn pairs<T: Copy>(items: &[T]) -> Vec<(T, T)> {
         .collect()
 }
 
+fn row(name: &'static str, here: Pass, there: Pass) -> Row {
+    Row { name, here, there }
+}
+
 /// The date so many days later, one by one.
 fn counted<D>(first: D, days: usize, next: impl Fn(&D) -> Option<D>) -> D {
     (0..days).fold(first, |date, _| next(&date).expect("there is a next date"))
 }
 
-/// Prints each call, here and there, and the ratio.
-pub fn print_all() {
+/// The calls.
+fn rows() -> Vec<Row> {
     let days = days();
     let epoch = NaiveDate::from_ymd_opt(1970, 1, 1).expect("it is a date");
     let ce = epoch.num_days_from_ce();
-    let from_days = |day: &i64| NaiveDate::from_num_days_from_ce_opt(*day as i32 + ce);
+    let from_days = move |day: &i64| NaiveDate::from_num_days_from_ce_opt(*day as i32 + ce);
     let ours: Vec<Date> = days.iter().map(|day| Date::from_day_number(*day)).collect();
     let theirs: Vec<NaiveDate> = days.iter().filter_map(from_days).collect();
     let parts: Vec<_> = ours
@@ -62,79 +83,110 @@ pub fn print_all() {
         .eq(texts.iter().cloned()));
     let (our_pairs, their_pairs) = (pairs(&ours), pairs(&theirs));
 
-    print(
-        "Date::new",
-        time(&parts, |p| Date::new(p.0, p.1, p.2)),
-        time(&parts, |p| {
-            NaiveDate::from_ymd_opt(p.0 as i32, p.1.into(), p.2.into())
-        }),
-    );
-    print(
-        "from_day_number",
-        time(&days, |d| Date::from_day_number(*d)),
-        time(&days, from_days),
-    );
-    print(
-        "day_number",
-        time(&ours, Date::day_number),
-        time(&theirs, NaiveDate::num_days_from_ce),
-    );
-    print(
-        "next",
-        time(&ours, Date::next),
-        time(&theirs, NaiveDate::succ_opt),
-    );
-    print(
-        "next, 2000 times",
-        time(&[2000], |n| {
-            counted(Date::from_day_number(0), *n, Date::next)
-        }) / 2000.0,
-        time(&[2000], |n| counted(epoch, *n, NaiveDate::succ_opt)) / 2000.0,
-    );
-    print(
-        "weekday",
-        time(&ours, Date::weekday),
-        time(&theirs, NaiveDate::weekday),
-    );
-    print(
-        "iso_week",
-        time(&ours, Date::iso_week),
-        time(&theirs, |d| (d.iso_week().year(), d.iso_week().week())),
-    );
-    print(
-        "from_iso_week",
-        time(&parts, |p| {
-            Date::from_iso_week(p.0, 1 + p.2, Weekday::Monday)
-        }),
-        time(&parts, |p| {
-            NaiveDate::from_isoywd_opt(p.0 as i32, u32::from(p.2) + 1, chrono::Weekday::Mon)
-        }),
-    );
-    print(
-        "plus_days",
-        time(&ours, |d| d.plus_days(1000)),
-        time(&theirs, |d| d.checked_add_signed(Duration::days(1000))),
-    );
-    print(
-        "plus_months",
-        time(&ours, |d| d.plus_months(7)),
-        time(&theirs, |d| d.checked_add_months(Months::new(7))),
-    );
-    print(
-        "days_between",
-        time(&our_pairs, |(a, b)| days_between(a, b)),
-        time(&their_pairs, |(a, b)| {
-            b.signed_duration_since(*a).num_days()
-        }),
-    );
-    print(
-        "to_string of a date",
-        time(&ours, Date::to_string),
-        time(&theirs, NaiveDate::to_string),
-    );
-    print(
-        "parse of a date",
-        time(&texts, |text| text.parse::<Date>()),
-        time(&texts, |text| text.parse::<NaiveDate>()),
-    );
+    vec![
+        row(
+            "Date::new",
+            pass(&parts, |p| Date::new(p.0, p.1, p.2)),
+            pass(&parts, |p| {
+                NaiveDate::from_ymd_opt(p.0 as i32, p.1.into(), p.2.into())
+            }),
+        ),
+        row(
+            "from_day_number",
+            pass(&days, |d| Date::from_day_number(*d)),
+            pass(&days, from_days),
+        ),
+        row(
+            "day_number",
+            pass(&ours, Date::day_number),
+            pass(&theirs, NaiveDate::num_days_from_ce),
+        ),
+        row(
+            "next",
+            pass(&ours, Date::next),
+            pass(&theirs, NaiveDate::succ_opt),
+        ),
+        row(
+            "next, one after the other",
+            pass(&[INPUTS], |n| {
+                counted(Date::from_day_number(0), *n, Date::next)
+            }),
+            pass(&[INPUTS], move |n| counted(epoch, *n, NaiveDate::succ_opt)),
+        ),
+        row(
+            "day_of_year",
+            pass(&ours, Date::day_of_year),
+            pass(&theirs, NaiveDate::ordinal),
+        ),
+        row(
+            "weekday",
+            pass(&ours, Date::weekday),
+            pass(&theirs, NaiveDate::weekday),
+        ),
+        row(
+            "iso_week",
+            pass(&ours, Date::iso_week),
+            pass(&theirs, |d| (d.iso_week().year(), d.iso_week().week())),
+        ),
+        row(
+            "from_iso_week",
+            pass(&parts, |p| {
+                Date::from_iso_week(p.0, 1 + p.2, Weekday::Monday)
+            }),
+            pass(&parts, |p| {
+                NaiveDate::from_isoywd_opt(p.0 as i32, u32::from(p.2) + 1, chrono::Weekday::Mon)
+            }),
+        ),
+        row(
+            "plus_days",
+            pass(&ours, |d| d.plus_days(1000)),
+            pass(&theirs, |d| d.checked_add_signed(Duration::days(1000))),
+        ),
+        row(
+            "plus_months",
+            pass(&ours, |d| d.plus_months(7)),
+            pass(&theirs, |d| d.checked_add_months(Months::new(7))),
+        ),
+        row(
+            "days_between",
+            pass(&our_pairs, |(a, b)| days_between(a, b)),
+            pass(&their_pairs, |(a, b)| {
+                b.signed_duration_since(*a).num_days()
+            }),
+        ),
+        row(
+            "to_string of a date",
+            pass(&ours, Date::to_string),
+            pass(&theirs, NaiveDate::to_string),
+        ),
+        row(
+            "parse of a date",
+            pass(&texts, |text| text.parse::<Date>()),
+            pass(&texts, |text| text.parse::<NaiveDate>()),
+        ),
+    ]
+}
+
+/// Prints the least nanoseconds of each call, here and there, and the ratio. In each of the 300 rounds each pass runs once, so
+/// that other load on the machine hardly changes the least.
+pub fn print_all() {
+    let rows = rows();
+    let mut least = vec![(f64::INFINITY, f64::INFINITY); rows.len()];
+    for _ in 0..300 {
+        for (row, (here, there)) in rows.iter().zip(&mut least) {
+            *here = here.min(time(&row.here));
+            *there = there.min(time(&row.there));
+        }
+    }
+    for (row, (here, there)) in rows.iter().zip(least) {
+        print(row.name, here, there);
+    }
+}
+
+/// Runs the passes of one call a number of times, `here` or not, for a tool that counts instructions.
+pub fn run(name: &str, here: bool, passes: usize) {
+    for row in rows().iter().filter(|row| row.name == name) {
+        let pass = if here { &row.here } else { &row.there };
+        (0..passes).for_each(|_| pass());
+    }
 }

@@ -1,5 +1,8 @@
 //! Prints the nanoseconds of a call of the crate, of the same call of `num-integer` or `chrono` or in plain `i128`, and the ratio of
 //! the two. Run it by hand, on a quiet machine: `cargo run --release`.
+//!
+//! With the name of a call of dates, `here` or `there`, and a number of passes, it only runs those passes. So
+//! `valgrind --tool=callgrind target/release/benches day_number here 2` counts 4096 times the instructions of a call more than with 1.
 
 mod dates;
 
@@ -109,6 +112,11 @@ macro_rules! calls {
 }
 
 fn main() {
+    let words: Vec<String> = std::env::args().skip(1).collect();
+    if let [name, side, passes] = &words[..] {
+        let passes = passes.parse().expect("the passes are a number");
+        return dates::run(name, side == "here", passes);
+    }
     println!("{:<28} {:>8} {:>8} {:>6}", "call", "here", "there", "ratio");
     calls! {
         "div_rem" 62 |it, a, b| it::div_rem(a, b);

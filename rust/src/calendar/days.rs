@@ -6,7 +6,7 @@ use crate::calendar::Date;
 use crate::integer_core::guards::some;
 use core::iter::FusedIterator;
 
-/// An iterator over the dates from one on, to the one before another. [`Date::days_until`] makes
+/// An iterator over the dates from a first one to the day before an end. [`Date::days_until`] makes
 /// it.
 ///
 /// # Examples
@@ -23,7 +23,7 @@ pub struct Days {
 }
 
 impl Date {
-    /// Returns an iterator over the dates from this one on, to the one before `end`. It is empty if
+    /// Returns an iterator over the dates from this one to the day before `end`. It is empty if
     /// `end` is not later than this date.
     ///
     /// # Examples

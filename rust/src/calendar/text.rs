@@ -4,8 +4,8 @@
 use crate::calendar::{Date, IsoWeek};
 use crate::errors::Error;
 use crate::integer_core::padded::Text;
-use core::fmt;
 use core::str::FromStr;
+use core::{fmt, str};
 
 /// The error that parsing returns for a string that is not a date.
 ///
@@ -48,9 +48,36 @@ impl fmt::Display for Date {
 
 impl Text for Date {
     fn write_to<W: fmt::Write>(&self, f: &mut W) -> fmt::Result {
+        if matches!(self.year, 0..=9999) {
+            let text = ten_bytes(self.year as u16, self.month, self.day_of_month);
+            return write_ascii(&text, f);
+        }
         write_year(self.year, f)?;
         write!(f, "-{:02}-{:02}", self.month, self.day_of_month)
     }
+}
+
+/// Returns the text of a date in a year of four digits.
+#[inline]
+fn ten_bytes(year: u16, month: u8, day_of_month: u8) -> [u8; 10] {
+    let [thousands, hundreds] = two_digits((year / 100) as u8);
+    let [tens, ones] = two_digits((year % 100) as u8);
+    let [month_tens, month_ones] = two_digits(month);
+    let [day_tens, day_ones] = two_digits(day_of_month);
+    [
+        thousands, hundreds, tens, ones, b'-', month_tens, month_ones, b'-', day_tens, day_ones,
+    ]
+}
+
+/// Returns the two digits of a number below 100.
+#[inline]
+fn two_digits(number: u8) -> [u8; 2] {
+    [b'0' + number / 10, b'0' + number % 10]
+}
+
+/// Writes a text in ASCII by one call.
+fn write_ascii<W: fmt::Write>(text: &[u8], f: &mut W) -> fmt::Result {
+    f.write_str(str::from_utf8(text).map_err(|_| fmt::Error)?)
 }
 
 /// Prints the week in the format of ISO 8601.
@@ -109,7 +136,7 @@ impl FromStr for Date {
     }
 }
 
-/// Returns the date that prints as the string, or `None` if there is none.
+/// Returns the date that prints as the string, or `None` if no date does.
 fn parse_date(text: &str) -> Option<Date> {
     let (front, day) = split_last_two_digits(text)?;
     let (year, month) = split_last_two_digits(front)?;
@@ -130,7 +157,7 @@ fn split_last_two_digits(text: &str) -> Option<(&str, u8)> {
     Some((front, 10 * (*tens - b'0') + (*ones - b'0')))
 }
 
-/// Returns the year that prints as the string, or `None` if there is none.
+/// Returns the year that prints as the string, or `None` if no year does.
 fn parse_year(text: &str) -> Option<i64> {
     if let Some(digits) = text.strip_prefix('-') {
         Some(-1 - (parse_number(digits, 1, 1 << 63)? - 1) as i64)

@@ -128,6 +128,16 @@ struct week_of_year {
     friend constexpr bool operator==(const week_of_year &a, const week_of_year &b) { return a.week == b.week && a.year == b.year; }
 };
 
+/// A decimal number: its sign, its integer part, and the number that its digits after the point write, which are `places`.
+struct decimal {
+    bool is_negative;
+    std::uint64_t whole, part;
+    std::uint32_t places;
+    friend constexpr bool operator==(const decimal &a, const decimal &b) {
+        return a.is_negative == b.is_negative && a.whole == b.whole && a.part == b.part && a.places == b.places;
+    }
+};
+
 namespace detail {
 
 template <class T, class... Others> constexpr bool is_one_of = (std::is_same_v<T, Others> || ...);
@@ -186,7 +196,7 @@ template <class... T> constexpr status error_of(const checked<T> &...numbers) {
     return found;
 }
 
-/// The text of a fraction, a date or a week. Of the settings of a stream only the width and the fill change it.
+/// The text of a fraction, a decimal number, a date or a week. Of the settings of a stream only the width and the fill change it.
 class line {
   public:
     void add(char part) { *end_++ = part; }
@@ -300,6 +310,19 @@ inline std::ostream &operator<<(std::ostream &out, const fraction &a) {
     if (a.den() != 1) {
         line.add('/');
         line.add(detail::line::magnitude(a.den()), 1);
+    }
+    return out << line;
+}
+
+inline std::ostream &operator<<(std::ostream &out, const decimal &a) {
+    detail::line line;
+    if (a.is_negative) {
+        line.add('-');
+    }
+    line.add(a.whole, 1);
+    if (a.places > 0) {
+        line.add('.');
+        line.add(a.part, static_cast<std::ptrdiff_t>(a.places));
     }
     return out << line;
 }

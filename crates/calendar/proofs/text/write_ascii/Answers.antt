@@ -1,0 +1,14 @@
+use Rattle.std.specs.Prelude.{◌≡◌, ℕ, List, [], ◌∷◌, Result, Ok, Err, IsOk, OnOk}
+use Rattle.std.specs.Fmt.{WritesInCalls}
+use Rattle.calendar.proofs.Common.{append-nil, refl, rules}
+use Rattle.calendar.proofs.text.write_ascii.Goals as goal
+
+-- one call
+one_call : {W A E : Type 0} (took : W → List ℕ → W → Type 0) (r : Result A E) (w : W) (text : List ℕ) (v : W) → (IsOk r → took w text v) → OnOk r (WritesInCalls took w text v)
+one_call took (Ok x) w text v wrote = record { parts = text ∷ []; calls = (v, wrote refl, refl); whole = append-nil text }
+one_call took (Err e) w text v wrote = search rules
+
+pub returns : goal.returns
+returns g c =
+    let same : c.in_ok-map_err.field-0.now ≡ c.args.text.now = search rules in
+    one_call g.W.Write.write_str_gives c.write_str.result c.args.f.now c.args.text.now c.write_str.new.self (rw same at c.write_str.ensures.ok)

@@ -1,0 +1,63 @@
+//! Functions that round fractions half to even, also to decimal numbers.
+
+ghost use Rattle.std.specs.Prelude.{◌≡◌, ◌≤◌, ◌^◌, ◌*ℤ◌, FitsSigned, MatchOption, pos};
+ghost use Rattle.std.specs.Int.{w64};
+ghost use Rattle.num_integer.specs.Checked.{AnswersWhere};
+ghost use Rattle.num_integer.specs.Range.{EachFits};
+ghost use Rattle.ratio64.specs.Decimal.{IsDecimalOf};
+ghost use Rattle.ratio64.specs.Ratio.{den_of, num_of};
+ghost use Rattle.ratio64.specs.Rounding.{AnswersInParts, IsRoundedEven};
+
+use ratio64::{Decimal, Ratio, RatioError};
+
+/// Returns the price in whole units.
+pub fn whole_price(price: &Ratio) -> i64
+    ensures { IsRoundedEven (num_of price.now) (den_of price.now) result }
+{
+    price.round_even()
+}
+
+/// Returns the fraction in hundredths, or `None` if their number does not fit.
+pub fn hundredths(x: &Ratio) -> Option<i64>
+    ensures { MatchOption result
+        (¬ (EachFits (FitsSigned w64) (IsRoundedEven (num_of x.now *ℤ pos 100) (den_of x.now))))
+        (IsRoundedEven (num_of x.now *ℤ pos 100) (den_of x.now)) }
+{
+    x.round_even_times(100)
+}
+
+/// Returns the price of an amount of units, of which each has this price, or `None` if it does not fit.
+pub fn price_of_units(unit_price: &Ratio, units: i64) -> Option<i64>
+    ensures { AnswersWhere
+        (EachFits (FitsSigned w64) (IsRoundedEven (num_of unit_price.now *ℤ units) (den_of unit_price.now)))
+        (IsRoundedEven (num_of unit_price.now *ℤ units) (den_of unit_price.now)) result }
+{
+    let price = unit_price.round_even_times(units)?;
+    Some(price)
+}
+
+/// Returns the price in whole cents, or an error if its parts do not fit.
+pub fn nearest_cents(price: &Ratio) -> Result<Ratio, RatioError>
+    ensures { AnswersInParts (IsRoundedEven (num_of price.now *ℤ pos 100) (den_of price.now)) (pos 100) result }
+{
+    price.round_even_to(100)
+}
+
+/// Returns the units and the places of a fraction with so many places, or `None` if these are more than 18.
+pub fn units_and_places(x: &Ratio, places: u32) -> Option<(i128, u32)>
+    ensures { AnswersWhere (places ≤ 18)
+        (λ p. IsRoundedEven (num_of x.now *ℤ pos (10 ^ places)) (den_of x.now) p.0 × (p.1 ≡ places)) result }
+{
+    let decimal = x.to_decimal(places)?;
+    Some((decimal.units(), decimal.places()))
+}
+
+/// Returns an amount of money, which has two places.
+pub fn amount(x: &Ratio) -> Decimal
+    ensures { IsDecimalOf (num_of x.now) (den_of x.now) 2 result }
+{
+    match x.to_decimal(2) {
+        Some(amount) => amount,
+        None => unreachable!("2 places are at most 18"),
+    }
+}

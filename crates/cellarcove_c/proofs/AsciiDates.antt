@@ -1,0 +1,51 @@
+-- The text of a date is ASCII.
+use Rattle.std.specs.Prelude.{◌<◌, ◌-◌, ◌^◌, ◌++◌, ℕ, ℤ, zero, suc, pos, negsuc, List, [], ◌∷◌, length, nat_lt, replicate, FitsSigned}
+use Rattle.std.specs.Fmt.{decimal}
+use Rattle.std.specs.Int.{w64}
+use Rattle.std.specs.Str.{IsAscii, IsUtf8}
+use Rattle.std.proofs.Common.{arith, inl, inr}
+use Rattle.std.proofs.lemmas.Bool.{cases_Bool}
+use Rattle.std.proofs.lemmas.Fmt.{IsAscii-decimal}
+use Rattle.std.proofs.lemmas.Int.{ints}
+use Rattle.std.proofs.lemmas.Str.{IsAscii-append, IsUtf8-from_ascii}
+use Rattle.std.proofs.lemmas.Str.Ascii.{IsAscii-cons, IsAscii-nil}
+use Rattle.calendar.proofs.ForCallers.{month_length_range}
+use Rattle.calendar.specs.Text.{padded, text_of, with_number, year_text}
+use Rattle.calendar.specs.declared.date.Date.{Date}
+
+zeros_ascii : (k : ℕ) → IsAscii (replicate k 48)
+zeros_ascii zero = IsAscii-nil
+zeros_ascii (suc k) = IsAscii-cons 48 (replicate k 48) (omega arith) (zeros_ascii k)
+
+padded_ascii : (places n : ℕ) → n < 2 ^ 64 → IsAscii (padded places n)
+padded_ascii places n small =
+    let missing = places - length (decimal n) in
+    IsAscii-append (replicate missing 48) (decimal n) (zeros_ascii missing) (IsAscii-decimal n small)
+
+year_ascii : (year : ℤ) → FitsSigned w64 year → IsAscii (year_text year)
+unfolding year_text
+year_ascii (pos n) fits =
+    let low = fits.sfits in
+    let digits = padded_ascii 4 n (omega (arith, ints)) in
+    elim (cases_Bool (nat_lt 9999 n)) [
+      | inl more ↦ rw more (IsAscii-cons 43 (padded 4 n) (omega arith) digits)
+      | inr few ↦ rw few digits
+    ]
+year_ascii (negsuc n) fits =
+    let low = fits.sfits in
+    IsAscii-cons 45 (padded 4 (suc n)) (omega arith) (padded_ascii 4 (suc n) (omega (arith, ints)))
+
+with_ascii : (front : List ℕ) (n : ℕ) → n < 2 ^ 64 → IsAscii front → IsAscii (with_number front n)
+with_ascii front n small h =
+    let hyphen = IsAscii-append front (45 ∷ []) h (IsAscii-cons 45 [] (omega arith) IsAscii-nil) in
+    IsAscii-append (front ++ 45 ∷ []) (padded 2 n) hyphen (padded_ascii 2 n small)
+
+pub date_is_utf8 : (date : Date) → FitsSigned w64 date.year → IsUtf8 (text_of date)
+date_is_utf8 date fits =
+    let valid = date.valid in
+    let to_twelve = valid.month_to_twelve in
+    let to_last = valid.day_to_last in
+    let most = month_length_range date.year date.month valid.month_from_one to_twelve in
+    let year = year_ascii date.year fits in
+    let month = with_ascii (year_text date.year) date.month (omega arith) year in
+    IsUtf8-from_ascii (text_of date) (with_ascii (with_number (year_text date.year) date.month) date.day_of_month (omega (arith, most)) month)

@@ -1,0 +1,37 @@
+-- The digits of decimal numbers.
+use Rattle.std.specs.Prelude.{◌≡◌, ◌↔◌, ◌<◌, ◌≤◌, ◌*◌, ◌/◌, ◌%◌, ◌^◌, ◌<ℤ◌, ◌*ℤ◌, ℕ, ℤ, Bool, pos, unsigned_abs, FitsSigned, IsTrue}
+use Rattle.std.specs.Int.{w64}
+use Rattle.std.proofs.Common.{Fits, arith, div-lt_iff_lt-mul, mul-le-mul_right}
+use Rattle.std.proofs.lemmas.Int.{unsigned_abs-mul}
+use Rattle.std.proofs.Math.Nat.{div-add-mod, mod-lt}
+use Rattle.ratio64.proofs.DecimalTexts.{ten_grows, ten_up}
+use Rattle.ratio64.proofs.NearestNumbers.{quotient_size, rounded_even_division}
+use Rattle.ratio64.proofs.WideSums.{part_size}
+use Rattle.ratio64.specs.Rounding.{IsRoundedEven}
+use Rattle.cellarcove_c.specs.Decimals.{HasDigits}
+
+-- the integer part is at most the magnitude of the numerator
+pub whole_below : {num d units : ℤ} (places : ℕ) → FitsSigned w64 num → pos 0 <ℤ d → IsRoundedEven (num *ℤ pos (10 ^ places)) d units → unsigned_abs units / 10 ^ places < 2 ^ 64
+whole_below {num} {d} {units} places fits up h =
+    let some = ten_up places in
+    let size = quotient_size up (rounded_even_division up h) in
+    let product : unsigned_abs (num *ℤ pos (10 ^ places)) ≡ unsigned_abs num * 10 ^ places = unsigned_abs-mul num (pos (10 ^ places)) in
+    let most = mul-le-mul_right (10 ^ places) (part_size num fits) in
+    (div-lt_iff_lt-mul some).1 (omega (arith, size, product, most, some))
+
+-- a number is its quotient and its remainder by a power of ten
+digits_of : {units : ℤ} {negative : Bool} (places : ℕ) → IsTrue negative ↔ (units <ℤ pos 0) → HasDigits units places negative (unsigned_abs units / 10 ^ places) (unsigned_abs units % 10 ^ places)
+digits_of {units} places sign =
+    let some = ten_up places in
+    record { sign = sign; size = omega (arith, div-add-mod (unsigned_abs units) (10 ^ places)); below = mod-lt (unsigned_abs units) some }
+
+pub digits_made : {units : ℤ} {negative : Bool} {p places whole part : ℕ} → p ≡ places → IsTrue negative ↔ (units <ℤ pos 0) → whole ≡ unsigned_abs units / 10 ^ p → part ≡ unsigned_abs units % 10 ^ p
+    → HasDigits units places negative whole part
+digits_made {places = places} same sign whole part = rw (rw same at whole, rw same at part) (digits_of places sign)
+
+-- the digits after the point fit
+pub part_fits : (n places : ℕ) → places ≤ 18 → Fits w64 (n % 10 ^ places)
+part_fits n places few =
+    let small = mod-lt n (ten_up places) in
+    let most = ten_grows places 18 few in
+    record { fits = omega (arith, small, most) }

@@ -1,0 +1,26 @@
+use Rattle.std.specs.Prelude.{FitsSigned, IfOk, Result}
+use Rattle.std.specs.Int.{w64}
+use Rattle.std.proofs.Common.{arith, refl, rules, subst}
+use Rattle.calendar.specs.declared.date.Date.{Date}
+use Rattle.calendar.specs.declared.text.DateError.{DateError}
+use Rattle.cellarcove_c.proofs.date_texts.date_of.Goals as goal
+
+pub returns-in-Ok : goal.returns-in-Ok
+returns-in-Ok c =
+    let date = c.in-Ok.date in
+    let fits : FitsSigned w64 date.year = search rules in
+    let text = (c.in-Ok.ensures.value date fits).0 refl in
+    let made = c.some.ensures in
+    let answered = made.status in
+    record {
+      found = λ _. record { date = date; has_parts = made.parts; text_is = text };
+      none = (λ same. absurd (omega (arith, same, answered)), λ no. absurd (no date fits text));
+      refusal = λ other. absurd (other answered);
+    }
+
+pub returns-in-Err : goal.returns-in-Err
+returns-in-Err c = rw c.none.ensures (record {
+  found = λ same. absurd (omega (arith, same));
+  none = (λ _ date fits same. absurd (subst (λ (r : Result Date DateError). IfOk r (λ _. ⊥)) ((c.in-Err.ensures.value date fits).1 same) tt), λ _. refl);
+  refusal = λ _. (refl, refl);
+})

@@ -1,0 +1,8 @@
+use Rattle.std.specs.Int.{w64}
+use Rattle.std.proofs.lemmas.Int.{to_z-of_z}
+use Rattle.cellarcove_c.proofs.decimals.cellarcove_fraction_round_even_times.Goals as goal
+
+pub returns-in-Ok : goal.returns-in-Ok
+returns-in-Ok c =
+    let own = rw (to_z-of_z w64 c.args.n c.ranges.n) at c.round_even_times.ensures in
+    (c.reduced.result, c.reduced.ensures, rw c.in-Ok.is (record { answer = rw c.of.ensures.answer own; refusal = c.of.ensures.refusal }))

@@ -1,0 +1,76 @@
+//! What is proved of the decimal numbers of `ratio64`.
+
+ghost use Rattle.std.specs.Prelude.{◌≢◌, ◌≤◌, ◌^◌, ◌<ℤ◌, ◌-ℤ◌, ◌*ℤ◌, Err, FitsSigned, IfSome, pos, unsigned_abs, ℤ};
+ghost use Rattle.std.specs.Fmt.{WritesOnOk};
+ghost use Rattle.std.specs.Int.{w64};
+ghost use Rattle.num_integer.specs.Checked.{AnswersWhere};
+ghost use Rattle.num_integer.specs.Only.{IsOnly};
+ghost use Rattle.num_integer.specs.Range.{EachFits};
+ghost use Rattle.ratio64.specs.Decimal.{IsDecimalOf, SpellsDecimal, decimal_text, places_of, units_of};
+ghost use Rattle.ratio64.specs.Ratio.{den_of, num_of};
+ghost use Rattle.ratio64.specs.Rounding.{AnswersInParts, IsRoundedEven};
+
+use ratio64::{Decimal, Ratio, RatioError};
+use std::fmt;
+
+/// Returns the integer nearest to the fraction, and of two that are equally near the even one. It is unique.
+pub fn even_integer(x: &Ratio) -> i64
+    ensures rounded { IsRoundedEven (num_of x.now) (den_of x.now) result }
+    ensures only { IsOnly (IsRoundedEven (num_of x.now) (den_of x.now)) result }
+{
+    x.round_even()
+}
+
+/// Returns the integer nearest to the fraction times `n`, and of two that are equally near the even one, or `None` if
+/// that integer does not fit.
+pub fn rounded_even_product(x: &Ratio, n: i64) -> Option<i64>
+    ensures { AnswersWhere
+        (EachFits (FitsSigned w64) (IsRoundedEven (num_of x.now *ℤ n) (den_of x.now)))
+        (IsRoundedEven (num_of x.now *ℤ n) (den_of x.now)) result }
+{
+    x.round_even_times(n)
+}
+
+/// Returns the nearest multiple of `1 / parts`, and of two that are equally near the one that is an even number of
+/// parts, or `NotFitting` if a part of it does not fit.
+pub fn rounded_even_in_parts(x: &Ratio, parts: i64) -> Result<Ratio, RatioError>
+    requires { pos 0 <ℤ parts }
+    ensures rounded { AnswersInParts (IsRoundedEven (num_of x.now *ℤ parts) (den_of x.now)) parts result }
+    ensures never_zero { result ≢ Err RatioError.ZeroDenominator }
+{
+    x.round_even_to(parts)
+}
+
+/// Returns the units of the nearest decimal number with so many places, or `None` if there are more than 18. No multiple
+/// of 10^-places is nearer, and of those that are equally near only this one is even.
+pub fn nearest_units(x: &Ratio, places: u32) -> Option<i128>
+    ensures rounded { AnswersWhere (places ≤ 18)
+        (IsRoundedEven (num_of x.now *ℤ pos (10 ^ places)) (den_of x.now)) result }
+    ensures only { IfSome result (λ units.
+        IsOnly (IsRoundedEven (num_of x.now *ℤ pos (10 ^ places)) (den_of x.now)) units) }
+    ensures nearest { IfSome result (λ units. (other : ℤ)
+        → unsigned_abs (num_of x.now *ℤ pos (10 ^ places) -ℤ units *ℤ den_of x.now)
+        ≤ unsigned_abs (num_of x.now *ℤ pos (10 ^ places) -ℤ other *ℤ den_of x.now)) }
+{
+    let decimal = x.to_decimal(places)?;
+    Some(decimal.units())
+}
+
+/// Returns the nearest decimal number with so many places, or `None` if there are more than 18. Its string spells it,
+/// and no other.
+pub fn read_back(x: &Ratio, places: u32) -> Option<Decimal>
+    ensures decimal { AnswersWhere (places ≤ 18) (IsDecimalOf (num_of x.now) (den_of x.now) places) result }
+    ensures spelled { IfSome result (λ d. SpellsDecimal (decimal_text (units_of d) (places_of d))
+        (units_of d) (places_of d)) }
+    ensures only { IfSome result (λ d. IsOnly (λ (u, p). SpellsDecimal (decimal_text (units_of d) (places_of d)) u p)
+        (units_of d, places_of d)) }
+{
+    x.to_decimal(places)
+}
+
+/// Prints the decimal number. If nothing fails, the string of the definition is written.
+pub fn printed_decimal<W: fmt::Write>(x: &Decimal, f: &mut fmt::Formatter<W>) -> fmt::Result
+    ensures { WritesOnOk W.write_str_gives f.old result (decimal_text (units_of x.now) (places_of x.now)) f.new }
+{
+    write!(f, "{x}")
+}
