@@ -26,6 +26,7 @@ static int passed = 0;
     CHECK((call).status == (reason) && (call).value == 0)
 
 static void layout(void) {
+#ifndef __i386__ /* which aligns 64 bits at 4 bytes */
     CHECK(sizeof(cellarcove_i64_answer) == 16 && sizeof(cellarcove_u64_answer) == 16);
     CHECK(sizeof(cellarcove_i64_division) == 24 && sizeof(cellarcove_u64_division) == 24);
     CHECK(sizeof(cellarcove_i64_solutions) == 24 && sizeof(cellarcove_u64_solutions) == 24);
@@ -40,6 +41,7 @@ static void layout(void) {
     CHECK(sizeof(cellarcove_date) == 16 && sizeof(cellarcove_date_answer) == 24);
     CHECK(sizeof(cellarcove_iso_week_answer) == 16);
     CHECK(sizeof(cellarcove_i64_congruence) == 16 && sizeof(cellarcove_u64_congruence) == 16);
+#endif
 }
 
 static void words(void) {

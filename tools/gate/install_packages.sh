@@ -1,8 +1,8 @@
 #!/usr/bin/env bash
 # Installs the packages of Debian that the gate needs and that this machine lacks: for plain Rust the sources of num-integer and
 # num-traits, of the packages that depend on them and whose tests are run, and of serde; for the tools pytest, mypy and shellcheck; for
-# wheels hatchling; and if Node is there, for JavaScript a compiler with the sources of its library for WebAssembly, that of TypeScript,
-# and Chromium.
+# wheels hatchling; for 32 bits and for WebAssembly compilers, one of them with the sources of its library; and if Node is there, for
+# JavaScript the compiler of TypeScript and Chromium.
 # Nothing else installs anything. Without the rights of root it says what is missing.
 #
 # usage: tools/gate/install_packages.sh
@@ -22,10 +22,10 @@ command -v pytest-3 >/dev/null || missing+=(python3-pytest)
 for name in mypy shellcheck; do
     command -v "$name" >/dev/null || missing+=("$name")
 done
+[ -d /usr/lib/rustlib/src/rust/library/core ] || missing+=(rustc-web rust-web-src)
+command -v i686-linux-gnu-gcc >/dev/null || missing+=(gcc-i686-linux-gnu libc6-dev-i386-cross)
 if command -v node >/dev/null; then
-    target=wasm32-unknown-unknown
-    [ -d /usr/lib/rustlib/src/rust/library/core ] || compgen -G "$(rustc --print target-libdir --target $target 2>/dev/null)/libcore-*" >/dev/null ||
-        missing+=(rustc-web rust-web-src lld-19)
+    compgen -G "$HOME/.rustup/toolchains/*/lib/rustlib/*/bin/rust-lld" >/dev/null || compgen -G '/usr/lib/llvm-*/bin/wasm-ld' >/dev/null || missing+=(lld-19)
     command -v tsc >/dev/null || missing+=(node-typescript)
     command -v chromium >/dev/null || missing+=(chromium)
 fi

@@ -26,7 +26,10 @@ macro_rules! exact_size {
     )*};
 }
 
-exact_size!(u8 i8 u16 i16 u32 i32);
+exact_size!(u8 i8 u16 i16 i32);
+// a row of the largest number of `u32` has 2^32 items
+#[cfg(target_pointer_width = "64")]
+exact_size!(u32);
 
 /// Returns a number that is not negative as a `usize`, if it fits. Only if it is above 1 has its type a 2.
 fn at_usize<T: Integer + Copy>(mut x: T) -> Option<usize> {
