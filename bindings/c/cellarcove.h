@@ -1031,29 +1031,28 @@ CELLARCOVE_PURE cellarcove_date_answer cellarcove_date_from_text(const uint8_t *
 /* ---- Products divided by a number, rounded to the nearest integer ---- */
 
 /** The quotient of a * b by d, rounded to the nearest integer, and a half away from 0. The product need not fit.
- *  That for -1999, 19 and 100 is -380. CELLARCOVE_OUTSIDE if d is 0. CELLARCOVE_NOT_FITTING if the quotient does
- *  not fit. */
+ *  For -1999, 19 and 100 it is -380. CELLARCOVE_OUTSIDE if d is 0. CELLARCOVE_NOT_FITTING if the quotient does not
+ *  fit. */
 CELLARCOVE_CONST cellarcove_i64_answer cellarcove_product_div_round_i64(int64_t a, int64_t b, int64_t d);
 
-/** The quotient of a * b by d, rounded to the nearest integer, and a half up. The product need not fit. That for
- *  1999, 19 and 100 is 380. CELLARCOVE_OUTSIDE if d is 0. CELLARCOVE_NOT_FITTING if the quotient does not fit. */
+/** The quotient of a * b by d, rounded to the nearest integer, and a half up. The product need not fit. For 1999,
+ *  19 and 100 it is 380. CELLARCOVE_OUTSIDE if d is 0. CELLARCOVE_NOT_FITTING if the quotient does not fit. */
 CELLARCOVE_CONST cellarcove_u64_answer cellarcove_product_div_round_u64(uint64_t a, uint64_t b, uint64_t d);
 
 /** The quotient of a * b by d, rounded to the nearest integer, and a half to the even one. The product need not
- *  fit. That for -5, 3 and 6 is -2. CELLARCOVE_OUTSIDE if d is 0. CELLARCOVE_NOT_FITTING if the quotient does not
+ *  fit. For -5, 3 and 6 it is -2. CELLARCOVE_OUTSIDE if d is 0. CELLARCOVE_NOT_FITTING if the quotient does not
  *  fit. */
 CELLARCOVE_CONST cellarcove_i64_answer cellarcove_product_div_round_even_i64(int64_t a, int64_t b, int64_t d);
 
 /** The quotient of a * b by d, rounded to the nearest integer, and a half to the even one. The product need not
- *  fit. That for 5, 3 and 6 is 2. CELLARCOVE_OUTSIDE if d is 0. CELLARCOVE_NOT_FITTING if the quotient does not
- *  fit. */
+ *  fit. For 5, 3 and 6 it is 2. CELLARCOVE_OUTSIDE if d is 0. CELLARCOVE_NOT_FITTING if the quotient does not fit. */
 CELLARCOVE_CONST cellarcove_u64_answer cellarcove_product_div_round_even_u64(uint64_t a, uint64_t b, uint64_t d);
 
 /* ---- Sums of lists ---- */
 
-/** The sum of the numbers. The sum of the first of them need not fit. That of 2^63 - 1, 1 and -1 is 2^63 - 1, and
- *  that of no numbers is 0. numbers points to numbers_len numbers, aligned, which do not change during the call;
- *  it may be null if numbers_len is 0. CELLARCOVE_NOT_FITTING if the sum does not fit. */
+/** The sum of the numbers. The sum of the first of them need not fit. That of 9223372036854775807, 1 and -8 is
+ *  9223372036854775800, and that of no numbers is 0. numbers points to numbers_len numbers, aligned, which do not
+ *  change during the call; it may be null if numbers_len is 0. CELLARCOVE_NOT_FITTING if the sum does not fit. */
 CELLARCOVE_PURE cellarcove_i64_answer cellarcove_sum_of_i64(const int64_t *numbers, size_t numbers_len);
 
 /** The sum of the numbers. That of 12, 18 and 8 is 38, and that of no numbers is 0. numbers points to numbers_len

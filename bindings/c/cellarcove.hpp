@@ -1556,8 +1556,8 @@ template <class N0, class N1, class N2, class N3> [[nodiscard]] auto count_times
     return r.status == CELLARCOVE_ANSWER ? result<date>(date::from_c(r.date)) : result<date>(static_cast<status>(r.status));
 }
 
-/// The quotient of a * b by d, rounded to the nearest integer, and a half away from 0. The product need not fit. That
-/// for -1999, 19 and 100 is -380. status::outside if d is 0. status::not_fitting if the quotient does not fit.
+/// The quotient of a * b by d, rounded to the nearest integer, and a half away from 0. The product need not fit. For
+/// -1999, 19 and 100 it is -380. status::outside if d is 0. status::not_fitting if the quotient does not fit.
 template <class N0, class N1, class N2> [[nodiscard]] auto product_div_round(N0 a, N1 b, N2 d) {
     if constexpr (detail::is_signed<N0, N1, N2>()) {
         auto r = cellarcove_product_div_round_i64(static_cast<std::int64_t>(a), static_cast<std::int64_t>(b), static_cast<std::int64_t>(d));
@@ -1569,7 +1569,7 @@ template <class N0, class N1, class N2> [[nodiscard]] auto product_div_round(N0 
 }
 
 /// The quotient of a * b by d, rounded to the nearest integer, and a half to the even one. The product need not fit.
-/// That for -5, 3 and 6 is -2. status::outside if d is 0. status::not_fitting if the quotient does not fit.
+/// For -5, 3 and 6 it is -2. status::outside if d is 0. status::not_fitting if the quotient does not fit.
 template <class N0, class N1, class N2> [[nodiscard]] auto product_div_round_even(N0 a, N1 b, N2 d) {
     if constexpr (detail::is_signed<N0, N1, N2>()) {
         auto r = cellarcove_product_div_round_even_i64(static_cast<std::int64_t>(a), static_cast<std::int64_t>(b), static_cast<std::int64_t>(d));
@@ -1580,8 +1580,8 @@ template <class N0, class N1, class N2> [[nodiscard]] auto product_div_round_eve
     }
 }
 
-/// The sum of the numbers. The sum of the first of them need not fit. That of 2^63 - 1, 1 and -1 is 2^63 - 1, and
-/// that of no numbers is 0. status::not_fitting if the sum does not fit.
+/// The sum of the numbers. The sum of the first of them need not fit. That of 9223372036854775807, 1 and -8 is
+/// 9223372036854775800, and that of no numbers is 0. status::not_fitting if the sum does not fit.
 [[nodiscard]] inline result<std::int64_t> sum_of(const std::int64_t *numbers, detail::checked<std::size_t> numbers_length) {
     if (auto error = detail::error_of(numbers_length); error != status::answer) {
         return result<std::int64_t>(error);

@@ -734,19 +734,19 @@ export function tryFractionFromText(text: string): Attempt<Fraction>;
 export function dateFromText(text: string): PlainDate;
 export function tryDateFromText(text: string): Attempt<PlainDate>;
 
-/** The quotient of `a * b` by `d`, rounded to the nearest integer, and a half away from 0. The product need not fit. That for -1999, 19
- *  and 100 is -380. `OUTSIDE` if `d` is 0. `NOT_FITTING` if the quotient does not fit. */
+/** The quotient of `a * b` by `d`, rounded to the nearest integer, and a half away from 0. The product need not fit. For -1999, 19 and
+ *  100 it is -380. `OUTSIDE` if `d` is 0. `NOT_FITTING` if the quotient does not fit. */
 export function productDivRound(a: Integer, b: Integer, d: Integer): bigint;
 export function productDivRound<T extends Integers>(a: Integer | T, b: Integer | T, d: Integer | T): {value: T; status: Uint8Array};
 export function tryProductDivRound(a: Integer, b: Integer, d: Integer): Attempt<bigint>;
 
-/** The quotient of `a * b` by `d`, rounded to the nearest integer, and a half to the even one. The product need not fit. That for -5, 3
- *  and 6 is -2. `OUTSIDE` if `d` is 0. `NOT_FITTING` if the quotient does not fit. */
+/** The quotient of `a * b` by `d`, rounded to the nearest integer, and a half to the even one. The product need not fit. For -5, 3 and 6
+ *  it is -2. `OUTSIDE` if `d` is 0. `NOT_FITTING` if the quotient does not fit. */
 export function productDivRoundEven(a: Integer, b: Integer, d: Integer): bigint;
 export function productDivRoundEven<T extends Integers>(a: Integer | T, b: Integer | T, d: Integer | T): {value: T; status: Uint8Array};
 export function tryProductDivRoundEven(a: Integer, b: Integer, d: Integer): Attempt<bigint>;
 
-/** The sum of the numbers. The sum of the first of them need not fit. That of 2^63 - 1, 1 and -1 is 2^63 - 1, and that of no numbers is
- *  0. `NOT_FITTING` if the sum does not fit. */
+/** The sum of the numbers. The sum of the first of them need not fit. That of 9223372036854775807, 1 and -8 is 9223372036854775800, and
+ *  that of no numbers is 0. `NOT_FITTING` if the sum does not fit. */
 export function sumOf(numbers: Iterable<Integer>): bigint;
 export function trySumOf(numbers: Iterable<Integer>): Attempt<bigint>;

@@ -5361,7 +5361,7 @@ static PyMethodDef methods[] = {
     "--\n"
     "\n"
     "The quotient of `a * b` by `d`, rounded to the nearest integer, and a half away from 0.\n"
-    "The product need not fit. That for -1999, 19 and 100 is -380.\n"
+    "The product need not fit.\n"
     "\n"
     "Raises `DivisionByZero` if `d` is 0. Raises `NotFitting` if the quotient does not fit.\n"
     "\n"
@@ -5372,7 +5372,7 @@ static PyMethodDef methods[] = {
     "--\n"
     "\n"
     "The quotient of `a * b` by `d`, rounded to the nearest integer, and a half to the even\n"
-    "one. The product need not fit. That for -5, 3 and 6 is -2.\n"
+    "one. The product need not fit.\n"
     "\n"
     "Raises `DivisionByZero` if `d` is 0. Raises `NotFitting` if the quotient does not fit.\n"
     "\n"
@@ -5386,8 +5386,8 @@ static PyMethodDef methods[] = {
     "\n"
     "Raises `NotFitting` if the sum does not fit.\n"
     "\n"
-    ">>> sum_of([2**63 - 1, 1, -1])\n"
-    "2**63 - 1\n"
+    ">>> sum_of([9223372036854775807, 1, -8])\n"
+    "9223372036854775800\n"
     ">>> sum_of([])\n"
     "0\n"},
     {"comb", (PyCFunction)(void (*)(void))py_binomial, METH_FASTCALL | METH_KEYWORDS,

@@ -5,8 +5,8 @@ use crate::answers::{I64Answer, U64Answer, NOT_FITTING};
 use crate::lists::read_each;
 use cellarcove::lists::checked;
 
-/// Returns the sum of the numbers. The sum of the first of them need not fit. That of 2^63 - 1, 1
-/// and -1 is 2^63 - 1, and that of no numbers is 0.
+/// Returns the sum of the numbers. The sum of the first of them need not fit. That of
+/// 9223372036854775807, 1 and -8 is 9223372036854775800, and that of no numbers is 0.
 ///
 /// `NOT_FITTING` if the sum does not fit.
 #[unsafe(no_mangle)]
