@@ -1,5 +1,6 @@
 """Makes docs/LANGUAGES.md: each call of the libraries, and its name in each language, or why a language lacks it."""
 import re
+from collections.abc import Iterator
 
 from tools import ROOT
 from tools.bindings.exports import EXPORTS, listed
@@ -9,20 +10,38 @@ from tools.bindings.python import ALIASES, RENAMED
 HEAD = '''# Calls by language
 
 Each call of the libraries, and its name in Rattle, in plain Rust, in C, in C++, in Python and in JavaScript. A call of C begins with `cellarcove_` and has
-a form for each type in braces. If a cell is empty, the last one says what to use instead.
+a form for each type in braces. `checked` has the calls of its crate too, where they return `None` if the plain one may not be made; they
+have no rows. If a cell is empty, the last one says what to use instead.
 
 '''
+CHECKED = re.compile(r'\bchecked::')
 TRAITS = ('Integer::', 'Average::', 'Roots::')  # whose methods are free functions too
 BY_TRAIT = {'fraction_cmp': 'Ord of `Ratio`', 'fraction_from_text': 'FromStr of `Ratio`', 'date_from_text': 'FromStr of `Date`'}
 NAMED = {'date_from_text': ('date_from_text', 'Date.fromisoformat, date_from_text',
                             'PlainDate.from`, `dateFromText')}  # their names in C++, in Python and in JavaScript
 
 
-def paths() -> list[str]:
-    """The calls of plain Rust, without the modules `checked`. A method of a trait is there if no function has its name."""
-    found = re.findall(r'^(?:const )?fn ([\w:]+)', (ROOT / 'rust/api.txt').read_text(), re.M)
-    plain = {path.replace('checked::', '') for path in found}
-    return sorted(path for path in plain if not path.startswith(TRAITS) or path.split('::')[1] not in plain)
+def paths() -> Iterator[str]:
+    """The calls of plain Rust. One of a module `checked` is there if no other call has its name, and a method of a trait if no function has it."""
+    found = sorted(re.findall(r'^(?:const )?fn ([\w:]+)', (ROOT / 'rust/api.txt').read_text(), re.M))
+    plain = [path for path in found if not CHECKED.search(path) and not path.startswith(TRAITS)]
+    of_checked = {path.split('::')[-1]: path for path in found if path.startswith('checked::')}
+    names = {path.split('::')[-1] for path in plain}
+    yield from plain
+    yield from (path for name, path in of_checked.items() if name not in names)
+    yield from (path for path in found if path.startswith(TRAITS) and path.split('::')[1] not in names | of_checked.keys())
+
+
+def in_rattle(path: str) -> str:
+    """The path of a call in Rattle."""
+    first, *others = path.split('::')
+    if first == 'checked':  # plain Rust has those of all modules there
+        file = next(file for file in sorted(ROOT.glob('crates/*/src/**/*.rt')) if 'checked' in str(file) and f'pub fn {others[0]}<' in file.read_text())
+        crate, _, *modules = file.relative_to(ROOT / 'crates').with_suffix('').parts
+        return '::'.join([crate, *modules[:modules.index('checked') + 1], *others])
+    if first in ('calendar', 'modular', 'ratio64'):
+        return path
+    return f'applied::{path}' if first.islower() and others and first != 'counted' else f'num_integer::{path}'
 
 
 def export_of(path: str, names: dict[str, str]) -> str:
@@ -35,16 +54,14 @@ def rows() -> list[tuple[str, ...]]:
     """The cells of each row."""
     names, reasons = listed('languages.txt', ' = '), listed('languages.txt', ': ')
     forms, used, made = EXPORTS().forms(), set[str](), list[tuple[str, ...]]()
-    for path in paths():
-        crate = path.split('::')[0] if path.split('::')[0] in ('calendar', 'modular', 'ratio64') else 'applied' if path[0].islower() and '::' in path \
-            and not path.startswith('counted::') else 'num_integer'
-        rattle = path if path.startswith(crate) else f'{crate}::{path}'
+    for whole in sorted(paths(), key=lambda path: CHECKED.sub('', path)):
+        path = CHECKED.sub('', whole)
         reason = next((found for found in (path, *(prefix for prefix in reasons if prefix.endswith('::') and path.startswith(prefix))) if found in reasons), '')
         export, *others = export_of(path, names).split(' | ')
         assert reason or export in forms, f'{path}: tools/bindings/languages.txt says neither its export nor why it has none'
         if reason not in used:  # a reason of several calls has one row
-            shown = reason.removesuffix('::') or path
-            made.append((f'`{rattle.replace(path, shown)}`', f'`cellarcove::{shown}`', *(('', '', '', '', reasons[reason]) if reason else (*cells(export, *others), ''))))
+            shown = reason.removesuffix('::') if reason.endswith('::') else whole
+            made.append((f'`{in_rattle(whole).replace(whole, shown)}`', f'`cellarcove::{shown}`', *(('', '', '', '', reasons[reason]) if reason else (*cells(export, *others), ''))))
         used |= {reason} if reason else {path, export}
     made += [(where, where, *cells(export, *NAMED.get(export, ())), '') for export, where in BY_TRAIT.items()]
     unknown = (names.keys() | reasons.keys()) - used
