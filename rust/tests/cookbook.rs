@@ -1,6 +1,6 @@
 //! The tasks of docs/COOKBOOK.md, with their results.
 
-use cellarcove::calendar::{easter, last_weekday_of_month, months_between, Date, IsoWeek, Weekday};
+use cellarcove::calendar::{days_in_month, easter, last_weekday_of_month, months_between, Date, IsoWeek, Weekday};
 use cellarcove::modular::{inverse_modulo, residue, CommonSolution};
 use cellarcove::ratio64::{Decimal, ParseRatioError, Ratio};
 use cellarcove::schedules::next_meeting;
@@ -158,6 +158,9 @@ fn tasks_on_dates() {
     assert_eq!(pay_day(2026, 11), Some(date("2026-11-27")));
     assert_eq!(pay_day(2026, 13), None);
     assert_eq!(due(&date("2026-01-31")), Some(date("2026-02-28")));
+    assert_eq!(date("2026-11-28").plus_days(30), Some(date("2026-12-28")));
+    assert_eq!(Date::new(2028, 2, days_in_month(2028, 2)), Some(date("2028-02-29")));
+    assert_eq!(Ratio::new(10857, 10000).unwrap().round_even_times(24680), Some(26795));
     assert_eq!(due(&date("2000-01-31")), Some(date("2000-02-29")));
     assert_eq!(easter_monday(2027), Some(date("2027-03-29")));
     assert_eq!(

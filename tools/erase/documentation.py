@@ -138,6 +138,7 @@ def linked(eraser: Eraser, comment: str) -> str:
     """A comment whose links to names of the root lead there where the file does not import them."""
     own = () if eraser.crate in AT_ROOT else (eraser.crate,)
     comment = re.sub(r'(\[`|\]\()crate::', rf'\1{"::".join(("crate", *own, ""))}', comment)
+    comment = re.sub(rf'\]\((?:{"|".join(AT_ROOT)})::', '](crate::', comment)
     # rustdoc rejects a target to which the label leads by itself
     comment = re.sub(rf'(\[`(\w+(?:::\w+)+)`\])\({"::".join(("crate", *own, *eraser.module.path))}::\2\)', r'\1', comment)
     found = {(*place, name) for (_, _, name), place in eraser.library.public.items()}

@@ -56,7 +56,7 @@ pub fn div_round_even<T: Fits>(x: T, y: T) -> Option<T> {
 ///
 /// The product need not fit: then it is computed in 128 bits. No wider type has the products of
 /// `i128`, `u128` or a type of your own, so there call
-/// [`checked::product`](num_integer::checked::product) and then [`div_round`], if the product fits.
+/// [`checked::product`](crate::checked::product) and then [`div_round`], if the product fits.
 ///
 /// A part of a number is never `None`: if `a` and `b` are at least 0, and `b` is at most `d`, which
 /// is positive, the quotient is at most `a`.
