@@ -25,6 +25,7 @@ OBJECTS = {'i64': 'PyLong_FromLongLong', 'u64': 'PyLong_FromUnsignedLongLong', '
 CLASSES = {'Bezout': ('class_gcd', 'ExtendedGcd'), 'Solutions': ('class_solutions', 'Solutions'), 'IsoWeek': ('class_week', 'IsoWeek')}
 SHAPES = {'Fraction': 'f', 'Date': 'd'}
 MODULI = {'m', 'n', 'step', 'p', 'q', 'period'}  # the parameters whose 0 is the reason of `BAD_MODULUS`
+SEEN_TO = 'there is not one part for each weight, or if '  # a reason of a status that Python never meets, since it makes the parts
 DIVIDES = ('division', 'products')  # the modules whose parameters `y` and `d` are divisors
 # What says, before there is room for the numbers that a call writes, whether it has a result.
 ASKED = {'choice_of_rank': 'is_below_binomial(numbers[0].u, numbers[1].u, numbers[2].u)'}
@@ -121,7 +122,7 @@ def raised(call: Call, unsigned: Call | None) -> str:
     said = []
     for sentence in call.statuses:
         negative = unsigned is not None and not any(sentence.split('`')[1] == other.split('`')[1] for other in unsigned.statuses)
-        said.append(re.sub('^`([A-Z_]+)`', exception, sentence.removesuffix('.') + ', which takes a negative number.' * negative + '.' * (not negative)))
+        said.append(re.sub('^`([A-Z_]+)`', exception, sentence.replace(SEEN_TO, '').removesuffix('.') + ', which takes a negative number.' * negative + '.' * (not negative)))
     return ' '.join(said)
 
 
@@ -261,10 +262,11 @@ def array_types(parameter: Field, chosen: bool) -> str:
     if leaves == 1:
         array = BYTES if parameter.kind == 'u8' else ARRAY
         return array if chosen else f'{array} | {scalar_type(parameter)}'
+    returned = f'tuple[{", ".join([ARRAY] * (leaves + 1))}]'  # by another call, with its statuses
     if not chosen:
-        return f'{PYTHON[parameter.kind]} | tuple[{", ".join([each] * leaves)}]'
-    shapes = [[NUMBER] * first + [ARRAY] + [each] * (leaves - first - 1) for first in range(leaves)] + [[ARRAY] * (leaves + 1)]  # with statuses
-    return ' | '.join(f'tuple[{", ".join(shape)}]' for shape in shapes)
+        return f'{PYTHON[parameter.kind]} | tuple[{", ".join([each] * leaves)}] | {returned}'
+    shapes = [[NUMBER] * first + [ARRAY] + [each] * (leaves - first - 1) for first in range(leaves)]
+    return ' | '.join([*(f'tuple[{", ".join(shape)}]' for shape in shapes), returned])
 
 
 def listed_type(parameter: Field) -> str:

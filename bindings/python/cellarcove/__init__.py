@@ -1,10 +1,14 @@
 """Proved integer arithmetic, fractions and dates.
 
 If all numbers of a call are at least 0, they lie below 2**64, and otherwise from -2**63 to 2**63 - 1. If they lie from 0 to
-2**63 - 1, the result may be negative. `extended_gcd`, the parts of fractions, and days, months and years are always from
--2**63 to 2**63 - 1; those of `multinomial`, `rank`, `choice_of_rank` and `is_perfect_power`, and exponents, are always from
-0 to 2**64 - 1, and degrees from 0 to 2**32 - 1. A number out of its range raises `OverflowError`, and what is no integer
-raises `TypeError`.
+2**63 - 1, the result may be negative. Those of `extended_gcd`, the parts of fractions, years, numbers of days, and how many
+days or months are added, are always from -2**63 to 2**63 - 1; those of `multinomial`, `rank`, `choice_of_rank`,
+`is_perfect_power` and `shares_by_largest_remainder`, weights and exponents are always from 0 to 2**64 - 1, and degrees and
+places from 0 to 2**32 - 1. The exponent of a fraction is from -2**31 to 2**31 - 1. A month, a week, a day of the month or of
+the week, and its count, are from 0 to 255, and a day of the year is from 0 to 2**16 - 1.
+
+A number out of its range raises `OverflowError`, and what is no integer raises `TypeError`. So `days_in_month` raises
+`Refused` for month 13 and `OverflowError` for month 256, and `Date` raises `Refused` for both.
 
 If a call has no result, it raises `Refused`, a `ValueError` that has the status. If the reason is that a divisor, a modulus
 or a denominator is 0, it is `DivisionByZero`, which is a `ZeroDivisionError` too. If the reason is that the result does not
@@ -139,6 +143,11 @@ class IsoWeek(NamedTuple):
 
     year: int
     week: int
+
+    def __str__(self) -> str:
+        """The week as `2026-W05`. The year has a sign if it is not from 0 to 9999."""
+        year = f'{self.year:04}' if 0 <= self.year <= 9999 else f'{self.year:+05}'
+        return f'{year}-W{self.week:02}'
 
 
 class Weekday(enum.Enum):

@@ -186,6 +186,16 @@ static int integer(PyObject *object, cell *to) {
     return said;
 }
 
+/* Reads an integer, in the place of which there may be an array. */
+static int integer_of_call(PyObject *object, cell *to) {
+    int said = integer(object, to);
+    if (said < 0 && (PyList_Check(object) || PyTuple_Check(object)) && PyErr_ExceptionMatches(PyExc_TypeError)) {
+        PyErr_Clear();
+        PyErr_Format(PyExc_TypeError, "%R is no integer: pass an array of numbers, such as an `array.array('q', ..)`", (PyObject *)Py_TYPE(object));
+    }
+    return said;
+}
+
 static bool fits(const cell *number, int said, char kind) {
     switch (kind) {
     case 'q': return said == 0;
@@ -317,7 +327,7 @@ static PyObject *run_one(const call *c, PyObject *const *objects, Py_ssize_t cou
     int said[MAX_CELLS];
     bool negative = false;
     for (Py_ssize_t k = 0; k < count; k++) {
-        said[k] = integer(objects[k], &cells[k]);
+        said[k] = integer_of_call(objects[k], &cells[k]);
         if (said[k] < 0) {
             return NULL;
         }
@@ -355,16 +365,21 @@ typedef struct {
     int said;
 } column;
 
+static const char *format_of(const Py_buffer *view) { return view->format == NULL ? "B" : view->format; }
+
+/* Whether a format is one of some letters. */
+static bool is_one_of(const char *format, const char *letters) { return *format != 0 && format[1] == 0 && strchr(letters, *format) != NULL; }
+
 /* Whether the items of an array have a type. Those of a result that is a bool are bools, or bytes. */
 static bool has_items(const Py_buffer *view, char kind) {
-    const char *format = view->format == NULL ? "B" : view->format;
+    const char *format = format_of(view);
     const uint16_t one = 1;
     bool little = *(const uint8_t *)&one == 1;
     if (*format == '@' || *format == '=' || *format == (little ? '<' : '>')) {
         format++;
     }
     const char *letters = kind == 'q' || kind == 'i' ? "bhilqn" : kind == '?' ? "?B" : "BHILQN";
-    return view->itemsize == size_of(kind) && *format != 0 && format[1] == 0 && strchr(letters, *format) != NULL;
+    return view->itemsize == size_of(kind) && is_one_of(format, letters);
 }
 
 /* From an item of an array of one dimension to the next one. */
@@ -375,15 +390,15 @@ static int wrong(const char *what, const char *name) {
     return -1;
 }
 
-static const char *words_of(char kind) {
+static const char *type_of(char kind) {
     switch (kind) {
-    case 'q': return "the items of the array are not int64";
-    case 'Q': return "the items of the array are not uint64";
-    case 'I': return "the items of the array are not uint32";
-    case 'i': return "the items of the array are not int32";
-    case 'H': return "the items of the array are not uint16";
-    case '?': return "the items of the array are not bool or uint8";
-    default: return "the items of the array are not uint8";
+    case 'q': return "int64";
+    case 'Q': return "uint64";
+    case 'I': return "uint32";
+    case 'i': return "int32";
+    case 'H': return "uint16";
+    case '?': return "bool or uint8";
+    default: return "uint8";
     }
 }
 
@@ -416,6 +431,24 @@ static const char *no_buffer(PyObject *object) {
     Py_XDECREF(type);
     PyErr_Clear();
     return words;
+}
+
+/* Raises that the items of an array have not a type, or neither type of the numbers of a call, and says what to pass. Integers can be
+ * converted. */
+static int wrong_items(const char *name, PyObject *object, const Py_buffer *view, char kind, bool neither) {
+    const char *format = format_of(view), *type = type_of(kind), *unlike = neither ? "neither int64 nor " : "not ";
+    const char *letter = *format != 0 && strchr("@=<>!", *format) != NULL ? format + 1 : format;
+    kind = neither ? 'q' : kind;
+    if (!is_one_of(letter, "?bBhHiIlLqQnN")) {
+        PyErr_Format(PyExc_ValueError, "%s: the items of the array are %s%s, but of the format '%.20s'", name, unlike, type, format);
+    } else if (has(object, "astype")) {
+        PyErr_Format(PyExc_ValueError, "%s: the items of the array are %s%s, but of the format '%.20s': pass its `.astype('%s')`", name, unlike, type,
+                     format, type_of(kind));
+    } else {
+        PyErr_Format(PyExc_ValueError, "%s: the items of the array are %s%s, but of the format '%.20s': pass an `array.array('%c', ..)`", name, unlike,
+                     type, format, (int)kind);
+    }
+    return -1;
 }
 
 /* Takes the buffer of an array. */
@@ -453,7 +486,7 @@ static const form *read_columns(const call *c, PyObject **objects, Py_ssize_t co
     for (Py_ssize_t k = 0; k < count; k++) {
         column *to = &columns[k];
         if (!is_array(objects[k])) {
-            to->said = integer(objects[k], &to->number);
+            to->said = integer_of_call(objects[k], &to->number);
             if (to->said < 0) {
                 return NULL;
             }
@@ -482,7 +515,7 @@ static const form *read_columns(const call *c, PyObject **objects, Py_ssize_t co
     const form *f = c->only != NULL ? c->only : has_signed || (!has_unsigned && negative) ? c->forms_i64 : c->forms_u64;
     for (Py_ssize_t k = 0; k < count; k++) {
         if (columns[k].is_array && !has_items(&columns[k].view, f->cells[k])) {
-            wrong(c->follows[k] ? "the items of the array are neither int64 nor uint64" : words_of(f->cells[k]), c->name);
+            wrong_items(c->name, objects[k], &columns[k].view, c->follows[k] ? 'Q' : f->cells[k], c->follows[k]);
             return NULL;
         }
         if (!columns[k].is_array && !fits(&columns[k].number, columns[k].said, f->cells[k])) {
@@ -566,7 +599,9 @@ static int take_outputs(const call *c, const form *f, PyObject *outputs, const c
             return wrong("an output has another length than the arrays", c->name);
         }
         if (!has_items(&views[k], f->results[k])) {
-            return wrong(words_of(f->results[k]), c->name);
+            PyErr_Format(PyExc_ValueError, "%s: the items of an output are not %s, but of the format '%.20s'", c->name, type_of(f->results[k]),
+                         format_of(&views[k]));
+            return -1;
         }
         for (Py_ssize_t other = 0; other < k; other++) {
             if (overlap(&views[k], &views[other]) || (length > 0 && views[k].buf == views[other].buf)) {
@@ -778,8 +813,9 @@ static int take_list(PyObject *object, const char *name, bool has_signed, list *
     }
     to->is_signed = has_signed && has_items(&to->view, 'q');
     if (!to->is_signed && !has_items(&to->view, 'Q')) {
+        wrong_items(name, object, &to->view, 'Q', has_signed);
         PyBuffer_Release(&to->view);
-        return wrong(has_signed ? "the items of the array are neither int64 nor uint64" : words_of('Q'), name);
+        return -1;
     }
     to->copy = NULL;
     to->count = to->view.shape[0];

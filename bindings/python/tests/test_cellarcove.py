@@ -182,13 +182,14 @@ class Threads(unittest.TestCase):
 
 
 class Programs(unittest.TestCase):
-    """The end of a program, other interpreters, and a module that is imported again: the programs of programs.txt."""
+    """The end of a program, other interpreters, and a module that is imported again: the programs of programs.txt. They run in a folder
+    without the sources of the package, since Python looks for modules in the current one first."""
 
     def test_programs(self):
         for program in (HERE / 'programs.txt').read_text().split('\n\n')[1:]:
             said = re.search('^# may print: (.*)', program, re.M)
             with self.subTest(program.splitlines()[0]):
-                ran = subprocess.run([sys.executable, '-c', program], capture_output=True, text=True, timeout=120)
+                ran = subprocess.run([sys.executable, '-c', program], cwd=HERE, capture_output=True, text=True, timeout=120)
                 self.assertEqual(ran.returncode, 0, ran.stderr)
                 self.assertEqual([line for line in ran.stderr.splitlines() if not (said and re.search(said[1], line))], [])
 
