@@ -7,8 +7,18 @@
 /// if it is negative, and status::not_fitting if it is too large. But a month, a week, a day or the count of a day of the week has
 /// the status that the comment of its call names. A call without a status takes only types whose numbers are all in range. No call
 /// takes a `bool`, a character or a floating point number.
+///
+/// If several reasons hold, the status is the one that the comment of the call names first.
+///
+/// A pointer points to as many aligned items as the length after it says, and may be null if that is 0. During the call nothing
+/// else reads or writes the items that the call writes, and nothing writes those that it reads. So a list that is written overlaps
+/// no other list of the call. The same holds of containers.
 #ifndef CELLARCOVE_HPP
 #define CELLARCOVE_HPP
+
+#if (defined(_MSVC_LANG) ? _MSVC_LANG : __cplusplus) < 201703L
+#error "cellarcove.hpp needs C++17, and __cplusplus is below 201703: compile with -std=c++17, or with /std:c++17 of MSVC"
+#else
 
 #include <algorithm>
 #include <cassert>
@@ -18,6 +28,7 @@
 #include <limits>
 #include <optional>
 #include <ostream>
+#include <string>
 #include <string_view>
 #include <tuple>
 #include <type_traits>
@@ -44,6 +55,17 @@ enum class status : std::uint32_t {
 [[nodiscard]] inline const char *text(status reason) { return cellarcove_status_text(static_cast<std::uint32_t>(reason)); }
 inline std::ostream &operator<<(std::ostream &out, status reason) { return out << text(reason); }
 
+/// What `value` throws if there is none. Its text is that of the status.
+class bad_result : public std::bad_optional_access {
+  public:
+    explicit bad_result(status error) : error_(error) {}
+    [[nodiscard]] const char *what() const noexcept override { return text(error_); }
+    [[nodiscard]] status error() const noexcept { return error_; }
+
+  private:
+    status error_;
+};
+
 /// A value, or the status that says why there is none. It has the names of `std::expected`.
 template <class T> class [[nodiscard]] result {
   public:
@@ -52,7 +74,7 @@ template <class T> class [[nodiscard]] result {
 
     [[nodiscard]] constexpr bool has_value() const { return value_.has_value(); }
     constexpr explicit operator bool() const { return has_value(); }
-    /// The value. There has to be one.
+    /// The value. There has to be one: if there is none, an `assert` fails, and with `NDEBUG` the behavior is undefined.
     [[nodiscard]] constexpr const T &operator*() const {
         assert(has_value());
         return *value_;
@@ -61,8 +83,15 @@ template <class T> class [[nodiscard]] result {
         assert(has_value());
         return &*value_;
     }
-    /// The value. It throws `std::bad_optional_access` if there is none.
-    [[nodiscard]] constexpr const T &value() const { return value_.value(); }
+    /// The value. It throws `bad_result`, which is a `std::bad_optional_access`, if there is none.
+    [[nodiscard]] constexpr const T &value() const {
+#ifdef __cpp_exceptions
+        if (!has_value()) {
+            throw bad_result(error_);
+        }
+#endif
+        return value_.value();
+    }
     [[nodiscard]] constexpr T value_or(T other) const { return has_value() ? *value_ : other; }
     /// The status, which is `status::answer` if there is a value.
     [[nodiscard]] constexpr status error() const { return error_; }
@@ -84,6 +113,9 @@ template <class T> class [[nodiscard]] result {
     std::optional<T> value_;
     status error_ = status::answer;
 };
+
+/// The value, or the words for the status.
+template <class T> auto operator<<(std::ostream &out, const result<T> &a) -> decltype(out << *a) { return a ? out << *a : out << a.error(); }
 
 /// A quotient and its remainder.
 template <class T> struct division {
@@ -158,14 +190,24 @@ constexpr bool has_all_of = is_number<N> && (std::is_signed_v<T> || !std::is_sig
 
 /// Whether the numbers are signed. They have to be all signed or all unsigned.
 template <class... T> constexpr bool is_signed() {
-    static_assert((is_number<T> && ...), "a call takes integers of up to 64 bits");
-    static_assert((std::is_signed_v<T> && ...) || (!std::is_signed_v<T> && ...), "the numbers of a call are all signed or all unsigned");
+    static_assert((is_number<T> && ...), "a call takes integers of up to 64 bits, and no bool, character or floating point number");
+    static_assert((std::is_signed_v<T> && ...) || (!std::is_signed_v<T> && ...),
+                  "the numbers of this call have to be all signed or all unsigned: write 8U, or convert the others");
     return (std::is_signed_v<T> && ...);
 }
 
+/// Whether the items of a container in one piece have one of the types.
+template <class Items, class... T>
+constexpr bool has_items = is_one_of<std::remove_cv_t<std::remove_pointer_t<decltype(std::declval<Items &>().data())>>, T...>;
+
 /// A number of a type that has no number outside `T`.
 template <class T> struct exact {
-    template <class N, std::enable_if_t<has_all_of<T, N>, int> = 0> constexpr exact(N number) : value(number) {}
+    template <class N> constexpr exact(N number) : value(static_cast<T>(number)) {
+        static_assert(is_number<N>, "a call takes integers of up to 64 bits, and no bool, character or floating point number");
+        static_assert(!is_number<N> || std::is_signed_v<T> || !std::is_signed_v<N>, "this number has to be unsigned: write 8U, or convert it");
+        static_assert(!is_number<N> || std::numeric_limits<N>::digits <= std::numeric_limits<T>::digits,
+                      "the type of this number has numbers that are out of range: convert it");
+    }
     T value;
 };
 
@@ -205,7 +247,7 @@ template <class... T> constexpr status error_of(const checked<T> &...numbers) {
 /// The text of a fraction, a decimal number, a date or a week. Of the settings of a stream only the width and the fill change it.
 class line {
   public:
-    void add(char part) { *end_++ = part; }
+    void add(char part) { text_[length_++] = part; }
     /// Adds a number with at least so many digits.
     void add(std::uint64_t number, std::ptrdiff_t digits) {
         char found[20];
@@ -213,7 +255,7 @@ class line {
         for (auto missing = digits - (last - found); missing > 0; missing--) {
             add('0');
         }
-        end_ = std::copy(static_cast<const char *>(found), last, end_);
+        std::for_each(static_cast<const char *>(found), last, [this](char digit) { add(digit); });
     }
     /// Adds a year of ISO 8601, which has a sign if it is not from 0 to 9999.
     void add_year(std::int64_t year) {
@@ -225,13 +267,11 @@ class line {
     static constexpr std::uint64_t magnitude(std::int64_t number) {
         return number < 0 ? 0 - static_cast<std::uint64_t>(number) : static_cast<std::uint64_t>(number);
     }
-    friend std::ostream &operator<<(std::ostream &out, const line &all) {
-        return out << std::string_view(all.text_, static_cast<std::size_t>(all.end_ - all.text_));
-    }
+    [[nodiscard]] std::string_view view() const { return {text_, length_}; }
 
   private:
     char text_[48];
-    char *end_ = text_;
+    std::size_t length_ = 0;
 };
 
 } // namespace detail
@@ -293,6 +333,8 @@ class date {
 using i64_congruence = cellarcove_i64_congruence;
 using u64_congruence = cellarcove_u64_congruence;
 
+// ---- Sums, differences and products that do not overflow
+
 /// a + b. For 2 and 3 it is 5. status::not_fitting if the sum does not fit.
 template <class N0, class N1> [[nodiscard]] auto checked_sum(N0 a, N1 b) {
     if constexpr (detail::is_signed<N0, N1>()) {
@@ -325,6 +367,8 @@ template <class N0, class N1> [[nodiscard]] auto checked_product(N0 a, N1 b) {
         return r.status == CELLARCOVE_ANSWER ? result<std::uint64_t>(r.value) : result<std::uint64_t>(static_cast<status>(r.status));
     }
 }
+
+// ---- Division, rounded toward 0, down, up or to the nearest integer
 
 /// The quotient rounded toward 0, and its remainder, as / and % of C. Those of -8 by 3 are -2 and -2. status::outside
 /// if y is 0. status::not_fitting if the quotient does not fit.
@@ -457,6 +501,8 @@ template <class N0, class N1> [[nodiscard]] auto is_multiple_of(N0 x, N1 y) {
     }
 }
 
+// ---- Common divisors and multiples
+
 /// The greatest common divisor, which is not negative. That of -56 and 42 is 14. status::not_fitting if it is 2^63.
 template <class N0, class N1> [[nodiscard]] auto gcd(N0 x, N1 y) {
     if constexpr (detail::is_signed<N0, N1>()) {
@@ -503,6 +549,8 @@ template <class N0, class N1> [[nodiscard]] auto gcd_lcm(N0 x, N1 y) {
     return r.status == CELLARCOVE_ANSWER ? result<bezout>(bezout{r.gcd, r.x, r.y}) : result<bezout>(static_cast<status>(r.status));
 }
 
+// ---- Coprime numbers, and pairs divided by their greatest common divisor
+
 /// Whether the greatest common divisor of the numbers is 1. 8 and 15 are coprime, and 8 and 6 are not.
 template <class N0, class N1> [[nodiscard]] auto is_coprime(N0 x, N1 y) {
     if constexpr (detail::is_signed<N0, N1>()) {
@@ -524,6 +572,8 @@ template <class N0, class N1> [[nodiscard]] auto reduced(N0 x, N1 y) {
         return std::pair(r.first, r.second);
     }
 }
+
+// ---- Common divisors and multiples of lists
 
 /// The greatest common divisor of the numbers, which is not negative. That of -12, 18 and 8 is 2, and that of no
 /// numbers is 0. status::not_fitting if the result is 2^63, as for -2^63 and 0.
@@ -547,7 +597,8 @@ template <class N0, class N1> [[nodiscard]] auto reduced(N0 x, N1 y) {
 
 /// The same for a container of `std::int64_t` or `std::uint64_t` in one piece.
 template <class Items0>
-[[nodiscard]] auto gcd_of(const Items0 &numbers) -> decltype(gcd_of(numbers.data(), numbers.size())) {
+[[nodiscard]] auto gcd_of(const Items0 &numbers) {
+    static_assert(detail::has_items<decltype(numbers), std::int64_t, std::uint64_t>, "the items of numbers have to be std::int64_t or std::uint64_t");
     return gcd_of(numbers.data(), numbers.size());
 }
 
@@ -573,9 +624,12 @@ template <class Items0>
 
 /// The same for a container of `std::int64_t` or `std::uint64_t` in one piece.
 template <class Items0>
-[[nodiscard]] auto lcm_of(const Items0 &numbers) -> decltype(lcm_of(numbers.data(), numbers.size())) {
+[[nodiscard]] auto lcm_of(const Items0 &numbers) {
+    static_assert(detail::has_items<decltype(numbers), std::int64_t, std::uint64_t>, "the items of numbers have to be std::int64_t or std::uint64_t");
     return lcm_of(numbers.data(), numbers.size());
 }
+
+// ---- Averages and roots
 
 /// The average rounded down. That of 3 and 10 is 6.
 template <class N0, class N1> [[nodiscard]] auto average_floor(N0 x, N1 y) {
@@ -639,6 +693,8 @@ template <class N0> [[nodiscard]] auto nth_root(N0 x, detail::checked<std::uint3
     }
 }
 
+// ---- Tests of squares and of other powers of integers, square roots with what is left, and logarithms
+
 /// Whether x is the square of an integer. 144 is one, and -144 is not.
 template <class N0> [[nodiscard]] auto is_square(N0 x) {
     if constexpr (detail::is_signed<N0>()) {
@@ -692,6 +748,8 @@ template <class N0, class N1> [[nodiscard]] auto ilog(N0 x, N1 base) {
     }
 }
 
+// ---- Binomial and multinomial coefficients
+
 /// How many ways there are to choose k of n, the binomial coefficient. That of 11 and 3 is 165, and that of 3 and 11
 /// is 0. status::outside if a number is negative. status::not_fitting if the coefficient does not fit.
 template <class N0, class N1> [[nodiscard]] auto binomial(N0 n, N1 k) {
@@ -716,9 +774,12 @@ template <class N0, class N1> [[nodiscard]] auto binomial(N0 n, N1 k) {
 
 /// The same for a container of `std::uint64_t` in one piece.
 template <class Items0>
-[[nodiscard]] auto multinomial(const Items0 &counts) -> decltype(multinomial(counts.data(), counts.size())) {
+[[nodiscard]] auto multinomial(const Items0 &counts) {
+    static_assert(detail::has_items<decltype(counts), std::uint64_t>, "the items of counts have to be std::uint64_t");
     return multinomial(counts.data(), counts.size());
 }
+
+// ---- Factorials and falling factorials: in how many ways some things stand in a row
 
 /// The factorial of n, the product of the numbers from 1 to n. That of 5 is 120. status::outside if n is negative.
 /// status::not_fitting if the factorial does not fit.
@@ -745,6 +806,8 @@ template <class N0, class N1> [[nodiscard]] auto falling(N0 n, N1 k) {
     }
 }
 
+// ---- Choices of numbers, and their ranks
+
 /// The rank of a choice of numbers below n: how many choices of as many numbers come before it. They are ordered by
 /// their last number, then by the one before it, and so on. For 0, 2 and 3, and 5, it is 2. status::outside if the
 /// numbers do not increase or are not all below n. status::not_fitting if the rank does not fit.
@@ -758,7 +821,8 @@ template <class N0, class N1> [[nodiscard]] auto falling(N0 n, N1 k) {
 
 /// The same for a container of `std::uint64_t` in one piece.
 template <class Items0>
-[[nodiscard]] auto rank(const Items0 &choice, detail::checked<std::uint64_t> n) -> decltype(rank(choice.data(), choice.size(), n)) {
+[[nodiscard]] auto rank(const Items0 &choice, detail::checked<std::uint64_t> n) {
+    static_assert(detail::has_items<decltype(choice), std::uint64_t>, "the items of choice have to be std::uint64_t");
     return rank(choice.data(), choice.size(), n);
 }
 
@@ -774,9 +838,12 @@ template <class Items0>
 
 /// The same for a container of `std::uint64_t` in one piece.
 template <class Items2>
-[[nodiscard]] auto choice_of_rank(detail::checked<std::uint64_t> rank, detail::checked<std::uint64_t> n, Items2 &choice) -> decltype(choice_of_rank(rank, n, choice.data(), choice.size())) {
+[[nodiscard]] auto choice_of_rank(detail::checked<std::uint64_t> rank, detail::checked<std::uint64_t> n, Items2 &choice) {
+    static_assert(detail::has_items<decltype(choice), std::uint64_t>, "the items of choice have to be std::uint64_t");
     return choice_of_rank(rank, n, choice.data(), choice.size());
 }
+
+// ---- An amount divided in proportion to weights
 
 /// Writes the shares of the amount in proportion to the weights, and returns the status. Together the shares are the
 /// amount. The first shares together are their exact share rounded up; those of a negative amount are the shares of
@@ -800,9 +867,11 @@ template <class Items2>
     return static_cast<status>(cellarcove_shares_u64(amount.value, weights, weights_length.value, parts, parts_length.value));
 }
 
-/// The same for a container of `std::uint64_t` or `std::int64_t` or `std::uint64_t` or `std::uint64_t` in one piece.
+/// The same for a container of `std::uint64_t` or `std::int64_t` in one piece.
 template <class N0, class Items1, class Items2>
-[[nodiscard]] auto shares(N0 amount, const Items1 &weights, Items2 &parts) -> decltype(shares(amount, weights.data(), weights.size(), parts.data(), parts.size())) {
+[[nodiscard]] auto shares(N0 amount, const Items1 &weights, Items2 &parts) {
+    static_assert(detail::has_items<decltype(weights), std::uint64_t>, "the items of weights have to be std::uint64_t");
+    static_assert(detail::has_items<decltype(parts), std::int64_t, std::uint64_t>, "the items of parts have to be std::int64_t or std::uint64_t");
     return shares(amount, weights.data(), weights.size(), parts.data(), parts.size());
 }
 
@@ -817,11 +886,16 @@ template <class N0, class Items1, class Items2>
     return static_cast<status>(cellarcove_shares_by_largest_remainder_u64(amount.value, weights, weights_length.value, parts, parts_length.value));
 }
 
-/// The same for a container of `std::uint64_t` or `std::uint64_t` in one piece.
+/// The same for a container of `std::uint64_t` in one piece.
 template <class Items1, class Items2>
-[[nodiscard]] auto shares_by_largest_remainder(detail::checked<std::uint64_t> amount, const Items1 &weights, Items2 &parts) -> decltype(shares_by_largest_remainder(amount, weights.data(), weights.size(), parts.data(), parts.size())) {
+[[nodiscard]] auto shares_by_largest_remainder(detail::checked<std::uint64_t> amount, const Items1 &weights, Items2 &parts) {
+    static_assert(detail::has_items<decltype(weights), std::uint64_t>, "the items of weights have to be std::uint64_t");
+    static_assert(detail::has_items<decltype(parts), std::uint64_t>, "the items of parts have to be std::uint64_t");
     return shares_by_largest_remainder(amount, weights.data(), weights.size(), parts.data(), parts.size());
 }
+
+// ---- Items on pages of equal size, and in parts of nearly equal size. Items, pages, places and parts are counted
+// from 0
 
 /// The smallest number of pages that hold all items. For 10 and 4 it is 3. status::outside if page_size is not
 /// positive.
@@ -885,6 +959,8 @@ template <class N0, class N1, class N2> [[nodiscard]] auto range_of_part(N0 part
     }
 }
 
+// ---- Offsets on an alignment
+
 /// The offset rounded up to a multiple of the alignment. For 13 and 8 it is 16. status::outside if alignment is not
 /// positive. status::not_fitting if the multiple does not fit.
 template <class N0, class N1> [[nodiscard]] auto align_up(N0 offset, N1 alignment) {
@@ -908,6 +984,8 @@ template <class N0, class N1> [[nodiscard]] auto padding(N0 offset, N1 alignment
         return r.status == CELLARCOVE_ANSWER ? result<std::uint64_t>(r.value) : result<std::uint64_t>(static_cast<status>(r.status));
     }
 }
+
+// ---- Arithmetic modulo a number
 
 /// The residue of a modulo m, from 0 to m - 1. For -3 and 7 it is 4. status::bad_modulus if m is not positive.
 template <class N0, class N1> [[nodiscard]] auto residue(N0 a, N1 m) {
@@ -1006,6 +1084,8 @@ template <class N0, class N1, class N2> [[nodiscard]] auto quotient_modulo(N0 a,
     }
 }
 
+// ---- Numbers that solve one or two congruences, and congruent numbers from one on, up to another or between two
+
 /// The numbers that times a are b modulo m. For 6, 4 and 10 they are 4 and those in steps of 5 from it.
 /// status::bad_modulus if m is not positive. status::no_solution if there is no such number.
 template <class N0, class N1, class N2> [[nodiscard]] auto solutions(N0 a, N1 b, N2 m) {
@@ -1080,6 +1160,8 @@ template <class N0, class N1, class N2, class N3, class N4> [[nodiscard]] auto n
     }
 }
 
+// ---- The next number that solves several congruences
+
 /// The smallest number from from on that solves each of up to 64 congruences. No product of their moduli need fit.
 /// For 10, and 1 modulo 4, 3 modulo 6 and 0 modulo 7, it is 21. status::outside if there are more congruences.
 /// status::bad_modulus if a modulus is not positive. status::no_solution if there is no such number.
@@ -1106,9 +1188,12 @@ template <class N0, class N1, class N2, class N3, class N4> [[nodiscard]] auto n
 
 /// The same for a container of `i64_congruence` or `u64_congruence` in one piece.
 template <class N0, class Items1>
-[[nodiscard]] auto next_common_solution_of(N0 from, const Items1 &congruences) -> decltype(next_common_solution_of(from, congruences.data(), congruences.size())) {
+[[nodiscard]] auto next_common_solution_of(N0 from, const Items1 &congruences) {
+    static_assert(detail::has_items<decltype(congruences), i64_congruence, u64_congruence>, "the items of congruences have to be i64_congruence or u64_congruence");
     return next_common_solution_of(from, congruences.data(), congruences.size());
 }
+
+// ---- Times that recur after a period
 
 /// The first time, not before now, that is in two schedules. One has the times a, a + p, a + 2 * p and so on, and the
 /// other those of b and q. For 10, 1, 4, 3 and 6 it is 21. status::bad_modulus if p or q is not positive.
@@ -1135,6 +1220,9 @@ template <class N0, class N1, class N2, class N3> [[nodiscard]] auto count_times
         return r.status == CELLARCOVE_ANSWER ? result<std::uint64_t>(r.value) : result<std::uint64_t>(static_cast<status>(r.status));
     }
 }
+
+// ---- Exact fractions. A fraction that is passed is reduced first, and a part of it that does not fit then is
+// rejected. If both fractions are rejected, the status is that of the first
 
 /// The sum. That of 1/2 and 1/3 is 5/6. status::zero_denominator if a denominator is 0. status::not_fitting if a part
 /// of an argument, reduced, does not fit, or a part of the result.
@@ -1223,6 +1311,8 @@ template <class N0, class N1, class N2, class N3> [[nodiscard]] auto count_times
     auto r = cellarcove_fraction_limit_denominator(a.to_c(), max.value);
     return r.status == CELLARCOVE_ANSWER ? result<fraction>(fraction::from_c(r.value)) : result<fraction>(static_cast<status>(r.status));
 }
+
+// ---- Fractions rounded to integers and to parts. A fraction that is passed is reduced first
 
 /// The fraction rounded down. That of -3/2 is -2. status::zero_denominator if the denominator is 0.
 /// status::not_fitting if a part of the reduced fraction does not fit.
@@ -1324,6 +1414,8 @@ template <class N0, class N1, class N2, class N3> [[nodiscard]] auto count_times
     return r.status == CELLARCOVE_ANSWER ? result<fraction>(fraction::from_c(r.value)) : result<fraction>(static_cast<status>(r.status));
 }
 
+// ---- Fractions rounded half to even, and their decimal digits. A fraction that is passed is reduced first
+
 /// The integer nearest to the fraction times n, and of two that are equally near the even one. That of 1/2 and -3 is
 /// -2. status::zero_denominator if the denominator is 0. status::not_fitting if a part of the reduced fraction does
 /// not fit, or the result.
@@ -1358,6 +1450,8 @@ template <class N0, class N1, class N2, class N3> [[nodiscard]] auto count_times
     auto r = cellarcove_fraction_to_decimal(a.to_c(), places.value);
     return r.status == CELLARCOVE_ANSWER ? result<decimal>(decimal{r.is_negative, r.whole, r.part, places.value}) : result<decimal>(static_cast<status>(r.status));
 }
+
+// ---- Dates of the proleptic Gregorian calendar, and days counted from 1970-01-01, which is day 0
 
 /// The date of a day, counted from 1970-01-01, which is day 0. That of -1 is 1969-12-31.
 [[nodiscard]] inline date date_from_day(detail::exact<std::int64_t> day) {
@@ -1450,6 +1544,8 @@ template <class N0, class N1, class N2, class N3> [[nodiscard]] auto count_times
     return date::from_c(r);
 }
 
+// ---- Days of the week, which have the numbers of ISO 8601, from 1 for Monday to 7 for Sunday
+
 /// The day of the week of a day, from 1 for Monday to 7 for Sunday. That of 0 is 4.
 [[nodiscard]] inline int weekday(detail::exact<std::int64_t> day) {
     auto r = cellarcove_weekday(day.value);
@@ -1505,6 +1601,8 @@ template <class N0, class N1, class N2, class N3> [[nodiscard]] auto count_times
     return r.status == CELLARCOVE_ANSWER ? result<date>(date::from_c(r.date)) : result<date>(static_cast<status>(r.status));
 }
 
+// ---- Years, their months and weeks, and their days
+
 /// Whether the year has a 29 February. 2000 and 0 have one, and 1900 and -1 do not.
 [[nodiscard]] inline bool is_leap_year(detail::exact<std::int64_t> year) {
     auto r = cellarcove_is_leap_year(year.value);
@@ -1539,6 +1637,8 @@ template <class N0, class N1, class N2, class N3> [[nodiscard]] auto count_times
     return r.status == CELLARCOVE_ANSWER ? result<std::uint64_t>(r.value) : result<std::uint64_t>(static_cast<status>(r.status));
 }
 
+// ---- Fractions that are read from a text. The text is its bytes, with no zero at the end
+
 /// The fraction of a text, which is an integer or two integers with a slash between. That of 6/-4 is -3/2.
 /// status::outside if the text is none of a fraction, or an integer of it has more than 38 digits, leading zeros
 /// aside. status::zero_denominator if the denominator is 0. status::not_fitting if a part of the reduced fraction
@@ -1548,6 +1648,8 @@ template <class N0, class N1, class N2, class N3> [[nodiscard]] auto count_times
     return r.status == CELLARCOVE_ANSWER ? result<fraction>(fraction::from_c(r.value)) : result<fraction>(static_cast<status>(r.status));
 }
 
+// ---- Dates that are read from a text. The text is its bytes, with no zero at the end
+
 /// The date of a text of ISO 8601: a year of at least four digits, a month and a day of two digits, with hyphens
 /// between them. A year below 0 has a minus, and one above 9999 has a plus. That of 2026-11-28 is 2026-11-28.
 /// status::no_date if it is the text of no date whose year fits.
@@ -1555,6 +1657,8 @@ template <class N0, class N1, class N2, class N3> [[nodiscard]] auto count_times
     auto r = cellarcove_date_from_text(reinterpret_cast<const std::uint8_t *>(text.data()), text.size());
     return r.status == CELLARCOVE_ANSWER ? result<date>(date::from_c(r.date)) : result<date>(static_cast<status>(r.status));
 }
+
+// ---- Products divided by a number, rounded to the nearest integer
 
 /// The quotient of a * b by d, rounded to the nearest integer, and a half away from 0. The product need not fit. For
 /// -1999, 19 and 100 it is -380. status::outside if d is 0. status::not_fitting if the quotient does not fit.
@@ -1580,6 +1684,8 @@ template <class N0, class N1, class N2> [[nodiscard]] auto product_div_round_eve
     }
 }
 
+// ---- Sums of lists
+
 /// The sum of the numbers. The sum of the first of them need not fit. That of 9223372036854775807, 1 and -8 is
 /// 9223372036854775800, and that of no numbers is 0. status::not_fitting if the sum does not fit.
 [[nodiscard]] inline result<std::int64_t> sum_of(const std::int64_t *numbers, detail::checked<std::size_t> numbers_length) {
@@ -1602,7 +1708,8 @@ template <class N0, class N1, class N2> [[nodiscard]] auto product_div_round_eve
 
 /// The same for a container of `std::int64_t` or `std::uint64_t` in one piece.
 template <class Items0>
-[[nodiscard]] auto sum_of(const Items0 &numbers) -> decltype(sum_of(numbers.data(), numbers.size())) {
+[[nodiscard]] auto sum_of(const Items0 &numbers) {
+    static_assert(detail::has_items<decltype(numbers), std::int64_t, std::uint64_t>, "the items of numbers have to be std::int64_t or std::uint64_t");
     return sum_of(numbers.data(), numbers.size());
 }
 
@@ -1618,34 +1725,16 @@ template <class Items0>
 [[nodiscard]] inline bool operator>(const fraction &a, const fraction &b) { return b < a; }
 [[nodiscard]] inline bool operator<=(const fraction &a, const fraction &b) { return !(b < a); }
 [[nodiscard]] inline bool operator>=(const fraction &a, const fraction &b) { return !(a < b); }
-inline std::ostream &operator<<(std::ostream &out, const fraction &a) {
-    detail::line line;
-    if (a.num() < 0) {
-        line.add('-');
-    }
-    line.add(detail::line::magnitude(a.num()), 1);
-    if (a.den() != 1) {
-        line.add('/');
-        line.add(detail::line::magnitude(a.den()), 1);
-    }
-    return out << line;
-}
-
-inline std::ostream &operator<<(std::ostream &out, const decimal &a) {
-    detail::line line;
-    if (a.is_negative) {
-        line.add('-');
-    }
-    line.add(a.whole, 1);
-    if (a.places > 0) {
-        line.add('.');
-        line.add(a.part, static_cast<std::ptrdiff_t>(a.places));
-    }
-    return out << line;
-}
-
 /// The date some days later.
 [[nodiscard]] inline result<date> operator+(const date &a, detail::checked<std::int64_t> days) { return plus_days(a, days); }
+/// The date some days earlier.
+[[nodiscard]] inline result<date> operator-(const date &a, detail::checked<std::int64_t> days) {
+    if (days.value == std::numeric_limits<std::int64_t>::min()) { // its negated number does not fit
+        return (a + std::numeric_limits<std::int64_t>::max()).and_then([](const date &b) { return b + 1; });
+    }
+    days.value = -days.value;
+    return a + days;
+}
 /// The days from `b` to `a`.
 [[nodiscard]] inline result<std::int64_t> operator-(const date &a, const date &b) { return days_between(b, a); }
 [[nodiscard]] constexpr bool operator==(const date &a, const date &b) {
@@ -1658,24 +1747,70 @@ inline std::ostream &operator<<(std::ostream &out, const decimal &a) {
 [[nodiscard]] constexpr bool operator>(const date &a, const date &b) { return b < a; }
 [[nodiscard]] constexpr bool operator<=(const date &a, const date &b) { return !(b < a); }
 [[nodiscard]] constexpr bool operator>=(const date &a, const date &b) { return !(a < b); }
-inline std::ostream &operator<<(std::ostream &out, const date &a) {
-    detail::line line;
-    line.add_year(a.year());
-    for (int part : {a.month(), a.day_of_month()}) {
-        line.add('-');
-        line.add(static_cast<std::uint64_t>(part), 2);
+
+// ---- texts
+
+namespace detail {
+
+[[nodiscard]] inline line line_of(const fraction &a) {
+    line text;
+    if (a.num() < 0) {
+        text.add('-');
     }
-    return out << line;
+    text.add(line::magnitude(a.num()), 1);
+    if (a.den() != 1) {
+        text.add('/');
+        text.add(line::magnitude(a.den()), 1);
+    }
+    return text;
 }
-inline std::ostream &operator<<(std::ostream &out, const week_of_year &a) {
-    detail::line line;
-    line.add_year(a.year);
-    line.add('-');
-    line.add('W');
-    line.add(static_cast<std::uint64_t>(a.week), 2);
-    return out << line;
+
+[[nodiscard]] inline line line_of(const decimal &a) {
+    line text;
+    if (a.is_negative) {
+        text.add('-');
+    }
+    text.add(a.whole, 1);
+    if (a.places > 0) {
+        text.add('.');
+        text.add(a.part, static_cast<std::ptrdiff_t>(a.places));
+    }
+    return text;
 }
+
+[[nodiscard]] inline line line_of(const date &a) {
+    line text;
+    text.add_year(a.year());
+    for (int part : {a.month(), a.day_of_month()}) {
+        text.add('-');
+        text.add(static_cast<std::uint64_t>(part), 2);
+    }
+    return text;
+}
+
+[[nodiscard]] inline line line_of(const week_of_year &a) {
+    line text;
+    text.add_year(a.year);
+    text.add('-');
+    text.add('W');
+    text.add(static_cast<std::uint64_t>(a.week), 2);
+    return text;
+}
+
+} // namespace detail
+
+inline std::ostream &operator<<(std::ostream &out, const fraction &a) { return out << detail::line_of(a).view(); }
+inline std::ostream &operator<<(std::ostream &out, const decimal &a) { return out << detail::line_of(a).view(); }
+inline std::ostream &operator<<(std::ostream &out, const date &a) { return out << detail::line_of(a).view(); }
+inline std::ostream &operator<<(std::ostream &out, const week_of_year &a) { return out << detail::line_of(a).view(); }
+
+/// What a stream gets of it.
+[[nodiscard]] inline std::string to_string(const fraction &a) { return std::string(detail::line_of(a).view()); }
+[[nodiscard]] inline std::string to_string(const decimal &a) { return std::string(detail::line_of(a).view()); }
+[[nodiscard]] inline std::string to_string(const date &a) { return std::string(detail::line_of(a).view()); }
+[[nodiscard]] inline std::string to_string(const week_of_year &a) { return std::string(detail::line_of(a).view()); }
 
 } // namespace cellarcove
 
+#endif
 #endif

@@ -68,8 +68,8 @@ static void numbers() {
     static_assert(std::is_same_v<decltype(cellarcove::weekday(0)), int> && std::is_same_v<decltype(date::make(1, 1, 1)->month()), int>);
     static_assert(!std::is_convertible_v<std::int64_t, cellarcove::result<std::int64_t>>);
     std::ostringstream words;
-    words << status::no_date;
-    CHECK(words.str() == cellarcove::text(status::no_date));
+    words << status::no_date << ' ' << cellarcove::div_floor(-8, 3) << ' ' << date::make(2000, 2, 29) << ' ' << cellarcove::div_floor(1, 0);
+    CHECK(words.str() == std::string("there is no such date -3 2000-02-29 ") + cellarcove::text(status::outside));
     std::vector<std::uint64_t> choice(3);
     CHECK(cellarcove::choice_of_rank(2, 5, choice) == status::answer && choice == std::vector<std::uint64_t>{0, 2, 3});
     CHECK(cellarcove::choice_of_rank(10, 5, choice) == status::outside && choice == std::vector<std::uint64_t>{0, 2, 3});
@@ -84,11 +84,11 @@ static void numbers() {
         == status::not_fitting);
     bool thrown = false;
     try {
-        (void)cellarcove::sqrt(-1).value();
-    } catch (const std::bad_optional_access &) {
-        thrown = true;
+        (void)cellarcove::checked_sum(INT64_MAX, 1).value();
+    } catch (const std::bad_optional_access &error) {
+        thrown = error.what() == std::string(cellarcove::text(status::not_fitting));
     }
-    CHECK(thrown);
+    CHECK(thrown && cellarcove::checked_sum(2, 3).value() == 5);
 }
 
 // A number out of the range of its parameter is refused, and never taken for another one.
@@ -134,7 +134,7 @@ template <class T> static std::string text_of(const T &value) {
     std::ostringstream plain, set;
     plain << value;
     set << std::hex << std::showpos << std::showbase << std::setw(50) << std::setfill('*') << value;
-    CHECK(set.str() == std::string(50 - plain.str().size(), '*') + plain.str());
+    CHECK(set.str() == std::string(50 - plain.str().size(), '*') + plain.str() && to_string(value) == plain.str());
     return plain.str();
 }
 
@@ -173,7 +173,9 @@ static void dates() {
     CHECK(date::make(1900, 2, 29) == status::no_date);
     CHECK(*cellarcove::plus_months(end, 1) == leap && *(leap - end) == 29 && *(end + 29) == leap);
     CHECK(end < leap && leap > end && end <= leap && far >= leap && end != leap);
-    CHECK(far + 1 == status::not_fitting);
+    CHECK(far + 1 == status::not_fitting && far - -1 == status::not_fitting && far - UINT64_MAX == status::not_fitting);
+    CHECK(*(leap - 29) == end && *(end - -29) == leap && *(far - INT64_MAX) == *date::make(INT64_C(9198119301927009253), 6, 5));
+    CHECK(*(leap - INT64_MIN) == *date::make(INT64_C(25252734927768554), 9, 25) && far - INT64_MIN == status::not_fitting);
     CHECK(cellarcove::easter(2024) == *date::make(2024, 3, 31) && cellarcove::date_from_day(-1) == *date::make(1969, 12, 31));
     CHECK(cellarcove::weekday(0) == 4);
     CHECK(*cellarcove::iso_week(*date::make(2005, 1, 1)) == cellarcove::week_of_year{53, 2004});

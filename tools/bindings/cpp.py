@@ -1,4 +1,5 @@
 """What C++ knows of the exports: a header of templates over that for C."""
+import itertools
 import textwrap
 
 from tools.bindings.exports import EXPORTS, Call, Field, filled, without_returns
@@ -35,11 +36,15 @@ def of(call: Call) -> tuple[str, str]:
     return f'result<{value}>', f'r.status == CELLARCOVE_ANSWER ? result<{value}>({made}) : result<{value}>(static_cast<status>(r.status))'
 
 
+def lines_of(text: str, mark: str) -> str:
+    """A comment, each line after its mark."""
+    lines = textwrap.wrap(text.replace('`', ''), WIDTH - len(mark) - 1, break_long_words=False, break_on_hyphens=False)
+    return ''.join(f'{mark} {line}\n' for line in lines)
+
+
 def comment(call: Call) -> str:
     statuses = (sentence.split('`', 2) for sentence in call.statuses)
-    text = ' '.join([without_returns(call.doc), *(f'status::{name.lower()}{rest}' for _, name, rest in statuses)])
-    lines = textwrap.wrap(text.replace('`', ''), WIDTH - 4, break_long_words=False, break_on_hyphens=False)
-    return ''.join(f'/// {line}\n' for line in lines)
+    return lines_of(' '.join([without_returns(call.doc), *(f'status::{name.lower()}{rest}' for _, name, rest in statuses)]), '///')
 
 
 def named(parameter: Field) -> str:
@@ -107,9 +112,12 @@ def slice_functions(forms: list[Call]) -> str:
             types += [f'N{k}'] if p.kind != q.kind else []
             parameters.append(f'N{k} {p.name}' if p.kind != q.kind else taken(call, p))
             passed.append(p.name)
-    items = ' or '.join(f'`{PLAIN[p.item]}`' for form in forms for p in form.parameters if p.item)
+    kinds = {p.name: list(dict.fromkeys(PLAIN[form.parameters[k].item] for form in forms)) for k, p in enumerate(call.parameters) if p.item}
+    asserts = [f'static_assert(detail::has_items<decltype({name}), {", ".join(of_items)}>, "the items of {name} have to be {" or ".join(of_items)}");'
+               for name, of_items in kinds.items()]
+    items = ' or '.join(f'`{kind}`' for kind in dict.fromkeys(itertools.chain(*kinds.values())))
     return text + filled('container.hpp', items=items, types=', '.join(f'class {kind}' for kind in types), name=call.name,
-                         parameters=', '.join(parameters), passed=', '.join(passed))
+                         parameters=', '.join(parameters), asserts='\n    '.join(asserts), passed=', '.join(passed))
 
 
 def template(signed: Call, unsigned: Call) -> str:
@@ -130,8 +138,11 @@ def hpp() -> str:
     """The header for C++."""
     found = EXPORTS()
     statuses = ''.join(f'    {status.name.lower()} = {status.number},\n' for status in found.statuses)
-    text = ''
+    text = module = ''
     for name, forms in found.forms().items():
+        if forms[0].module != module:
+            module = forms[0].module
+            text += lines_of('---- ' + found.headings[module].rstrip('.'), '//') + '\n'
         if name == 'fraction_new':
             continue  # it is `fraction::make`
         signed = next((call for call in forms if call.form == 'i64'), None)

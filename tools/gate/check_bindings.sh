@@ -84,6 +84,7 @@ cpp_with() {
     languages=$((languages + 1))
     check "C++ with $1" runs test.cpp "$1" -std=c++17 -Wconversion -O1 -x c++
     check "what does not compile in C++ with $1" rejects_conversions "$1"
+    check "an older C++ with $1" rejects_older_cpp "$1"
     check "the example of the page in C++ with $1" page_holds bindings/README.md cpp "$1" -std=c++17
     check "the header for C in C++ with $1" runs test.c "$1" -std=c++17 -O0 -x c++
 }
@@ -96,13 +97,20 @@ compiles() {
         "$1" -std=c++17 -include array -fsyntax-only -I bindings/c -x c++ -
 }
 
-# rejects_conversions COMPILER: no first expression of a line of the list compiles, and each second one does.
+# rejects_conversions COMPILER: no first expression of a line of the list compiles, each second one does, and the words are printed.
 rejects_conversions() {
-    local expressions
+    local expressions expression words
     expressions=$(grep -v '^#' bindings/c/rejected.txt) && cut -d '|' -f 2 <<<"$expressions" | compiles "$1" &&
-        cut -d '|' -f 1 <<<"$expressions" | while read -r expression; do
-            ! compiles "$1" <<<"$expression" 2>/dev/null || { echo "it compiles: $expression"; return 1; }
-        done
+        while IFS='|' read -r expression _ words; do
+            ! compiles "$1" <<<"$expression" 2>"$work/refused" || { echo "it compiles: $expression"; return 1; }
+            grep -qF -- "${words# }" "$work/refused" || { echo "$expression: the compiler does not print:$words"; return 1; }
+        done <<<"$expressions"
+}
+
+# The header for C++ says that it needs a newer language.
+rejects_older_cpp() {
+    ! "$1" -std=c++14 -fsyntax-only -I bindings/c -x c++ bindings/c/cellarcove.hpp 2>"$work/refused" &&
+        grep -q 'needs C++17' "$work/refused"
 }
 
 # page_holds PAGE LANGUAGE COMPILER FLAG..: the example of a page is compiled, and prints what its comments say.

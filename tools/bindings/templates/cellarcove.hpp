@@ -7,8 +7,18 @@
 /// if it is negative, and status::not_fitting if it is too large. But a month, a week, a day or the count of a day of the week has
 /// the status that the comment of its call names. A call without a status takes only types whose numbers are all in range. No call
 /// takes a `bool`, a character or a floating point number.
+///
+/// If several reasons hold, the status is the one that the comment of the call names first.
+///
+/// A pointer points to as many aligned items as the length after it says, and may be null if that is 0. During the call nothing
+/// else reads or writes the items that the call writes, and nothing writes those that it reads. So a list that is written overlaps
+/// no other list of the call. The same holds of containers.
 #ifndef CELLARCOVE_HPP
 #define CELLARCOVE_HPP
+
+#if (defined(_MSVC_LANG) ? _MSVC_LANG : __cplusplus) < 201703L
+#error "cellarcove.hpp needs C++17, and __cplusplus is below 201703: compile with -std=c++17, or with /std:c++17 of MSVC"
+#else
 
 #include <algorithm>
 #include <cassert>
@@ -18,6 +28,7 @@
 #include <limits>
 #include <optional>
 #include <ostream>
+#include <string>
 #include <string_view>
 #include <tuple>
 #include <type_traits>
@@ -38,6 +49,17 @@ enum class status : std::uint32_t {
 [[nodiscard]] inline const char *text(status reason) { return cellarcove_status_text(static_cast<std::uint32_t>(reason)); }
 inline std::ostream &operator<<(std::ostream &out, status reason) { return out << text(reason); }
 
+/// What `value` throws if there is none. Its text is that of the status.
+class bad_result : public std::bad_optional_access {
+  public:
+    explicit bad_result(status error) : error_(error) {}
+    [[nodiscard]] const char *what() const noexcept override { return text(error_); }
+    [[nodiscard]] status error() const noexcept { return error_; }
+
+  private:
+    status error_;
+};
+
 /// A value, or the status that says why there is none. It has the names of `std::expected`.
 template <class T> class [[nodiscard]] result {
   public:
@@ -46,7 +68,7 @@ template <class T> class [[nodiscard]] result {
 
     [[nodiscard]] constexpr bool has_value() const { return value_.has_value(); }
     constexpr explicit operator bool() const { return has_value(); }
-    /// The value. There has to be one.
+    /// The value. There has to be one: if there is none, an `assert` fails, and with `NDEBUG` the behavior is undefined.
     [[nodiscard]] constexpr const T &operator*() const {
         assert(has_value());
         return *value_;
@@ -55,8 +77,15 @@ template <class T> class [[nodiscard]] result {
         assert(has_value());
         return &*value_;
     }
-    /// The value. It throws `std::bad_optional_access` if there is none.
-    [[nodiscard]] constexpr const T &value() const { return value_.value(); }
+    /// The value. It throws `bad_result`, which is a `std::bad_optional_access`, if there is none.
+    [[nodiscard]] constexpr const T &value() const {
+#ifdef __cpp_exceptions
+        if (!has_value()) {
+            throw bad_result(error_);
+        }
+#endif
+        return value_.value();
+    }
     [[nodiscard]] constexpr T value_or(T other) const { return has_value() ? *value_ : other; }
     /// The status, which is `status::answer` if there is a value.
     [[nodiscard]] constexpr status error() const { return error_; }
@@ -78,6 +107,9 @@ template <class T> class [[nodiscard]] result {
     std::optional<T> value_;
     status error_ = status::answer;
 };
+
+/// The value, or the words for the status.
+template <class T> auto operator<<(std::ostream &out, const result<T> &a) -> decltype(out << *a) { return a ? out << *a : out << a.error(); }
 
 /// A quotient and its remainder.
 template <class T> struct division {
@@ -152,14 +184,24 @@ constexpr bool has_all_of = is_number<N> && (std::is_signed_v<T> || !std::is_sig
 
 /// Whether the numbers are signed. They have to be all signed or all unsigned.
 template <class... T> constexpr bool is_signed() {
-    static_assert((is_number<T> && ...), "a call takes integers of up to 64 bits");
-    static_assert((std::is_signed_v<T> && ...) || (!std::is_signed_v<T> && ...), "the numbers of a call are all signed or all unsigned");
+    static_assert((is_number<T> && ...), "a call takes integers of up to 64 bits, and no bool, character or floating point number");
+    static_assert((std::is_signed_v<T> && ...) || (!std::is_signed_v<T> && ...),
+                  "the numbers of this call have to be all signed or all unsigned: write 8U, or convert the others");
     return (std::is_signed_v<T> && ...);
 }
 
+/// Whether the items of a container in one piece have one of the types.
+template <class Items, class... T>
+constexpr bool has_items = is_one_of<std::remove_cv_t<std::remove_pointer_t<decltype(std::declval<Items &>().data())>>, T...>;
+
 /// A number of a type that has no number outside `T`.
 template <class T> struct exact {
-    template <class N, std::enable_if_t<has_all_of<T, N>, int> = 0> constexpr exact(N number) : value(number) {}
+    template <class N> constexpr exact(N number) : value(static_cast<T>(number)) {
+        static_assert(is_number<N>, "a call takes integers of up to 64 bits, and no bool, character or floating point number");
+        static_assert(!is_number<N> || std::is_signed_v<T> || !std::is_signed_v<N>, "this number has to be unsigned: write 8U, or convert it");
+        static_assert(!is_number<N> || std::numeric_limits<N>::digits <= std::numeric_limits<T>::digits,
+                      "the type of this number has numbers that are out of range: convert it");
+    }
     T value;
 };
 
@@ -199,7 +241,7 @@ template <class... T> constexpr status error_of(const checked<T> &...numbers) {
 /// The text of a fraction, a decimal number, a date or a week. Of the settings of a stream only the width and the fill change it.
 class line {
   public:
-    void add(char part) { *end_++ = part; }
+    void add(char part) { text_[length_++] = part; }
     /// Adds a number with at least so many digits.
     void add(std::uint64_t number, std::ptrdiff_t digits) {
         char found[20];
@@ -207,7 +249,7 @@ class line {
         for (auto missing = digits - (last - found); missing > 0; missing--) {
             add('0');
         }
-        end_ = std::copy(static_cast<const char *>(found), last, end_);
+        std::for_each(static_cast<const char *>(found), last, [this](char digit) { add(digit); });
     }
     /// Adds a year of ISO 8601, which has a sign if it is not from 0 to 9999.
     void add_year(std::int64_t year) {
@@ -219,13 +261,11 @@ class line {
     static constexpr std::uint64_t magnitude(std::int64_t number) {
         return number < 0 ? 0 - static_cast<std::uint64_t>(number) : static_cast<std::uint64_t>(number);
     }
-    friend std::ostream &operator<<(std::ostream &out, const line &all) {
-        return out << std::string_view(all.text_, static_cast<std::size_t>(all.end_ - all.text_));
-    }
+    [[nodiscard]] std::string_view view() const { return {text_, length_}; }
 
   private:
     char text_[48];
-    char *end_ = text_;
+    std::size_t length_ = 0;
 };
 
 } // namespace detail
@@ -301,34 +341,16 @@ using u64_congruence = cellarcove_u64_congruence;
 [[nodiscard]] inline bool operator>(const fraction &a, const fraction &b) { return b < a; }
 [[nodiscard]] inline bool operator<=(const fraction &a, const fraction &b) { return !(b < a); }
 [[nodiscard]] inline bool operator>=(const fraction &a, const fraction &b) { return !(a < b); }
-inline std::ostream &operator<<(std::ostream &out, const fraction &a) {
-    detail::line line;
-    if (a.num() < 0) {
-        line.add('-');
-    }
-    line.add(detail::line::magnitude(a.num()), 1);
-    if (a.den() != 1) {
-        line.add('/');
-        line.add(detail::line::magnitude(a.den()), 1);
-    }
-    return out << line;
-}
-
-inline std::ostream &operator<<(std::ostream &out, const decimal &a) {
-    detail::line line;
-    if (a.is_negative) {
-        line.add('-');
-    }
-    line.add(a.whole, 1);
-    if (a.places > 0) {
-        line.add('.');
-        line.add(a.part, static_cast<std::ptrdiff_t>(a.places));
-    }
-    return out << line;
-}
-
 /// The date some days later.
 [[nodiscard]] inline result<date> operator+(const date &a, detail::checked<std::int64_t> days) { return plus_days(a, days); }
+/// The date some days earlier.
+[[nodiscard]] inline result<date> operator-(const date &a, detail::checked<std::int64_t> days) {
+    if (days.value == std::numeric_limits<std::int64_t>::min()) { // its negated number does not fit
+        return (a + std::numeric_limits<std::int64_t>::max()).and_then([](const date &b) { return b + 1; });
+    }
+    days.value = -days.value;
+    return a + days;
+}
 /// The days from `b` to `a`.
 [[nodiscard]] inline result<std::int64_t> operator-(const date &a, const date &b) { return days_between(b, a); }
 [[nodiscard]] constexpr bool operator==(const date &a, const date &b) {
@@ -341,24 +363,70 @@ inline std::ostream &operator<<(std::ostream &out, const decimal &a) {
 [[nodiscard]] constexpr bool operator>(const date &a, const date &b) { return b < a; }
 [[nodiscard]] constexpr bool operator<=(const date &a, const date &b) { return !(b < a); }
 [[nodiscard]] constexpr bool operator>=(const date &a, const date &b) { return !(a < b); }
-inline std::ostream &operator<<(std::ostream &out, const date &a) {
-    detail::line line;
-    line.add_year(a.year());
-    for (int part : {a.month(), a.day_of_month()}) {
-        line.add('-');
-        line.add(static_cast<std::uint64_t>(part), 2);
+
+// ---- texts
+
+namespace detail {
+
+[[nodiscard]] inline line line_of(const fraction &a) {
+    line text;
+    if (a.num() < 0) {
+        text.add('-');
     }
-    return out << line;
+    text.add(line::magnitude(a.num()), 1);
+    if (a.den() != 1) {
+        text.add('/');
+        text.add(line::magnitude(a.den()), 1);
+    }
+    return text;
 }
-inline std::ostream &operator<<(std::ostream &out, const week_of_year &a) {
-    detail::line line;
-    line.add_year(a.year);
-    line.add('-');
-    line.add('W');
-    line.add(static_cast<std::uint64_t>(a.week), 2);
-    return out << line;
+
+[[nodiscard]] inline line line_of(const decimal &a) {
+    line text;
+    if (a.is_negative) {
+        text.add('-');
+    }
+    text.add(a.whole, 1);
+    if (a.places > 0) {
+        text.add('.');
+        text.add(a.part, static_cast<std::ptrdiff_t>(a.places));
+    }
+    return text;
 }
+
+[[nodiscard]] inline line line_of(const date &a) {
+    line text;
+    text.add_year(a.year());
+    for (int part : {a.month(), a.day_of_month()}) {
+        text.add('-');
+        text.add(static_cast<std::uint64_t>(part), 2);
+    }
+    return text;
+}
+
+[[nodiscard]] inline line line_of(const week_of_year &a) {
+    line text;
+    text.add_year(a.year);
+    text.add('-');
+    text.add('W');
+    text.add(static_cast<std::uint64_t>(a.week), 2);
+    return text;
+}
+
+} // namespace detail
+
+inline std::ostream &operator<<(std::ostream &out, const fraction &a) { return out << detail::line_of(a).view(); }
+inline std::ostream &operator<<(std::ostream &out, const decimal &a) { return out << detail::line_of(a).view(); }
+inline std::ostream &operator<<(std::ostream &out, const date &a) { return out << detail::line_of(a).view(); }
+inline std::ostream &operator<<(std::ostream &out, const week_of_year &a) { return out << detail::line_of(a).view(); }
+
+/// What a stream gets of it.
+[[nodiscard]] inline std::string to_string(const fraction &a) { return std::string(detail::line_of(a).view()); }
+[[nodiscard]] inline std::string to_string(const decimal &a) { return std::string(detail::line_of(a).view()); }
+[[nodiscard]] inline std::string to_string(const date &a) { return std::string(detail::line_of(a).view()); }
+[[nodiscard]] inline std::string to_string(const week_of_year &a) { return std::string(detail::line_of(a).view()); }
 
 } // namespace cellarcove
 
+#endif
 #endif

@@ -1,5 +1,6 @@
 /// The same for a container of {items} in one piece.
 template <{types}>
-[[nodiscard]] auto {name}({parameters}) -> decltype({name}({passed})) {
+[[nodiscard]] auto {name}({parameters}) {
+    {asserts}
     return {name}({passed});
 }
