@@ -56,6 +56,7 @@ pub fn invoice_total(lines: &[(i64, i64)]) -> Option<i64>
 
 /// Returns the same at an unsigned type.
 pub fn natural_invoice_total(lines: &[(u64, u64)]) -> Option<u64>
+    requires { All (λ line. FitsUnsignedBits 64 (pos line.0) × FitsUnsignedBits 64 (pos line.1)) lines.now }
     ensures { MatchOption result
         (¬ (FitsUnsignedBits 64 (signed_sum (map (λ line. pos line.0 *ℤ pos line.1) lines.now))))
         (λ total. pos total ≡ signed_sum (map (λ line. pos line.0 *ℤ pos line.1) lines.now)) }

@@ -11,7 +11,7 @@ ghost use Rattle.num_integer.specs.Division.{IsFloored, IsQuotient};
 ghost use Rattle.num_integer.specs.Range.{EachFits};
 ghost use Rattle.applied.specs.Counting.{falling};
 ghost use Rattle.applied.specs.Powers.{IsLogarithm};
-ghost use Rattle.applied.specs.Rounding.{AnswersQuotient, IsNearest, IsNearestEven};
+ghost use Rattle.applied.specs.Rounding.{IsNearest, IsNearestEven};
 
 use applied::counting::{self, falling};
 use applied::halving::{lower_bound, midpoint};
@@ -84,9 +84,14 @@ pub fn nearest_checked(total: i64, count: i64) -> Option<i64>
 /// `tax_of(1999, 19)` is `Some(380)`. Returns the tax of so many percent on an amount. A half is rounded away from zero. The product need
 /// not fit.
 pub fn tax_of(amount: i64, percent: i64) -> Option<i64>
-    ensures { AnswersQuotient IsNearest (FitsSigned w64) (λ x. x) (amount *ℤ percent) (pos 100) result }
+    ensures { MatchOption result
+        (¬ EachFits (FitsSigned w64) (IsQuotient IsNearest (amount *ℤ percent) (pos 100)))
+        (λ tax. IsQuotient IsNearest (amount *ℤ percent) (pos 100) tax) }
 {
-    rounding::checked::product_div_round(amount, percent, 100)
+    match rounding::checked::product_div_round(amount, percent, 100) {
+        Some(tax) => Some(tax),
+        None => None,
+    }
 }
 
 /// `net_of_gross(11900, 119)` is `Some(10000)`. Returns the amount that is the gross amount with a tax. `percent` is what the gross amount
