@@ -22,7 +22,8 @@ with_name() { "$2" -I bindings/c -c bindings/c/library.c -o "$work/library.o" &&
 
 by_rattle() { calls_over_proved "$work/rattle_arm.a" --target "$target" && with_name "$work/rattle_arm.a" "$compiler"; }
 on_this_machine() { calls_over_proved "$work/x86.a" && with_name "$work/x86.a" cc; }
-on_this_machine_by_cargo() {
+on_this_machine_by_cargo() { bindings/build --cargo "$work/here" && cp "$work/here/libcellarcove_c.a" "$work/x86.a"; }
+by_cargo() {
     CC=$compiler AR=${compiler%gcc}ar bindings/build --cargo --target "$target" "$work/arm" && cp "$work/arm/libcellarcove_c.a" "$work/cargo_arm.a"
 }
 
