@@ -158,26 +158,27 @@ pub mod integer_core {
     //! abbrev pub EuclidEnds : Remainders → Type 0
     //! EuclidEnds s = Divides s.current s.previous
     //! ```
-    //! ## `IsEuclidTurn`
-    //! If the current remainder does not divide the previous one, a turn replaces the two by
+    //! ## `IsEuclidIteration`
+    //! If the current remainder does not divide the previous one, an iteration replaces the two by
     //! previous - q·current and current, with the truncated quotient q of the two. Examples: 46 and
     //! 240 to 10 and 46; 10 and 46 to 6 and 10; none from 2 and 4.
     //! ```text
-    //! pub record IsEuclidTurn (s t : Remainders) : Type 0 where
+    //! pub record IsEuclidIteration (s t : Remainders) : Type 0 where
     //!   pub goes_on : ¬ (EuclidEnds s)
     //!   pub quotient : ℤ
     //!   pub truncated : IsQuotient IsTruncated s.previous s.current quotient
     //!   pub current : t.current ≡ s.previous -ℤ quotient *ℤ s.current
     //!   pub previous : t.previous ≡ s.current
     //! ```
-    //! ## `AreEuclidTurns`
-    //! n is 0 if b is 0, and otherwise the number of turns of the run that begins with the current
-    //! remainder b and the previous one a. Examples: 240 and 46: 4; 12 and 4: 0; 8 and 13: 5.
+    //! ## `AreEuclidIterations`
+    //! n is 0 if b is 0, and otherwise the number of iterations of the run that begins with the
+    //! current remainder b and the previous one a. Examples: 240 and 46: 4; 12 and 4: 0; 8 and 13:
+    //! 5.
     //! ```text
-    //! pub record AreEuclidTurns (a b : ℤ) (n : ℕ) : Type 0 where
+    //! pub record AreEuclidIterations (a b : ℤ) (n : ℕ) : Type 0 where
     //!   pub of_zero : b ≡ pos 0 → n ≡ 0
-    //!     pub of_nonzero : b ≢ pos 0 → RunHasTurns IsEuclidTurn EuclidEnds (record { current = b;
-    //!       previous = a }) n
+    //!     pub of_nonzero : b ≢ pos 0 → RunHasIterations IsEuclidIteration EuclidEnds (record {
+    //!       current = b; previous = a }) n
     //! ```
     //! ## `AnswersWhere`
     //! The result is `Some` of a value with the property in the domain, and `None` outside it.
@@ -187,12 +188,12 @@ pub mod integer_core {
     //! abbrev pub AnswersWhere : {A : Type 0} → Type 0 → (A → Type 0) → Option A → Type 0
     //! AnswersWhere domain answer result = MatchOption result (¬ domain) (λ r. domain × answer r)
     //! ```
-    //! ## `Has`
+    //! ## `FitsWith`
     //! The number that x means is in the range of its type and has the property. Examples: of 'is
     //! 100 + 27' in i8: 127 has it; nothing has that of 'is 100 + 28'.
     //! ```text
-    //! abbrev pub Has : (ℤ → Type 0) → {X : Type 0} → (X → ℤ) → (ℤ → Type 0) → X → Type 0
-    //! Has fits value P x = fits (value x) × P (value x)
+    //! abbrev pub FitsWith : (ℤ → Type 0) → {X : Type 0} → (X → ℤ) → (ℤ → Type 0) → X → Type 0
+    //! FitsWith fits value P x = fits (value x) × P (value x)
     //! ```
     //! ## `IsDivision`
     //! n is q times d plus r, and the magnitude of r is below that of d. Examples: 8 by 3: 2 and 2;
@@ -345,40 +346,40 @@ pub mod integer_core {
     //! abbrev pub GcdEnds : OddPair → Type 0
     //! GcdEnds s = s.m ≡ s.n
     //! ```
-    //! ## `IsLeftTurn`
+    //! ## `IsLeftIteration`
     //! The first number is the larger one, and becomes their difference with all factors 2 taken
     //! out. Examples: 5, 3 to 1, 3; 21, 7 to 7, 7; none from 3, 5.
     //! ```text
-    //! pub record IsLeftTurn (s t : OddPair) : Type 0 where
+    //! pub record IsLeftIteration (s t : OddPair) : Type 0 where
     //!   pub above : s.n < s.m
     //!   pub m : IsOddPart (s.m - s.n) t.m
     //!   pub n : t.n ≡ s.n
     //! ```
-    //! ## `IsRightTurn`
+    //! ## `IsRightIteration`
     //! The second number is the larger one, and becomes their difference with all factors 2 taken
     //! out. Examples: 3, 5 to 3, 1; 7, 21 to 7, 7; none from 5, 3.
     //! ```text
-    //! pub record IsRightTurn (s t : OddPair) : Type 0 where
+    //! pub record IsRightIteration (s t : OddPair) : Type 0 where
     //!   pub above : s.m < s.n
     //!   pub m : t.m ≡ s.m
     //!   pub n : IsOddPart (s.n - s.m) t.n
     //! ```
-    //! ## `IsGcdTurn`
-    //! A turn subtracts the smaller number of the pair from the larger, and takes all factors 2 out
-    //! of the difference. Examples: 5, 3 to 1, 3; 7, 21 to 7, 7; none from 7, 7.
+    //! ## `IsGcdIteration`
+    //! An iteration subtracts the smaller number of the pair from the larger, and takes all factors
+    //! 2 out of the difference. Examples: 5, 3 to 1, 3; 7, 21 to 7, 7; none from 7, 7.
     //! ```text
-    //! abbrev pub IsGcdTurn : OddPair → OddPair → Type 0
-    //! IsGcdTurn s t = IsLeftTurn s t ⊎ IsRightTurn s t
+    //! abbrev pub IsGcdIteration : OddPair → OddPair → Type 0
+    //! IsGcdIteration s t = IsLeftIteration s t ⊎ IsRightIteration s t
     //! ```
     //! ## `MakesGcdRun`
-    //! Stein's loop makes n turns from a and b with all factors 2 taken out. Examples: 56 and 42:
-    //! 1; 5 and 3: 2; 8 and 4: 0.
+    //! Stein's loop makes n iterations from a and b with all factors 2 taken out. Examples: 56 and
+    //! 42: 1; 5 and 3: 2; 8 and 4: 0.
     //! ```text
     //! pub record MakesGcdRun (a b n : ℕ) : Type 0 where
     //!   pub first : OddPair
     //!   pub left : IsOddPart a first.m
     //!   pub right : IsOddPart b first.n
-    //!   pub run : RunHasTurns IsGcdTurn GcdEnds first n
+    //!   pub run : RunHasIterations IsGcdIteration GcdEnds first n
     //! ```
     //! ## `IsZeroOrLeast`
     //! x is 0, or low, the smallest number of a type. Examples: of i8: 0; -128; not 1.
@@ -386,13 +387,13 @@ pub mod integer_core {
     //! abbrev pub IsZeroOrLeast : ℤ → ℤ → Type 0
     //! IsZeroOrLeast low x = (x ≡ pos 0) ⊎ (x ≡ low)
     //! ```
-    //! ## `AreGcdTurns`
-    //! n is 0 if a or b is 0 or low, and otherwise the number of turns of the run from the
+    //! ## `AreGcdIterations`
+    //! n is 0 if a or b is 0 or low, and otherwise the number of iterations of the run from the
     //! magnitudes of a and b. Examples: 56 and 42: 1; 5 and 3: 2; i64 MIN and 3: 0.
     //! ```text
-    //! pub record AreGcdTurns (low a b : ℤ) (n : ℕ) : Type 0 where
+    //! pub record AreGcdIterations (low a b : ℤ) (n : ℕ) : Type 0 where
     //!   pub at_once : IsZeroOrLeast low a ⊎ IsZeroOrLeast low b → n ≡ 0
-    //!     pub by_turns : ¬ (IsZeroOrLeast low a) → ¬ (IsZeroOrLeast low b) → MakesGcdRun
+    //!     pub by_iterations : ¬ (IsZeroOrLeast low a) → ¬ (IsZeroOrLeast low b) → MakesGcdRun
     //!       (unsigned_abs a) (unsigned_abs b) n
     //! ```
     //! ## `IsBitLength`
@@ -407,19 +408,19 @@ pub mod integer_core {
     //! t is the smallest number with the property that is at least `from`. Examples: of the even
     //! numbers: from 7: 8; from 8: 8; of the numbers at most 5: from 6: no number.
     //! ```text
-    //! pub record IsLeastFrom (from : ℤ) (Has : ℤ → Type 0) (t : ℤ) : Type 0 where
+    //! pub record IsLeastFrom (from : ℤ) (FitsWith : ℤ → Type 0) (t : ℤ) : Type 0 where
     //!   pub from_there : from ≤ℤ t
-    //!   pub holds : Has t
-    //!   pub least : (u : ℤ) → from ≤ℤ u → Has u → t ≤ℤ u
+    //!   pub holds : FitsWith t
+    //!   pub least : (u : ℤ) → from ≤ℤ u → FitsWith u → t ≤ℤ u
     //! ```
     //! ## `IsGreatestTo`
     //! t is the largest number with the property that is at most `to`. Examples: of the even
     //! numbers: to 7: 6; to 6: 6; of the numbers at least 5: to 4: no number.
     //! ```text
-    //! pub record IsGreatestTo (to : ℤ) (Has : ℤ → Type 0) (t : ℤ) : Type 0 where
+    //! pub record IsGreatestTo (to : ℤ) (FitsWith : ℤ → Type 0) (t : ℤ) : Type 0 where
     //!   pub to_there : t ≤ℤ to
-    //!   pub holds : Has t
-    //!   pub greatest : (u : ℤ) → u ≤ℤ to → Has u → u ≤ℤ t
+    //!   pub holds : FitsWith t
+    //!   pub greatest : (u : ℤ) → u ≤ℤ to → FitsWith u → u ≤ℤ t
     //! ```
     //! ## `IsOnly`
     //! x is the only one with the property P: whatever has it is x. Examples: being twice itself:
@@ -449,24 +450,24 @@ pub mod integer_core {
     //! EachFits fits P = (z : ℤ) → P z → fits z
     //! ```
     //! ## `IsRun`
-    //! Each state follows from the one before by a turn, and the loop ends at the last. Examples:
-    //! of Euclid's loop from 46 and 240: five states; from 4 and 12: one state; the empty list is
-    //! no run.
+    //! Each state follows from the one before by an iteration, and the loop ends at the last.
+    //! Examples: of Euclid's loop from 46 and 240: five states; from 4 and 12: one state; the empty
+    //! list is no run.
     //! ```text
     //! abbrev pub IsRun : {S : Type 0} → (S → S → Type 0) → (S → Type 0) → List S → Type 0
-    //! IsRun turn ends [] = ⊥
-    //! IsRun turn ends (s ∷ []) = ends s
-    //! IsRun turn ends (s ∷ (t ∷ rest)) = turn s t × IsRun turn ends (t ∷ rest)
+    //! IsRun iteration ends [] = ⊥
+    //! IsRun iteration ends (s ∷ []) = ends s
+    //! IsRun iteration ends (s ∷ (t ∷ rest)) = iteration s t × IsRun iteration ends (t ∷ rest)
     //! ```
-    //! ## `RunHasTurns`
-    //! The run that begins with the first state has n turns, one fewer than it has states.
+    //! ## `RunHasIterations`
+    //! The run that begins with the first state has n iterations, one fewer than it has states.
     //! Examples: from 46 and 240: 4; from 4 and 12: 0; from 13 and 8: 5.
     //! ```text
-    //! pub record RunHasTurns {S : Type 0} (turn : S → S → Type 0) (ends : S → Type 0) (first : S)
-    //!     (n : ℕ) : Type 0 where
+    //! pub record RunHasIterations {S : Type 0} (iteration : S → S → Type 0) (ends : S → Type 0)
+    //!     (first : S) (n : ℕ) : Type 0 where
     //!   pub rest : List S
-    //!   pub run : IsRun turn ends (first ∷ rest)
-    //!   pub turns : length rest ≡ n
+    //!   pub run : IsRun iteration ends (first ∷ rest)
+    //!   pub iterations : length rest ≡ n
     //! ```
 }
 
@@ -527,16 +528,16 @@ pub mod integer_roots {
     //!   Rising : ℕ → Guess
     //!   Falling : ℕ → Guess
     //! ```
-    //! ## `IsNewtonTurn`
+    //! ## `IsNewtonIteration`
     //! The first loop takes a step that rises, and the second takes one that falls, from a guess of
     //! either loop. Examples: of 99: Rising 8 to Rising 10; Rising 10 to Falling 9; none from
     //! Falling 9.
     //! ```text
-    //! abbrev pub IsNewtonTurn : ℕ → Guess → Guess → Type 0
-    //! IsNewtonTurn a (Rising x) (Rising y) = (x < y) × (y ≡ square_step a x)
-    //! IsNewtonTurn a (Rising x) (Falling y) = (y < x) × (y ≡ square_step a x)
-    //! IsNewtonTurn a (Falling x) (Falling y) = (y < x) × (y ≡ square_step a x)
-    //! IsNewtonTurn a (Falling x) (Rising y) = ⊥
+    //! abbrev pub IsNewtonIteration : ℕ → Guess → Guess → Type 0
+    //! IsNewtonIteration a (Rising x) (Rising y) = (x < y) × (y ≡ square_step a x)
+    //! IsNewtonIteration a (Rising x) (Falling y) = (y < x) × (y ≡ square_step a x)
+    //! IsNewtonIteration a (Falling x) (Falling y) = (y < x) × (y ≡ square_step a x)
+    //! IsNewtonIteration a (Falling x) (Rising y) = ⊥
     //! ```
     //! ## `NewtonEnds`
     //! The loops end at a rising guess whose step is the same guess, and at a falling guess whose
@@ -561,21 +562,22 @@ pub mod integer_roots {
     //! first_guess top = 2 ^ ((top + 1) / 2)
     //! ```
     //! ## `MakesNewtonRun`
-    //! The two loops make n turns from the first guess for the square root of a. Examples: 99: 2,
-    //! by 8, 10, 9; 15: 1, by 4, 3; 16: 0.
+    //! The two loops make n iterations from the first guess for the square root of a. Examples: 99:
+    //! 2, by 8, 10, 9; 15: 1, by 4, 3; 16: 0.
     //! ```text
     //! pub record MakesNewtonRun (a n : ℕ) : Type 0 where
     //!   pub top : ℕ
     //!   pub highest : IsHighestBit a top
-    //!   pub run : RunHasTurns (IsNewtonTurn a) (NewtonEnds a) (Rising (first_guess top)) n
+    //!     pub run : RunHasIterations (IsNewtonIteration a) (NewtonEnds a) (Rising (first_guess
+    //!       top)) n
     //! ```
-    //! ## `AreSquareRootTurns`
-    //! The number of turns is 0 for x below 4, and otherwise that of the run of the two loops.
+    //! ## `AreSquareRootIterations`
+    //! The number of iterations is 0 for x below 4, and otherwise that of the run of the two loops.
     //! Examples: 99: 2; 15: 1; 3: 0.
     //! ```text
-    //! pub record AreSquareRootTurns (x : ℤ) (turns : ℕ) : Type 0 where
-    //!   pub below_four : x <ℤ pos 4 → turns ≡ 0
-    //!   pub from_four : pos 4 ≤ℤ x → MakesNewtonRun (unsigned_abs x) turns
+    //! pub record AreSquareRootIterations (x : ℤ) (iterations : ℕ) : Type 0 where
+    //!   pub below_four : x <ℤ pos 4 → iterations ≡ 0
+    //!   pub from_four : pos 4 ≤ℤ x → MakesNewtonRun (unsigned_abs x) iterations
     //! ```
 }
 
@@ -749,11 +751,11 @@ pub mod modular {
     //! abbrev pub IsPreviousCongruent : ℤ → ℤ → ℤ → ℤ → Type 0
     //! IsPreviousCongruent to first step t = IsGreatestTo to (λ u. AreCongruent step u first) t
     //! ```
-    //! ## `IsCongruentTo`
+    //! ## `IsCongruentUpTo`
     //! x is at most `to`, and congruent to first modulo step. Examples: to 10, first 1, step 4: 9,
     //! 5 and -3; not: 13.
     //! ```text
-    //! pub record IsCongruentTo (to first step x : ℤ) : Type 0 where
+    //! pub record IsCongruentUpTo (to first step x : ℤ) : Type 0 where
     //!   pub to_there : x ≤ℤ to
     //!   pub congruent : AreCongruent step x first
     //! ```
@@ -762,8 +764,8 @@ pub mod modular {
     //! to 10, first 1, step 4: 3 (1, 5 and 9).
     //! ```text
     //! abbrev pub IsCountOfCongruent : ℤ → ℤ → ℤ → ℤ → ℤ → Type 0
-    //! IsCountOfCongruent from to first step count = IsCountFrom from (IsCongruentTo to first step)
-    //!     count
+    //! IsCountOfCongruent from to first step count = IsCountFrom from (IsCongruentUpTo to first
+    //!     step) count
     //! ```
     //! ## `IsNextCommonSolution`
     //! t is the smallest number from `from` on that is a modulo m and b modulo n. Examples: from
@@ -785,16 +787,17 @@ pub mod modular {
     //! increasing order. Examples: being even and at most 7: from 3: 4, 6; from 7: none.
     //! ```text
     //! abbrev pub AreAllFrom : ℤ → (ℤ → Type 0) → List ℤ → Type 0
-    //! AreAllFrom from Has [] = (u : ℤ) → from ≤ℤ u → ¬ (Has u)
-    //! AreAllFrom from Has (t ∷ items) = IsLeastFrom from Has t × AreAllFrom (t +ℤ pos 1) Has items
+    //! AreAllFrom from FitsWith [] = (u : ℤ) → from ≤ℤ u → ¬ (FitsWith u)
+    //! AreAllFrom from FitsWith (t ∷ items) = IsLeastFrom from FitsWith t × AreAllFrom (t +ℤ pos 1)
+    //!     FitsWith items
     //! ```
     //! ## `IsCountFrom`
     //! The count is the number of the numbers from `from` on that have the property. It is the
     //! length of their list. Examples: being even and at most 7: from 3: 2; from 7: 0.
     //! ```text
-    //! pub record IsCountFrom (from : ℤ) (Has : ℤ → Type 0) (count : ℤ) : Type 0 where
+    //! pub record IsCountFrom (from : ℤ) (FitsWith : ℤ → Type 0) (count : ℤ) : Type 0 where
     //!   pub items : List ℤ
-    //!   pub all : AreAllFrom from Has items
+    //!   pub all : AreAllFrom from FitsWith items
     //!   pub counted : count ≡ pos (length items)
     //! ```
 }
@@ -1762,7 +1765,7 @@ pub mod applied {
     //! abbrev pub AnswersQuotient : (ℤ → ℤ → ℤ → ℤ → Type 0) → (ℤ → Type 0) → {X : Type 0} → (X →
     //!     ℤ) → ℤ → ℤ → Option X → Type 0
     //! AnswersQuotient Kind fits value n d result = AnswersWhere ((d ≢ pos 0) × EachFits fits
-    //!     (IsQuotient Kind n d)) (Has fits value (IsQuotient Kind n d)) result
+    //!     (IsQuotient Kind n d)) (FitsWith fits value (IsQuotient Kind n d)) result
     //! ```
     //! ## `IsTime`
     //! The time t is the first time, or a whole number of periods after it. Examples: first 3,

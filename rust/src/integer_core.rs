@@ -6,13 +6,13 @@ mod bezout;
 pub(crate) mod counted;
 mod division;
 mod divisors;
+pub(crate) mod fitting;
 pub(crate) mod guards;
 mod native;
 mod native_integer;
 #[doc(hidden)]
 pub mod operators;
 pub(crate) mod padded;
-pub(crate) mod plain;
 mod stein;
 
 use bezout::extended_gcd_counted;

@@ -21,8 +21,8 @@ pub mod counted;
 pub mod counting;
 #[cfg(doc)]
 pub mod definitions;
-mod domains;
 mod errors;
+mod fits_trait;
 mod guards;
 pub mod halving;
 mod integer_core;
@@ -49,5 +49,5 @@ pub use crate::integer_core::{
 };
 pub use crate::integer_roots::{average_ceil, average_floor, cbrt, nth_root, sqrt, Average, Roots};
 pub use coefficients::{binomial, multinomial};
-pub use domains::Fits;
+pub use fits_trait::Fits;
 pub use rows::IterBinomial;

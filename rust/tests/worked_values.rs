@@ -17,11 +17,11 @@ use std::fmt::Debug;
 const P64: u64 = 18446744073709551557;
 const P128: u128 = 340282366920938463463374607431768211297;
 
-/// The power and the turns, by both calls.
+/// The power and the iterations, by both calls.
 fn power<T: Modular + Copy + Debug>(a: T, exponent: u128, m: T) -> (T, u32) {
-    let (power, turns) = power_modulo_counted(a, exponent, m);
+    let (power, iterations) = power_modulo_counted(a, exponent, m);
     assert_eq!(power_modulo(a, exponent, m), power);
-    (power, turns)
+    (power, iterations)
 }
 
 #[test]
@@ -437,8 +437,8 @@ macro_rules! residues_at_the_ends {
             for (a, z) in numbers {
                 assert_eq!((residue(a, M), negation_modulo(a, M)), (rest(z), rest(-z)), "{a}");
                 assert_eq!(inverse_modulo(a, M), quotient(1, z), "{a}");
-                for (degree, turns) in [(0, 0), (1, 0), (2, 1), (5, 2)] {
-                    assert_eq!(power(a, u128::from(degree), M), (rest(z.pow(degree)), turns), "{a} {degree}");
+                for (degree, iterations) in [(0, 0), (1, 0), (2, 1), (5, 2)] {
+                    assert_eq!(power(a, u128::from(degree), M), (rest(z.pow(degree)), iterations), "{a} {degree}");
                 }
                 for (b, w) in numbers {
                     assert_eq!(sum_modulo(a, b, M), rest(z + w), "{a} {b}");

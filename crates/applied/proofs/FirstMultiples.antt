@@ -1,6 +1,6 @@
 -- The least common multiple of a list is its first positive common multiple.
 use Rattle.std.specs.Prelude.{◌≢◌, ◌<◌, ◌≤◌, ◌^◌, ◌<ℤ◌, ◌∷◌}
-use Rattle.applied.proofs.Common.{ℕ, ℤ, pos, List, [], Option, Some, None, All, MatchOption, arith, inl, inr, ints, linear, cases_lt, subst, sym, All-nil, AnswersWhere, Divides, EachFits, Has, IsLeastFrom, divisor_at_most, least_is_only, IsLeastCommonMultipleOf}
+use Rattle.applied.proofs.Common.{ℕ, ℤ, pos, List, [], Option, Some, None, All, MatchOption, arith, inl, inr, ints, linear, cases_lt, subst, sym, All-nil, AnswersWhere, Divides, EachFits, FitsWith, IsLeastFrom, divisor_at_most, least_is_only, IsLeastCommonMultipleOf}
 use Rattle.std.specs.Int.{FitsUnsignedBits}
 use Rattle.std.proofs.lemmas.List.Elements.{All-cons}
 use Rattle.applied.proofs.ListDivisors.{only_lcm_of, positive_lcm_of}
@@ -27,7 +27,7 @@ lcm_of_is_first_common_multiple = λ numbers l nonzero. (
 
 -- A call that does returns the first common multiple, or no first common multiple fits.
 pub first_multiple_of_answers : {X : Type 0} (value : X → ℤ) (fits : ℤ → Type 0) (numbers : List ℤ) (r : Option X) → All (λ x. x ≢ pos 0) numbers
-    → AnswersWhere (EachFits fits (IsLeastCommonMultipleOf numbers)) (Has fits value (IsLeastCommonMultipleOf numbers)) r
+    → AnswersWhere (EachFits fits (IsLeastCommonMultipleOf numbers)) (FitsWith fits value (IsLeastCommonMultipleOf numbers)) r
     → MatchOption r ((t : ℤ) → IsLeastFrom (pos 1) (λ u. All (λ x. Divides x u) numbers) t → ¬ (fits t)) (λ x. IsLeastFrom (pos 1) (λ u. All (λ x. Divides x u) numbers) (value x))
 first_multiple_of_answers value fits numbers (Some x) nonzero h = lcm_of_is_first nonzero h.1.1
 first_multiple_of_answers value fits numbers None nonzero none = λ t first t_fits. none (λ z is. subst fits (sym (least_is_only first z (lcm_of_is_first nonzero is))) t_fits)

@@ -1,7 +1,7 @@
 -- Items and their places, the items of a page, and items cut into parts whose sizes differ by at most 1.
 use Rattle.std.specs.Prelude.{◌≡◌, ◌≢◌, ◌≤ℤ◌, ◌<ℤ◌, ◌+ℤ◌, ◌-ℤ◌, ◌*ℤ◌}
 use Rattle.num_integer.proofs.ForCallers.{answers_only}
-use Rattle.applied.proofs.Common.{AnswersWhere, EachFits, Has, IfSome, None, Option, Some, ℤ, pos, arith, inl, inr, refl, IsOnly, IsRange, expand, linear, product_from_zero, products, within_fits, IsPlace, by_lt_z, IsFloored, floored_range, multiples_apart, IsRangeOfPage, only_ceiled, ℕ, negsuc, zero, suc, ◌∙◌, ap, sym, clamps, ceiled_by_range, comm, fits_below, product_at_most, IsEvenCut, IsRangeOfPart, cut_at}
+use Rattle.applied.proofs.Common.{AnswersWhere, EachFits, FitsWith, IfSome, None, Option, Some, ℤ, pos, arith, inl, inr, refl, IsOnly, IsRange, expand, linear, product_from_zero, products, within_fits, IsPlace, by_lt_z, IsFloored, floored_range, multiples_apart, IsRangeOfPage, only_ceiled, ℕ, negsuc, zero, suc, ◌∙◌, ap, sym, clamps, ceiled_by_range, comm, fits_below, product_at_most, IsEvenCut, IsRangeOfPart, cut_at}
 
 -- ---- what fits
 
@@ -42,7 +42,7 @@ pub own_item : {p q s : ℤ} → pos 0 ≤ℤ q → q <ℤ s → IsPlace (p *ℤ
 own_item from_zero below = record { equation = refl; from_zero = from_zero; below = below }
 
 -- a checked sum that is the item's number is the item
-pub item_answer : {A : Type 0} (fits : ℤ → Type 0) (value : A → ℤ) (p q s : ℤ) {total : ℤ} (r : Option A) → pos 0 ≤ℤ q → q <ℤ s → total ≡ p *ℤ s +ℤ q → AnswersWhere (fits total) (Has fits value (λ z. z ≡ total)) r
+pub item_answer : {A : Type 0} (fits : ℤ → Type 0) (value : A → ℤ) (p q s : ℤ) {total : ℤ} (r : Option A) → pos 0 ≤ℤ q → q <ℤ s → total ≡ p *ℤ s +ℤ q → AnswersWhere (fits total) (FitsWith fits value (λ z. z ≡ total)) r
     → AnswersWhere (EachFits fits (λ item. IsPlace item s p q)) (λ item. fits (value item) × IsPlace (value item) s p q) r
 item_answer fits value p q s r from_zero below is h =
     answers_only fits (λ item. IsPlace item s p q) value r (record { equation = is; from_zero = from_zero; below = below }) (λ y k. is ∙ sym k.equation) h

@@ -1,6 +1,6 @@
 -- Meetings of schedules, from solutions of their congruences from a time on at which all have begun.
 use Rattle.std.specs.Prelude.{◌≡◌, ◌<◌, ◌+◌, ◌≤ℤ◌, ◌+ℤ◌, ◌∷◌}
-use Rattle.applied.proofs.Common.{ℕ, ℤ, pos, List, [], Option, Some, None, MatchOption, Has, AreAllFrom, IsCongruentTo, IsCountOfCongruent, IsCountOfTimes, IsTimeTo, arith, cases_lt, get_or_read, inl, inr, length, slice_index_or, linear, SolvesBothCongruences, SolvesEach, IsLeastFrom, CommonSolution, At, Beyond, Never, HaveBegun, IsLeastTime, IsMeeting, IsMeetingOfEach}
+use Rattle.applied.proofs.Common.{ℕ, ℤ, pos, List, [], Option, Some, None, MatchOption, FitsWith, AreAllFrom, IsCongruentUpTo, IsCountOfCongruent, IsCountOfTimes, IsTimeTo, arith, cases_lt, get_or_read, inl, inr, length, slice_index_or, linear, SolvesBothCongruences, SolvesEach, IsLeastFrom, CommonSolution, At, Beyond, Never, HaveBegun, IsLeastTime, IsMeeting, IsMeetingOfEach}
 
 -- the next solution from the least time on at which all have begun is the next meeting
 module _ {now from : ℤ} {Begun Solves Meets : ℤ → Type 0} (begun : IsLeastFrom now Begun from) (meets : (t : ℤ) → from ≤ℤ t → Solves t → Meets t) (apart : (t : ℤ) → Meets t → Begun t × Solves t) where
@@ -46,7 +46,7 @@ begun_more value schedules k schedule within is later own begun i d upto = elim 
 -- ---- the times of one schedule
 
 -- from a time on at which the schedule has begun, its times are the congruent numbers
-times_since : (first period to start : ℤ) → first ≤ℤ start → (items : List ℤ) → AreAllFrom start (IsCongruentTo to first period) items → AreAllFrom start (IsTimeTo first period to) items
+times_since : (first period to start : ℤ) → first ≤ℤ start → (items : List ℤ) → AreAllFrom start (IsCongruentUpTo to first period) items → AreAllFrom start (IsTimeTo first period to) items
 times_since first period to start begun [] none = λ u above h. none u above record { to_there = h.to_there; congruent = h.time.congruent }
 times_since first period to start begun (t ∷ items) (next, rest) = (
   record {
@@ -73,7 +73,7 @@ count_of_times : {from first period to start n : ℤ} → IsLeastFrom from (λ z
 count_of_times {from} {first} {period} {to} start h = record { items = h.items; all = times_from period to start h.items (times_since first period to _ start.holds h.items h.all); counted = h.counted }
 
 pub times_by_congruent : {X : Type 0} (value : X → ℤ) (fits : ℤ → Type 0) {from start : ℤ} (to first period : ℤ) (r : Option X) → IsLeastFrom from (λ z. first ≤ℤ z) start
-    → MatchOption r ((n : ℤ) × IsCountOfCongruent start to first period n × ¬ (fits n)) (Has fits value (IsCountOfCongruent start to first period))
-    → MatchOption r ((n : ℤ) × IsCountOfTimes from to first period n × ¬ (fits n)) (Has fits value (IsCountOfTimes from to first period))
+    → MatchOption r ((n : ℤ) × IsCountOfCongruent start to first period n × ¬ (fits n)) (FitsWith fits value (IsCountOfCongruent start to first period))
+    → MatchOption r ((n : ℤ) × IsCountOfTimes from to first period n × ¬ (fits n)) (FitsWith fits value (IsCountOfTimes from to first period))
 times_by_congruent value fits to first period None start h = (h.0, count_of_times start h.1, h.2)
 times_by_congruent value fits to first period (Some n) start h = (h.0, count_of_times start h.1)

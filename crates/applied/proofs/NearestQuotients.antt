@@ -185,8 +185,8 @@ negated_divisor {n} {d} {q} {r} h =
 negated_even : {q : ℤ} → IsEven q → IsEven (neg_ℤ q)
 negated_even even = let half = even.product in record { factor = neg_ℤ even.factor; product = omega (arith, products) }
 
-nearest_turns : TurnsItsSign IsNearest
-nearest_turns = record {
+nearest_iterations : TurnsItsSign IsNearest
+nearest_iterations = record {
   number = λ n d q r h.
       let turned = negated_number h.division in
       record {
@@ -203,8 +203,8 @@ nearest_turns = record {
       };
 }
 
-nearest_even_turns : TurnsItsSign IsNearestEven
-nearest_even_turns = record {
+nearest_even_iterations : TurnsItsSign IsNearestEven
+nearest_even_iterations = record {
   number = λ n d q r h. record {
     division = (negated_number h.division).0;
     nearest = omega (arith, sizes, h.nearest);
@@ -220,18 +220,18 @@ nearest_even_turns = record {
 -- the quotient of the magnitudes, with the sign of the quotient, is that of the numbers
 quotient_by_magnitudes : {Kind : ℤ → ℤ → ℤ → ℤ → Type 0} → TurnsItsSign Kind → (s u : Bool) (m e q : ℕ) → IsQuotient Kind (pos m) (pos e) (pos q)
     → IsQuotient Kind (signed s m) (signed u e) (signed (not (beq s u)) q)
-quotient_by_magnitudes turns false false m e q h = h
-quotient_by_magnitudes turns true false m e q h = record { remainder = _; division = turns.number _ _ _ _ h.division }
-quotient_by_magnitudes turns false true m e q h = record { remainder = _; division = turns.divisor _ _ _ _ h.division }
-quotient_by_magnitudes turns true true m e q h =
+quotient_by_magnitudes iterations false false m e q h = h
+quotient_by_magnitudes iterations true false m e q h = record { remainder = _; division = iterations.number _ _ _ _ h.division }
+quotient_by_magnitudes iterations false true m e q h = record { remainder = _; division = iterations.divisor _ _ _ _ h.division }
+quotient_by_magnitudes iterations true true m e q h =
     let back : neg_ℤ (neg_ℤ (pos q)) ≡ pos q = omega (arith, products) in
-    record { remainder = _; division = rw back at (turns.divisor _ _ _ _ (turns.number _ _ _ _ h.division)) }
+    record { remainder = _; division = rw back at (iterations.divisor _ _ _ _ (iterations.number _ _ _ _ h.division)) }
 
 pub nearest_by_magnitudes : (s u : Bool) (m e q : ℕ) → IsQuotient IsNearest (pos m) (pos e) (pos q) → IsQuotient IsNearest (signed s m) (signed u e) (signed (not (beq s u)) q)
-nearest_by_magnitudes = quotient_by_magnitudes nearest_turns
+nearest_by_magnitudes = quotient_by_magnitudes nearest_iterations
 
 pub nearest_even_by_magnitudes : (s u : Bool) (m e q : ℕ) → IsQuotient IsNearestEven (pos m) (pos e) (pos q) → IsQuotient IsNearestEven (signed s m) (signed u e) (signed (not (beq s u)) q)
-nearest_even_by_magnitudes = quotient_by_magnitudes nearest_even_turns
+nearest_even_by_magnitudes = quotient_by_magnitudes nearest_even_iterations
 
 -- a divisor other than 0 has a magnitude other than 0
 pub magnitude_nonzero : (u : Bool) (e : ℕ) → signed u e ≢ pos 0 → pos e ≢ pos 0

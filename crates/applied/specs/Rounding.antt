@@ -1,6 +1,6 @@
 -- Quotients rounded to the nearest integer, by equation and inequalities.
 use Rattle.std.specs.Prelude.{◌≡◌, ◌≢◌, ◌⊎◌, ◌<◌, ◌≤◌, ◌*◌, ◌≤ℤ◌, ◌+ℤ◌, ◌*ℤ◌, ℤ, Option, pos, unsigned_abs}
-use Rattle.num_integer.specs.Checked.{AnswersWhere, Has}
+use Rattle.num_integer.specs.Checked.{AnswersWhere, FitsWith}
 use Rattle.num_integer.specs.Division.{IsDivision, IsQuotient}
 use Rattle.num_integer.specs.Divisors.{IsEven}
 use Rattle.num_integer.specs.Range.{EachFits}
@@ -22,7 +22,7 @@ pub record IsNearestEven (n d q r : ℤ) : Type 0 where
 -- The result is `Some` of the quotient of this kind, or `None` if the divisor is 0 or the quotient does not fit.
 -- Examples: of the kind `IsNearest` in i8: for 5 and 2 it is `Some` of 3; for 5 and 0 it is `None`; for -128 and -1 it is `None`.
 abbrev pub AnswersQuotient : (ℤ → ℤ → ℤ → ℤ → Type 0) → (ℤ → Type 0) → {X : Type 0} → (X → ℤ) → ℤ → ℤ → Option X → Type 0
-AnswersQuotient Kind fits value n d result = AnswersWhere ((d ≢ pos 0) × EachFits fits (IsQuotient Kind n d)) (Has fits value (IsQuotient Kind n d)) result
+AnswersQuotient Kind fits value n d result = AnswersWhere ((d ≢ pos 0) × EachFits fits (IsQuotient Kind n d)) (FitsWith fits value (IsQuotient Kind n d)) result
 
 -- r is between 0 and d, which may be negative. It may be 0 or d.
 -- Examples: d 3: 0; 1; 3; d -3: -1; not d 3: -1.

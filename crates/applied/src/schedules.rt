@@ -2,7 +2,7 @@
 
 ghost use Rattle.std.specs.Prelude.{◌≤ℤ◌, ◌<ℤ◌, ℤ, pos, IfSome, MatchOption};
 ghost use Rattle.std.specs.List.{All};
-ghost use Rattle.num_integer.specs.Checked.{Has};
+ghost use Rattle.num_integer.specs.Checked.{FitsWith};
 ghost use Rattle.num_integer.specs.Least.{IsLeastFrom};
 ghost use Rattle.applied.specs.Schedules.{HaveBegun, IsCountOfTimes, IsLeastTime, IsMeeting, IsMeetingOfEach};
 
@@ -69,7 +69,7 @@ pub fn count<T: Fits>(from: T, to: T, schedule: Schedule<T>) -> Option<T>
     ensures count { MatchOption result
         ((n : ℤ) × IsCountOfTimes (T.value from) (T.value to) (T.value schedule.0)
         (T.value schedule.1) n × ¬ (T.fits n))
-        (Has T.fits T.value (IsCountOfTimes (T.value from) (T.value to) (T.value schedule.0)
+        (FitsWith T.fits T.value (IsCountOfTimes (T.value from) (T.value to) (T.value schedule.0)
         (T.value schedule.1))) }
     ensures from_zero { IfSome result (λ n. pos 0 ≤ℤ T.value n) }
 {

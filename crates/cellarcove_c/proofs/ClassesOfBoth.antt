@@ -7,7 +7,7 @@ use Rattle.num_integer.specs.Divisors.{IsLeastCommonMultiple}
 use Rattle.num_integer.specs.Range.{EachFits}
 use Rattle.cellarcove_c.specs.Answers.{Refuses}
 use Rattle.cellarcove_c.specs.Congruences.{IsClassOfBoth, IsNever}
-use Rattle.cellarcove_c.specs.Statuses.{Either, Only, answer_of, bad_modulus, no_solution, not_fitting}
+use Rattle.cellarcove_c.specs.Statuses.{StatusIsOneOf, StatusIs, answer_of, bad_modulus, no_solution, not_fitting}
 use Rattle.cellarcove_c.proofs.CommonSolutions.{class_has, no_third}
 
 -- two moduli are bad, or both are positive
@@ -39,7 +39,7 @@ module _ {X : Type 0} (value : X → ℤ) (fits : ℤ → Type 0) (a m b n : ℤ
     -- where the least common multiple fits
     pub class_is : EachFits fits (IsLeastCommonMultiple m n) → (status : ℕ) (class : X × X) (o : Option (X × X))
         → MatchOption o (IsNever Both) (λ s. fits (value s.0) × fits (value s.1) × IsResidueClass Both (value s.0) (value s.1)) → answer_of status class ≡ o
-        → Refuses (Only no_solution) zeros status class → IsClass status class
+        → Refuses (StatusIs no_solution) zeros status class → IsClass status class
     class_is lcm_fits zero class o own same refuses =
         let found = subst (λ (p : Option (X × X)). MatchOption p (IsNever Both) (λ s. fits (value s.0) × fits (value s.1) × IsResidueClass Both (value s.0) (value s.1))) (sym same) own in
         let (x, solves) = class_has found.2 in
@@ -65,7 +65,7 @@ module _ {X : Type 0} (value : X → ℤ) (fits : ℤ → Type 0) (a m b n : ℤ
 
     -- where it does not
     pub reason_is : ¬ (EachFits fits (IsLeastCommonMultiple m n)) → (status : ℕ) → (status ≡ not_fitting) ↔ ((x : ℤ) × Both x) → (status ≡ no_solution) ↔ IsNever Both
-        → Either not_fitting no_solution status → IsClass status zeros
+        → StatusIsOneOf not_fitting no_solution status → IsClass status zeros
     reason_is beyond status fitting solved either = record {
       answer = λ _ _ lcm_fits. absurd (beyond lcm_fits);
       modulus_is_bad = (λ same. absurd (no_third either (λ e. absurd (omega (arith, e))) (λ e. absurd (omega (arith, e))) same), λ bad. absurd (not_bad good.0 good.1 bad));

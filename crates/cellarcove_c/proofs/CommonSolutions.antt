@@ -9,10 +9,10 @@ use Rattle.modular.proofs.ForCallers.{congruent-refl}
 use Rattle.num_integer.specs.Least.{IsLeastFrom}
 use Rattle.cellarcove_c.specs.Answers.{Refuses}
 use Rattle.cellarcove_c.specs.Congruences.{IsBeyond, IsNever}
-use Rattle.cellarcove_c.specs.Statuses.{Either, common_solution_of, no_solution, not_fitting}
+use Rattle.cellarcove_c.specs.Statuses.{StatusIsOneOf, common_solution_of, no_solution, not_fitting}
 
 -- a status that is one of two is no third
-pub no_third : {status one two three : ℕ} → Either one two status → ¬ (one ≡ three) → ¬ (two ≡ three) → ¬ (status ≡ three)
+pub no_third : {status one two three : ℕ} → StatusIsOneOf one two status → ¬ (one ≡ three) → ¬ (two ≡ three) → ¬ (status ≡ three)
 no_third (inl same) first second third = first (sym same ∙ third)
 no_third (inr same) first second third = second (sym same ∙ third)
 
@@ -31,7 +31,7 @@ solved value from Solves Fits (At t) (fits, least) other = (value t, least.holds
 -- the value of a common solution is in range
 pub value_in_range : {X : Type 0} (value : X → ℤ) (fits : ℤ → Type 0) (from : ℤ) (Solves : ℤ → Type 0) (zero_value : X) (status : ℕ) (solution : X) (found : CommonSolution X)
     → MatchCommonSolution found (IsNever Solves) (IsBeyond fits (IsLeastFrom from Solves)) (λ t. fits (value t) × IsLeastFrom from Solves (value t)) → common_solution_of status solution ≡ found
-    → Refuses (Either not_fitting no_solution) zero_value status solution → fits (value zero_value) → fits (value solution)
+    → Refuses (StatusIsOneOf not_fitting no_solution) zero_value status solution → fits (value zero_value) → fits (value solution)
 value_in_range {X} value fits from Solves zero_value zero solution found own same refuses zero_fits =
     (subst (λ (s : CommonSolution X). MatchCommonSolution s (IsNever Solves) (IsBeyond fits (IsLeastFrom from Solves)) (λ t. fits (value t) × IsLeastFrom from Solves (value t))) (sym same) own).0
 value_in_range value fits from Solves zero_value (suc status) solution found own same refuses zero_fits =

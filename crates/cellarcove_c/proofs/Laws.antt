@@ -16,7 +16,7 @@ use Rattle.calendar.proofs.Laws.{date_of_parts_is_only, iso_number_is_only, text
 use Rattle.calendar.proofs.Laws.{months_between_is_only as whole_months_are_only, years_between_is_only as whole_years_are_only}
 use Rattle.cellarcove_c.specs.DateTexts.{HasText, ReadsDate}
 use Rattle.cellarcove_c.specs.Decimals.{HasDigits}
-use Rattle.cellarcove_c.specs.Statuses.{Either, bad_modulus}
+use Rattle.cellarcove_c.specs.Statuses.{StatusIsOneOf, bad_modulus}
 use Rattle.cellarcove_c.specs.declared.dates.Date.{Date as Parts}
 use Rattle.cellarcove_c.specs.Laws.{AnswersIsOnly, AnswersModuloIsOnly, DayOfIsoNumberIsOnly, FewestPagesIsOnly, InDigitsIsOnly, InPartsIsOnly, MonthsBetweenIsOnly, MonthsLaterIsOnly, OfIsoNumberIsOnly, OnBothIsOnly, OrderNumberIsOnly, PaddingIsOnly, PowerIsOnly, ReadDateIsOnly, ReasonIsOnly, RootWithRestIsOnly, StandsForIsOnly, StandsForNumberIsOnly, StandsForReadIsOnly, YearsBetweenIsOnly}
 use Rattle.ratio64.proofs.Laws.{answer_is_only, rounded_even_is_only}
@@ -48,7 +48,7 @@ positive_of (negsuc n) h = absurd (h (omega (arith, ints)))
 
 -- two statuses of one modulus are the same
 same_reason : {modulus : ℤ} {reason s t : ℕ} → (s ≡ bad_modulus) ↔ (modulus ≤ℤ pos 0) → (t ≡ bad_modulus) ↔ (modulus ≤ℤ pos 0)
-    → Either bad_modulus reason s → Either bad_modulus reason t → s ≡ t
+    → StatusIsOneOf bad_modulus reason s → StatusIsOneOf bad_modulus reason t → s ≡ t
 same_reason h k (inl p) other = p ∙ sym (k.1 (h.0 p))
 same_reason h k (inr p) (inl q) = h.1 (k.0 q) ∙ sym q
 same_reason h k (inr p) (inr q) = p ∙ sym q

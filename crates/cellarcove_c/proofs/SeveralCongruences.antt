@@ -9,7 +9,7 @@ use Rattle.modular.specs.declared.common_solutions.CommonSolution.{CommonSolutio
 use Rattle.modular.specs.declared.common_solutions.CommonSolution.TheVariants.{Never, Beyond, At}
 use Rattle.cellarcove_c.specs.Answers.{Refuses}
 use Rattle.cellarcove_c.specs.Congruences.{HavePositiveModuli, IsBeyond, IsNever, IsNextOfSeveral}
-use Rattle.cellarcove_c.specs.Statuses.{Either, bad_modulus, common_solution_of, no_solution, not_fitting, outside}
+use Rattle.cellarcove_c.specs.Statuses.{StatusIsOneOf, bad_modulus, common_solution_of, no_solution, not_fitting, outside}
 use Rattle.cellarcove_c.proofs.CommonSolutions.{no_third}
 
 module _ {X C : Type 0} (value : X → ℤ) (fits : ℤ → Type 0) (from : ℤ) (pair : C → X × X) (congruences : List C) (zero_value : X) (within : length congruences ≤ 64) where
@@ -28,7 +28,7 @@ module _ {X C : Type 0} (value : X → ℤ) (fits : ℤ → Type 0) (from : ℤ)
   }
 
   -- the status of a common solution is no other than these
-  pub common_solution_is : (status : ℕ) (found : X) → HavePositiveModuli value pairs → Refuses (Either not_fitting no_solution) zero_value status found
+  pub common_solution_is : (status : ℕ) (found : X) → HavePositiveModuli value pairs → Refuses (StatusIsOneOf not_fitting no_solution) zero_value status found
       → MatchCommonSolution (common_solution_of status found) (IsNever (SolvesEach value pairs)) (IsBeyond fits (IsLeastFrom from (SolvesEach value pairs))) (λ t. IsLeastFrom from (SolvesEach value pairs) (value t))
       → IsNextOfSeveral value fits from pairs zero_value status found
   common_solution_is status found positive refuses own = record {

@@ -5,7 +5,7 @@ use Rattle.std.specs.Option.{SomeIff}
 use Rattle.std.proofs.Common.{arith, inl, inr}
 use Rattle.num_integer.specs.Checked.{AnswersWhere}
 use Rattle.cellarcove_c.specs.Answers.{Refuses}
-use Rattle.cellarcove_c.specs.Statuses.{Only, no_date, not_fitting}
+use Rattle.cellarcove_c.specs.Statuses.{StatusIs, no_date, not_fitting}
 
 -- two dates that exist are not missing
 pub not_missing : {P Q : Type 0} → P → Q → ¬ ((¬ P) ⊎ (¬ Q))
@@ -13,7 +13,7 @@ not_missing p q (inl none) = none p
 not_missing p q (inr none) = none q
 
 -- a call that is refused only where the number does not fit has found both dates
-pub found_both : {A : Type 0} {zeros : A} {status : ℕ} {value : A} → Refuses (Only not_fitting) zeros status value → ¬ (status ≡ no_date)
+pub found_both : {A : Type 0} {zeros : A} {status : ℕ} {value : A} → Refuses (StatusIs not_fitting) zeros status value → ¬ (status ≡ no_date)
 found_both refuses same = let (_, why) = refuses (λ e. absurd (omega (arith, same, e))) in absurd (omega (arith, same, why))
 
 -- a number that is there exactly where it fits

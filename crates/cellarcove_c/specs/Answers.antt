@@ -3,7 +3,7 @@ use Rattle.std.specs.Prelude.{◌≡◌, ◌≢◌, ℕ, ℤ, pos, FitsSigned}
 use Rattle.std.specs.Int.{FitsUnsignedBits, w64}
 use Rattle.num_integer.specs.Checked.{AnswersWhere}
 use Rattle.num_integer.specs.Range.{EachFits}
-use Rattle.cellarcove_c.specs.Statuses.{Only, answer_of, not_fitting}
+use Rattle.cellarcove_c.specs.Statuses.{StatusIs, answer_of, not_fitting}
 use Rattle.cellarcove_c.specs.declared.answers.I64Answer.{I64Answer}
 use Rattle.cellarcove_c.specs.declared.answers.U64Answer.{U64Answer}
 
@@ -32,19 +32,19 @@ U64Answers domain Is Reason r = Answers domain (λ n. Is (pos n)) Reason 0 r.sta
 -- The result is the signed number, or `not_fitting` if the number does not fit.
 -- Examples: of 5: 0 and 5; of 2^63: 2 and 0.
 abbrev pub I64Number : ℤ → I64Answer → Type 0
-I64Number number = I64Answers (FitsSigned w64 number) (λ z. z ≡ number) (Only not_fitting)
+I64Number number = I64Answers (FitsSigned w64 number) (λ z. z ≡ number) (StatusIs not_fitting)
 
 -- The result is the natural number, or `not_fitting` if the number does not fit.
 -- Examples: of 5: 0 and 5; of -1: 2 and 0.
 abbrev pub U64Number : ℤ → U64Answer → Type 0
-U64Number number = U64Answers (FitsUnsignedBits 64 number) (λ z. z ≡ number) (Only not_fitting)
+U64Number number = U64Answers (FitsUnsignedBits 64 number) (λ z. z ≡ number) (StatusIs not_fitting)
 
 -- The result is the signed number with the property, or `not_fitting` if there is one that does not fit.
 -- Examples: of 'is the least common multiple of -4 and 6': 0 and 12.
 abbrev pub I64Fitting : (ℤ → Type 0) → I64Answer → Type 0
-I64Fitting Is = I64Answers (EachFits (FitsSigned w64) Is) Is (Only not_fitting)
+I64Fitting Is = I64Answers (EachFits (FitsSigned w64) Is) Is (StatusIs not_fitting)
 
 -- The result is the natural number with the property, or `not_fitting` if there is one that does not fit.
 -- Examples: of 'is the least common multiple of 2^63 and 3': 2 and 0.
 abbrev pub U64Fitting : (ℤ → Type 0) → U64Answer → Type 0
-U64Fitting Is = U64Answers (EachFits (FitsUnsignedBits 64) Is) Is (Only not_fitting)
+U64Fitting Is = U64Answers (EachFits (FitsUnsignedBits 64) Is) Is (StatusIs not_fitting)

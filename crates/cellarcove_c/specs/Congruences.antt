@@ -8,7 +8,7 @@ use Rattle.num_integer.specs.Range.{EachFits}
 use Rattle.modular.specs.CommonSolutions.{MatchCommonSolution}
 use Rattle.modular.specs.Congruences.{IsResidueClass, SolvesBothCongruences, SolvesEach}
 use Rattle.cellarcove_c.specs.Answers.{Refuses}
-use Rattle.cellarcove_c.specs.Statuses.{Either, answer_of, bad_modulus, common_solution_of, no_solution, not_fitting, outside}
+use Rattle.cellarcove_c.specs.Statuses.{StatusIsOneOf, answer_of, bad_modulus, common_solution_of, no_solution, not_fitting, outside}
 use Rattle.cellarcove_c.specs.declared.answers.I64Answer.{I64Answer}
 use Rattle.cellarcove_c.specs.declared.answers.U64Answer.{U64Answer}
 use Rattle.cellarcove_c.specs.declared.several_congruences.I64Congruence.{I64Congruence}
@@ -31,7 +31,7 @@ IsBeyond fits Is = (z : ℤ) × Is z × ¬ (fits z)
 pub record AnswersModulo {A : Type 0} (modulus : ℤ) (reason : ℕ) (without : Type 0) (Is : A → Type 0) (zeros : A) (status : ℕ) (value : A) : Type 0 where
   pub answer : (pos 0 <ℤ modulus) → MatchOption (answer_of status value) without Is
   pub modulus_is_bad : (status ≡ bad_modulus) ↔ (modulus ≤ℤ pos 0)
-  pub refusal : Refuses (Either bad_modulus reason) zeros status value
+  pub refusal : Refuses (StatusIsOneOf bad_modulus reason) zeros status value
 
 -- The same of a result that is a signed number and the reason that there is no solution.
 -- Examples: those of `AnswersModulo`.
@@ -57,7 +57,7 @@ U64Congruent modulus Is r = AnswersModulo modulus not_fitting (IsBeyond (FitsUns
 -- both.
 -- Examples: 5, 2 and 4; not 0.
 abbrev pub IsReasonOfCongruences : ℕ → Type 0
-IsReasonOfCongruences status = (status ≡ bad_modulus) ⊎ Either not_fitting no_solution status
+IsReasonOfCongruences status = (status ≡ bad_modulus) ⊎ StatusIsOneOf not_fitting no_solution status
 
 -- The status is 0 and the value is the first number that solves two congruences and the step to the next one. It is `no_solution` if
 -- no number solves both, `not_fitting` if one does and the least common multiple of the moduli does not fit, and `bad_modulus` if a

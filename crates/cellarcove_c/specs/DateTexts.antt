@@ -6,7 +6,7 @@ use Rattle.calendar.specs.Text.{text_of}
 use Rattle.calendar.specs.declared.date.Date.{Date}
 use Rattle.cellarcove_c.specs.Answers.{Refuses}
 use Rattle.cellarcove_c.specs.Dates.{zero_date}
-use Rattle.cellarcove_c.specs.Statuses.{Only, no_date}
+use Rattle.cellarcove_c.specs.Statuses.{StatusIs, no_date}
 use Rattle.cellarcove_c.specs.declared.dates.DateAnswer.{DateAnswer}
 use Rattle.cellarcove_c.specs.declared.dates.Date.{Date as Parts}
 
@@ -22,4 +22,4 @@ pub record HasText (text : List ℕ) (parts : Parts) : Type 0 where
 pub record ReadsDate (text : List ℕ) (answer : DateAnswer) : Type 0 where
   pub found : answer.status ≡ 0 → HasText text answer.date
   pub none : (answer.status ≡ no_date) ↔ ((date : Date) → FitsSigned w64 date.year → text ≢ text_of date)
-  pub refusal : Refuses (Only no_date) zero_date answer.status answer.date
+  pub refusal : Refuses (StatusIs no_date) zero_date answer.status answer.date

@@ -6,7 +6,7 @@ use Rattle.ratio64.specs.Rounding.{IsRoundedEven}
 use Rattle.ratio64.specs.declared.error.RatioError.{RatioError}
 use Rattle.ratio64.specs.declared.fraction.Ratio.{Ratio}
 use Rattle.cellarcove_c.specs.Answers.{Answers}
-use Rattle.cellarcove_c.specs.Statuses.{Only, outside}
+use Rattle.cellarcove_c.specs.Statuses.{StatusIs, outside}
 use Rattle.cellarcove_c.specs.declared.decimals.DecimalAnswer.{DecimalAnswer}
 use Rattle.cellarcove_c.specs.declared.fractions.Fraction.{Fraction}
 
@@ -29,5 +29,5 @@ pub record IsInDigits (n d : ℤ) (places : ℕ) (negative : Bool) (whole part :
 abbrev pub AnswersDecimal : Fraction → ℕ → DecimalAnswer → Type 0
 AnswersDecimal a places answer = (p : Result Ratio RatioError) × AnswersFraction a.num a.den p
     × MatchResult p (λ x. Answers {A = Bool × ℕ × ℕ} (places ≤ 18) (λ (negative, whole, part). IsInDigits (num_of x) (den_of x) places negative whole part)
-    (Only outside) (false, 0, 0) answer.status (answer.is_negative, answer.whole, answer.part))
+    (StatusIs outside) (false, 0, 0) answer.status (answer.is_negative, answer.whole, answer.part))
     (λ e. answer ≡ record { status = number_of e; is_negative = false; whole = 0; part = 0 })

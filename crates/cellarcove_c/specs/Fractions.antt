@@ -16,13 +16,13 @@ use Rattle.cellarcove_c.specs.declared.fractions.FractionAnswer.{FractionAnswer}
 
 -- Two results hold fractions of which a property holds, or the first error of the two has another.
 -- Examples: of 'are equal' and 'is `ZeroDenominator`': 1/2 and 1/2; `ZeroDenominator` and 1/2; not 1/2 and 1/3.
-abbrev pub OnBoth : Result Ratio RatioError → Result Ratio RatioError → (Ratio → Ratio → Type 0) → (RatioError → Type 0) → Type 0
-OnBoth x y says refuses = MatchResult x (λ p. MatchResult y (λ q. says p q) (λ e. refuses e)) (λ e. refuses e)
+abbrev pub OnBothFractions : Result Ratio RatioError → Result Ratio RatioError → (Ratio → Ratio → Type 0) → (RatioError → Type 0) → Type 0
+OnBothFractions x y says refuses = MatchResult x (λ p. MatchResult y (λ q. says p q) (λ e. refuses e)) (λ e. refuses e)
 
 -- A status and two numbers are 0 and the parts of a fraction, or the number of an error and zeros.
 -- Examples: of -3/2: 0, -3 and 2; of `ZeroDenominator`: 1, 0 and 0.
-abbrev pub StandsFor : Result Ratio RatioError → ℕ → ℤ → ℤ → Type 0
-StandsFor answered status num den = MatchResult answered (λ x. (status ≡ 0) × (num ≡ num_of x) × (den ≡ den_of x))
+abbrev pub Represents : Result Ratio RatioError → ℕ → ℤ → ℤ → Type 0
+Represents answered status num den = MatchResult answered (λ x. (status ≡ 0) × (num ≡ num_of x) × (den ≡ den_of x))
     (λ e. (status ≡ number_of e) × (num ≡ pos 0) × (den ≡ pos 0))
 
 -- A status is 0 and the number has a property of a fraction, or it is the number of an error and the number is 0.
@@ -42,28 +42,28 @@ order_number Greater = pos 1
 -- The sum of two fractions, or the first error.
 -- Examples: 1/2 and 1/3: 5/6; `ZeroDenominator` and 1/3: `ZeroDenominator`.
 abbrev pub IsSumOf : Result Ratio RatioError → Result Ratio RatioError → Result Ratio RatioError → Type 0
-IsSumOf a b r = OnBoth a b (λ x y. AnswersFraction (num_of x *ℤ den_of y +ℤ num_of y *ℤ den_of x) (den_of x *ℤ den_of y) r) (λ e. r ≡ Err e)
+IsSumOf a b r = OnBothFractions a b (λ x y. AnswersFraction (num_of x *ℤ den_of y +ℤ num_of y *ℤ den_of x) (den_of x *ℤ den_of y) r) (λ e. r ≡ Err e)
 
 -- The difference of two fractions, or the first error.
 -- Examples: 1/2 and 1/3: 1/6.
 abbrev pub IsDifferenceOf : Result Ratio RatioError → Result Ratio RatioError → Result Ratio RatioError → Type 0
-IsDifferenceOf a b r = OnBoth a b (λ x y. AnswersFraction (num_of x *ℤ den_of y -ℤ num_of y *ℤ den_of x) (den_of x *ℤ den_of y) r) (λ e. r ≡ Err e)
+IsDifferenceOf a b r = OnBothFractions a b (λ x y. AnswersFraction (num_of x *ℤ den_of y -ℤ num_of y *ℤ den_of x) (den_of x *ℤ den_of y) r) (λ e. r ≡ Err e)
 
 -- The product of two fractions, or the first error.
 -- Examples: 2/3 and 3/4: 1/2.
 abbrev pub IsProductOf : Result Ratio RatioError → Result Ratio RatioError → Result Ratio RatioError → Type 0
-IsProductOf a b r = OnBoth a b (λ x y. AnswersFraction (num_of x *ℤ num_of y) (den_of x *ℤ den_of y) r) (λ e. r ≡ Err e)
+IsProductOf a b r = OnBothFractions a b (λ x y. AnswersFraction (num_of x *ℤ num_of y) (den_of x *ℤ den_of y) r) (λ e. r ≡ Err e)
 
 -- The quotient of two fractions, or the first error.
 -- Examples: -1/2 and -3/4: 2/3; 1/2 and 0/1: `ZeroDenominator`.
 abbrev pub IsQuotientOf : Result Ratio RatioError → Result Ratio RatioError → Result Ratio RatioError → Type 0
-IsQuotientOf a b r = OnBoth a b (λ x y. AnswersFraction (num_of x *ℤ den_of y) (num_of y *ℤ den_of x) r) (λ e. r ≡ Err e)
+IsQuotientOf a b r = OnBothFractions a b (λ x y. AnswersFraction (num_of x *ℤ den_of y) (num_of y *ℤ den_of x) r) (λ e. r ≡ Err e)
 
 -- The result is that of two fractions, which are reduced first.
 -- Examples: of sums: 2/4 and 1/3: 0, 5 and 6; 1/0 and 1/3: 1, 0 and 0.
 abbrev pub AnswersOfTwo : (Result Ratio RatioError → Result Ratio RatioError → Result Ratio RatioError → Type 0) → Fraction → Fraction → FractionAnswer → Type 0
 AnswersOfTwo Is a b answer = (p q r : Result Ratio RatioError) × AnswersFraction a.num a.den p × AnswersFraction b.num b.den q
-    × Is p q r × StandsFor r answer.status answer.value.num answer.value.den
+    × Is p q r × Represents r answer.status answer.value.num answer.value.den
 
 -- ---- of one fraction
 
@@ -107,7 +107,7 @@ IsInParts IsRounded parts x r = AnswersInParts (IsRounded (num_of x *ℤ parts) 
 -- Examples: of negations: 2/4: 0, -1 and 2; 1/0: 1, 0 and 0.
 abbrev pub AnswersOfOne : (Ratio → Result Ratio RatioError → Type 0) → Fraction → FractionAnswer → Type 0
 AnswersOfOne Is a answer = (p r : Result Ratio RatioError) × AnswersFraction a.num a.den p
-    × OnOne Is p r × StandsFor r answer.status answer.value.num answer.value.den
+    × OnOne Is p r × Represents r answer.status answer.value.num answer.value.den
 
 -- ---- rounded
 

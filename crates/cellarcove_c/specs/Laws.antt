@@ -13,7 +13,7 @@ use Rattle.cellarcove_c.specs.Congruences.{AnswersModulo}
 use Rattle.cellarcove_c.specs.Dates.{IsDayOfIsoNumber, IsMonthsLater, IsOfIsoNumber, MatchMonthsBetween, MatchYearsBetween}
 use Rattle.cellarcove_c.specs.DateTexts.{ReadsDate}
 use Rattle.cellarcove_c.specs.Decimals.{IsInDigits}
-use Rattle.cellarcove_c.specs.Fractions.{IsInParts, IsPower, OnBoth, StandsFor, StandsForNumber, order_number}
+use Rattle.cellarcove_c.specs.Fractions.{IsInParts, IsPower, OnBothFractions, Represents, StandsForNumber, order_number}
 use Rattle.cellarcove_c.specs.Paging.{IsFewestPages, IsPadding}
 use Rattle.cellarcove_c.specs.Roots.{IsRootWithRest}
 use Rattle.cellarcove_c.specs.Statuses.{IsReason}
@@ -55,7 +55,7 @@ RootWithRestIsOnly = (x root other rest left : ℤ) → IsRootWithRest x root re
 
 -- Each result has at most one status and one pair of numbers.
 abbrev pub StandsForIsOnly : Type 0
-StandsForIsOnly = (answered : Result Ratio RatioError) (s t : ℕ) (a b c d : ℤ) → StandsFor answered s a b → StandsFor answered t c d → (s ≡ t) × (a ≡ c) × (b ≡ d)
+StandsForIsOnly = (answered : Result Ratio RatioError) (s t : ℕ) (a b c d : ℤ) → Represents answered s a b → Represents answered t c d → (s ≡ t) × (a ≡ c) × (b ≡ d)
 
 -- If a property has at most one number for each fraction, each result has at most one status and one number.
 abbrev pub StandsForNumberIsOnly : (Ratio → ℤ → Type 0) → Type 0
@@ -65,7 +65,7 @@ StandsForNumberIsOnly Says = (answered : Result Ratio RatioError) (s t : ℕ) (a
 -- If there is at most one value for each two fractions, and at most one for each error, there is at most one for two results.
 abbrev pub OnBothIsOnly : {A : Type 0} → (A → Ratio → Ratio → Type 0) → (A → RatioError → Type 0) → Type 0
 OnBothIsOnly {A} Says Refuses = (x y : Result Ratio RatioError) (a b : A) → ((p q : Ratio) → Says a p q → Says b p q → a ≡ b)
-    → ((e : RatioError) → Refuses a e → Refuses b e → a ≡ b) → OnBoth x y (Says a) (Refuses a) → OnBoth x y (Says b) (Refuses b) → a ≡ b
+    → ((e : RatioError) → Refuses a e → Refuses b e → a ≡ b) → OnBothFractions x y (Says a) (Refuses a) → OnBothFractions x y (Says b) (Refuses b) → a ≡ b
 
 -- Each fraction has at most one power of a degree.
 abbrev pub PowerIsOnly : Type 0

@@ -30,13 +30,13 @@ no_date = 6
 
 -- The status is this one.
 -- Examples: of `outside`: 3, and no other.
-abbrev pub Only : ℕ → ℕ → Type 0
-Only reason status = status ≡ reason
+abbrev pub StatusIs : ℕ → ℕ → Type 0
+StatusIs reason status = status ≡ reason
 
 -- The status is one of two.
 -- Examples: of `bad_modulus` and `no_solution`: 4 and 5; not 0.
-abbrev pub Either : ℕ → ℕ → ℕ → Type 0
-Either reason other status = (status ≡ reason) ⊎ (status ≡ other)
+abbrev pub StatusIsOneOf : ℕ → ℕ → ℕ → Type 0
+StatusIsOneOf reason other status = (status ≡ reason) ⊎ (status ≡ other)
 
 -- The status is `outside` exactly if nothing is defined for the arguments, and `not_fitting` exactly if something is.
 -- Examples: of 'the divisor is 0': by 0: 3; by -1: 2.

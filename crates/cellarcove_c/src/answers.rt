@@ -2,7 +2,7 @@
 
 ghost use Rattle.std.specs.Prelude.{◌≡◌, ◌≢◌, pos};
 ghost use Rattle.cellarcove_c.specs.Answers.{Refuses};
-ghost use Rattle.cellarcove_c.specs.Statuses.{Either, Only, answer_of, common_solution_of, no_solution, not_fitting};
+ghost use Rattle.cellarcove_c.specs.Statuses.{StatusIsOneOf, StatusIs, answer_of, common_solution_of, no_solution, not_fitting};
 
 use modular::CommonSolution;
 
@@ -48,7 +48,7 @@ pub struct U64Answer {
 pub(crate) fn with_status<T: Copy>(option: Option<T>, zeros: T, reason: u32) -> (u32, T)
     requires { reason ≢ 0 }
     ensures answer { answer_of result.0 result.1 ≡ option }
-    ensures refusal { Refuses (Only reason) zeros result.0 result.1 }
+    ensures refusal { Refuses (StatusIs reason) zeros result.0 result.1 }
 {
     match option {
         Some(value) => (ANSWER, value),
@@ -60,7 +60,7 @@ pub(crate) fn with_status<T: Copy>(option: Option<T>, zeros: T, reason: u32) -> 
 /// no number solves the congruences or the solution does not fit. Those of `Never` are 4 and `zero`.
 pub(crate) fn common_with_status<T: Copy>(found: CommonSolution<T>, zero: T) -> (u32, T)
     ensures answer { common_solution_of result.0 result.1 ≡ found }
-    ensures refusal { Refuses (Either not_fitting no_solution) zero result.0 result.1 }
+    ensures refusal { Refuses (StatusIsOneOf not_fitting no_solution) zero result.0 result.1 }
 {
     match found {
         CommonSolution::At(solution) => (ANSWER, solution),
@@ -74,7 +74,7 @@ impl I64Answer {
     pub(crate) fn of(option: Option<i64>, reason: u32) -> I64Answer
         requires { reason ≢ 0 }
         ensures answer { answer_of result.status result.value ≡ option }
-        ensures refusal { Refuses (Only reason) (pos 0) result.status result.value }
+        ensures refusal { Refuses (StatusIs reason) (pos 0) result.status result.value }
     {
         let (status, value) = with_status(option, 0, reason);
         I64Answer { status, value }
@@ -83,7 +83,7 @@ impl I64Answer {
     /// Returns the result of a call of `modular` that solves several congruences.
     pub(crate) fn of_common(found: CommonSolution<i64>) -> I64Answer
         ensures answer { common_solution_of result.status result.value ≡ found }
-        ensures refusal { Refuses (Either not_fitting no_solution) (pos 0) result.status result.value }
+        ensures refusal { Refuses (StatusIsOneOf not_fitting no_solution) (pos 0) result.status result.value }
     {
         let (status, value) = common_with_status(found, 0);
         I64Answer { status, value }
@@ -112,7 +112,7 @@ impl U64Answer {
     pub(crate) fn of(option: Option<u64>, reason: u32) -> U64Answer
         requires { reason ≢ 0 }
         ensures answer { answer_of result.status result.value ≡ option }
-        ensures refusal { Refuses (Only reason) 0 result.status result.value }
+        ensures refusal { Refuses (StatusIs reason) 0 result.status result.value }
     {
         let (status, value) = with_status(option, 0, reason);
         U64Answer { status, value }
@@ -121,7 +121,7 @@ impl U64Answer {
     /// Returns the result of a call of `modular` that solves several congruences.
     pub(crate) fn of_common(found: CommonSolution<u64>) -> U64Answer
         ensures answer { common_solution_of result.status result.value ≡ found }
-        ensures refusal { Refuses (Either not_fitting no_solution) 0 result.status result.value }
+        ensures refusal { Refuses (StatusIsOneOf not_fitting no_solution) 0 result.status result.value }
     {
         let (status, value) = common_with_status(found, 0);
         U64Answer { status, value }

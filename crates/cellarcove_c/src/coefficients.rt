@@ -5,7 +5,7 @@ ghost use Rattle.std.specs.Int.{FitsUnsignedBits, w64};
 ghost use Rattle.num_integer.specs.Coefficient.{coefficient_of};
 ghost use Rattle.num_integer.specs.Multinomial.{IsMultinomial};
 ghost use Rattle.cellarcove_c.specs.Answers.{I64Answers, U64Answers, U64Fitting};
-ghost use Rattle.cellarcove_c.specs.Statuses.{IsReason, Only, not_fitting};
+ghost use Rattle.cellarcove_c.specs.Statuses.{IsReason, StatusIs, not_fitting};
 
 use crate::answers::{I64Answer, NOT_FITTING, OUTSIDE, U64Answer};
 use crate::binomials::{binomial, signed_binomial};
@@ -32,7 +32,7 @@ pub extern "C" fn cellarcove_binomial_i64(n: i64, k: i64) -> I64Answer
 pub extern "C" fn cellarcove_binomial_u64(n: u64, k: u64) -> U64Answer
     ensures { U64Answers
         ((pos 0 ≤ℤ pos n) × (pos 0 ≤ℤ pos k) × FitsUnsignedBits 64 (coefficient_of (pos n) (pos k)))
-        (λ c. c ≡ coefficient_of (pos n) (pos k)) (Only not_fitting) result }
+        (λ c. c ≡ coefficient_of (pos n) (pos k)) (StatusIs not_fitting) result }
 {
     U64Answer::of(binomial(n, k), NOT_FITTING)
 }

@@ -9,7 +9,7 @@ ghost use Rattle.num_integer.specs.Divisors.{IsLeastCommonMultiple};
 ghost use Rattle.num_integer.specs.Range.{EachFits};
 ghost use Rattle.cellarcove_c.specs.Answers.{Refuses};
 ghost use Rattle.cellarcove_c.specs.Congruences.{AnswersModulo, I64Congruent, IsBeyond, IsClassOfBoth, IsNever, IsReasonOfCongruences, U64Congruent};
-ghost use Rattle.cellarcove_c.specs.Statuses.{Either, answer_of, bad_modulus, common_solution_of, no_solution, not_fitting};
+ghost use Rattle.cellarcove_c.specs.Statuses.{StatusIsOneOf, answer_of, bad_modulus, common_solution_of, no_solution, not_fitting};
 
 use crate::answers::{
     ANSWER, BAD_MODULUS, I64Answer, NO_SOLUTION, NOT_FITTING, U64Answer, with_status,
@@ -367,7 +367,7 @@ fn reason_for_congruences<T: Modular + Fits>(a: T, m: T, b: T, n: T) -> u32
         ↔ ((x : ℤ) × SolvesBothCongruences (T.value a) (T.value m) (T.value b) (T.value n) x) }
     ensures no_solution { (result ≡ no_solution)
         ↔ IsNever (SolvesBothCongruences (T.value a) (T.value m) (T.value b) (T.value n)) }
-    ensures refusal { Either not_fitting no_solution result }
+    ensures refusal { StatusIsOneOf not_fitting no_solution result }
 {
     match next_common_solution(zero(), a, m, b, n) {
         CommonSolution::Never => NO_SOLUTION,

@@ -4,7 +4,7 @@ ghost use Rattle.std.specs.Prelude.{◌≡◌, ◌≢◌, ◌⊎◌, ◌<ℤ◌,
 ghost use Rattle.std.specs.Int.{FitsUnsignedBits, w64};
 ghost use Rattle.applied.specs.Counting.{factorial_of, falling_of};
 ghost use Rattle.cellarcove_c.specs.Answers.{I64Answers, U64Answers};
-ghost use Rattle.cellarcove_c.specs.Statuses.{IsReason, Only, not_fitting};
+ghost use Rattle.cellarcove_c.specs.Statuses.{IsReason, StatusIs, not_fitting};
 
 use crate::answers::{I64Answer, NOT_FITTING, OUTSIDE, U64Answer};
 use crate::coefficients::reason_for_counts;
@@ -27,7 +27,7 @@ pub extern "C" fn cellarcove_factorial_i64(n: i64) -> I64Answer
 #[unsafe(no_mangle)]
 pub extern "C" fn cellarcove_factorial_u64(n: u64) -> U64Answer
     ensures { U64Answers ((pos 0 ≤ℤ pos n) × FitsUnsignedBits 64 (factorial_of (pos n)))
-        (λ ways. ways ≡ factorial_of (pos n)) (Only not_fitting) result }
+        (λ ways. ways ≡ factorial_of (pos n)) (StatusIs not_fitting) result }
 {
     U64Answer::of(checked::factorial(n), NOT_FITTING)
 }
@@ -52,7 +52,7 @@ pub extern "C" fn cellarcove_falling_i64(n: i64, k: i64) -> I64Answer
 pub extern "C" fn cellarcove_falling_u64(n: u64, k: u64) -> U64Answer
     ensures { U64Answers ((pos 0 ≤ℤ pos n) × (pos 0 ≤ℤ pos k)
         × FitsUnsignedBits 64 (falling_of (pos n) (pos k)))
-        (λ ways. ways ≡ falling_of (pos n) (pos k)) (Only not_fitting) result }
+        (λ ways. ways ≡ falling_of (pos n) (pos k)) (StatusIs not_fitting) result }
 {
     U64Answer::of(checked::falling(n, k), NOT_FITTING)
 }

@@ -12,7 +12,7 @@ ghost use Rattle.calendar.specs.declared.weekday.Weekday.{Weekday};
 ghost use Rattle.num_integer.specs.Checked.{AnswersWhere};
 ghost use Rattle.cellarcove_c.specs.Answers.{Answers, Refuses};
 ghost use Rattle.cellarcove_c.specs.Dates.{Exists, IsDayBeyond, IsMonthsLater, MatchMonthsBetween, MatchYearsBetween, day_of, zero_date};
-ghost use Rattle.cellarcove_c.specs.Statuses.{Either, Only, answer_of, no_date, not_fitting, outside};
+ghost use Rattle.cellarcove_c.specs.Statuses.{StatusIsOneOf, StatusIs, answer_of, no_date, not_fitting, outside};
 
 use crate::answers::{ANSWER, I64Answer, NO_DATE, NOT_FITTING, OUTSIDE};
 use calendar::{Weekday, days_between, easter, months_between, weeks_in_year, years_between};
@@ -60,7 +60,7 @@ pub extern "C" fn cellarcove_day_from_date(date: Date) -> I64Answer
     ensures answer { AnswersWhere (Exists date × FitsSigned w64 (day_of date))
         (λ day. day ≡ day_of date) (answer_of result.status result.value) }
     ensures no_date { (result.status ≡ no_date) ↔ (¬ (Exists date)) }
-    ensures refusal { Refuses (Either no_date not_fitting) (pos 0) result.status result.value }
+    ensures refusal { Refuses (StatusIsOneOf no_date not_fitting) (pos 0) result.status result.value }
 {
     match date.found() {
         Some(found) => I64Answer::of(found.day_number(), NOT_FITTING),
@@ -80,7 +80,7 @@ pub extern "C" fn cellarcove_plus_days(date: Date, days: i64) -> DateAnswer
     ensures not_fitting { result.status ≡ not_fitting → (year : ℤ) (month day : ℕ)
         → IsDate year month day → day_number year month day ≡ day_of date +ℤ days
         → ¬ (FitsSigned w64 year) }
-    ensures refusal { Refuses (Either no_date not_fitting) zero_date result.status result.date }
+    ensures refusal { Refuses (StatusIsOneOf no_date not_fitting) zero_date result.status result.date }
 {
     match date.found() {
         Some(found) => match found.plus_days(days) {
@@ -101,7 +101,7 @@ pub extern "C" fn cellarcove_days_between(from: Date, to: Date) -> I64Answer
         → AnswersWhere (FitsSigned w64 (day_of to -ℤ day_of from))
         (λ days. days ≡ day_of to -ℤ day_of from) (answer_of result.status result.value) }
     ensures no_date { (result.status ≡ no_date) ↔ ((¬ (Exists from)) ⊎ (¬ (Exists to))) }
-    ensures refusal { Refuses (Either no_date not_fitting) (pos 0) result.status result.value }
+    ensures refusal { Refuses (StatusIsOneOf no_date not_fitting) (pos 0) result.status result.value }
 {
     match from.found() {
         Some(first) => match to.found() {
@@ -126,7 +126,7 @@ pub extern "C" fn cellarcove_plus_months(date: Date, months: i64) -> DateAnswer
         → (year : ℤ) (month day : ℕ) → IsDate year month day
         → IsMonthsLater date.year date.month date.day_of_month months year month day
         → ¬ (FitsSigned w64 year) }
-    ensures refusal { Refuses (Either no_date not_fitting) zero_date result.status result.date }
+    ensures refusal { Refuses (StatusIsOneOf no_date not_fitting) zero_date result.status result.date }
 {
     match date.found() {
         Some(found) => match found.plus_months(months) {
@@ -147,7 +147,7 @@ pub extern "C" fn cellarcove_months_between(from: Date, to: Date) -> I64Answer
         → MatchMonthsBetween from.year from.month from.day_of_month to.year to.month to.day_of_month
         (answer_of result.status result.value) }
     ensures no_date { (result.status ≡ no_date) ↔ ((¬ (Exists from)) ⊎ (¬ (Exists to))) }
-    ensures refusal { Refuses (Either no_date not_fitting) (pos 0) result.status result.value }
+    ensures refusal { Refuses (StatusIsOneOf no_date not_fitting) (pos 0) result.status result.value }
 {
     match from.found() {
         Some(first) => match to.found() {
@@ -168,7 +168,7 @@ pub extern "C" fn cellarcove_years_between(from: Date, to: Date) -> I64Answer
         → MatchYearsBetween from.year from.month from.day_of_month to.year to.month to.day_of_month
         (answer_of result.status result.value) }
     ensures no_date { (result.status ≡ no_date) ↔ ((¬ (Exists from)) ⊎ (¬ (Exists to))) }
-    ensures refusal { Refuses (Either no_date not_fitting) (pos 0) result.status result.value }
+    ensures refusal { Refuses (StatusIsOneOf no_date not_fitting) (pos 0) result.status result.value }
 {
     match from.found() {
         Some(first) => match to.found() {
@@ -187,7 +187,7 @@ pub extern "C" fn cellarcove_date_from_year_day(year: i64, day: u16) -> DateAnsw
     ensures { Answers ((1 ≤ day) × (day ≤ days_in_year year))
         (λ date. Exists date × (date.year ≡ year)
         × (days_before_month date.year date.month + date.day_of_month ≡ day))
-        (Only no_date) zero_date result.status result.date }
+        (StatusIs no_date) zero_date result.status result.date }
 {
     match calendar::Date::from_year_day(year, day) {
         Some(found) => DateAnswer::some(&found),
@@ -204,7 +204,7 @@ pub extern "C" fn cellarcove_iso_week(date: Date) -> IsoWeekAnswer
     ensures no_date { (result.status ≡ no_date) ↔ (¬ (Exists date)) }
     ensures not_fitting { result.status ≡ not_fitting → (year : ℤ) (week : ℕ)
         → IsInIsoWeek (day_of date) year week → ¬ (FitsSigned w64 year) }
-    ensures refusal { Refuses {A = ℤ × ℕ} (Either no_date not_fitting) (pos 0, 0)
+    ensures refusal { Refuses {A = ℤ × ℕ} (StatusIsOneOf no_date not_fitting) (pos 0, 0)
         result.status (result.year, result.week) }
 {
     match date.found() {
@@ -233,7 +233,7 @@ pub extern "C" fn cellarcove_date_from_iso_week(year: i64, week: u8, weekday: u8
     ensures no_date { (result.status ≡ no_date)
         ↔ (((1 ≤ weekday) × (weekday ≤ 7)) × (¬ (HasIsoWeek year week))) }
     ensures not_fitting { (result.status ≡ not_fitting) ↔ IsDayBeyond year week weekday }
-    ensures refusal { Refuses (λ s. (s ≡ outside) ⊎ Either no_date not_fitting s) zero_date
+    ensures refusal { Refuses (λ s. (s ≡ outside) ⊎ StatusIsOneOf no_date not_fitting s) zero_date
         result.status result.date }
 {
     match Weekday::from_iso_number(weekday) {
@@ -326,7 +326,7 @@ impl IsoWeekAnswer {
 fn reason_for_week(year: i64, week: u8) -> u32
     ensures no_date { (result ≡ no_date) ↔ (¬ (HasIsoWeek year week)) }
     ensures not_fitting { (result ≡ not_fitting) ↔ HasIsoWeek year week }
-    ensures refusal { Either no_date not_fitting result }
+    ensures refusal { StatusIsOneOf no_date not_fitting result }
 {
     if (1..=weeks_in_year(year)).contains(&week) {
         NOT_FITTING

@@ -6,7 +6,7 @@ ghost use Rattle.num_integer.specs.Divisors.{Divides};
 ghost use Rattle.applied.specs.Rounding.{IsNearest, IsNearestEven};
 ghost use Rattle.cellarcove_c.specs.Answers.{I64Answers, Refuses, U64Answers};
 ghost use Rattle.cellarcove_c.specs.Quotients.{I64Quotient, I64Quotients, U64Quotient, U64Quotients};
-ghost use Rattle.cellarcove_c.specs.Statuses.{IsReason, Only, answer_of, outside};
+ghost use Rattle.cellarcove_c.specs.Statuses.{IsReason, StatusIs, answer_of, outside};
 
 use crate::answers::{I64Answer, NOT_FITTING, OUTSIDE, U64Answer, with_status};
 use applied::rounding::checked as rounding;
@@ -46,7 +46,7 @@ pub extern "C" fn cellarcove_div_rem_i64(x: i64, y: i64) -> I64Division
 /// `OUTSIDE` if `y` is 0.
 #[unsafe(no_mangle)]
 pub extern "C" fn cellarcove_div_rem_u64(x: u64, y: u64) -> U64Division
-    ensures { U64Quotients IsTruncated (pos x) (pos y) (Only outside) result }
+    ensures { U64Quotients IsTruncated (pos x) (pos y) (StatusIs outside) result }
 {
     U64Division::of(checked::div_rem(x, y), OUTSIDE)
 }
@@ -66,7 +66,7 @@ pub extern "C" fn cellarcove_div_floor_i64(x: i64, y: i64) -> I64Answer
 /// `OUTSIDE` if `y` is 0.
 #[unsafe(no_mangle)]
 pub extern "C" fn cellarcove_div_floor_u64(x: u64, y: u64) -> U64Answer
-    ensures { U64Quotient (pos y) (IsQuotient IsFloored (pos x) (pos y)) (Only outside) result }
+    ensures { U64Quotient (pos y) (IsQuotient IsFloored (pos x) (pos y)) (StatusIs outside) result }
 {
     U64Answer::of(checked::div_floor(x, y), OUTSIDE)
 }
@@ -86,7 +86,7 @@ pub extern "C" fn cellarcove_div_ceil_i64(x: i64, y: i64) -> I64Answer
 /// `OUTSIDE` if `y` is 0.
 #[unsafe(no_mangle)]
 pub extern "C" fn cellarcove_div_ceil_u64(x: u64, y: u64) -> U64Answer
-    ensures { U64Quotient (pos y) (IsQuotient IsCeiled (pos x) (pos y)) (Only outside) result }
+    ensures { U64Quotient (pos y) (IsQuotient IsCeiled (pos x) (pos y)) (StatusIs outside) result }
 {
     U64Answer::of(checked::div_ceil(x, y), OUTSIDE)
 }
@@ -106,7 +106,7 @@ pub extern "C" fn cellarcove_div_round_i64(x: i64, y: i64) -> I64Answer
 /// `OUTSIDE` if `y` is 0.
 #[unsafe(no_mangle)]
 pub extern "C" fn cellarcove_div_round_u64(x: u64, y: u64) -> U64Answer
-    ensures { U64Quotient (pos y) (IsQuotient IsNearest (pos x) (pos y)) (Only outside) result }
+    ensures { U64Quotient (pos y) (IsQuotient IsNearest (pos x) (pos y)) (StatusIs outside) result }
 {
     U64Answer::of(rounding::div_round(x, y), OUTSIDE)
 }
@@ -127,7 +127,7 @@ pub extern "C" fn cellarcove_div_round_even_i64(x: i64, y: i64) -> I64Answer
 /// `OUTSIDE` if `y` is 0.
 #[unsafe(no_mangle)]
 pub extern "C" fn cellarcove_div_round_even_u64(x: u64, y: u64) -> U64Answer
-    ensures { U64Quotient (pos y) (IsQuotient IsNearestEven (pos x) (pos y)) (Only outside) result }
+    ensures { U64Quotient (pos y) (IsQuotient IsNearestEven (pos x) (pos y)) (StatusIs outside) result }
 {
     U64Answer::of(rounding::div_round_even(x, y), OUTSIDE)
 }
@@ -138,7 +138,7 @@ pub extern "C" fn cellarcove_div_round_even_u64(x: u64, y: u64) -> U64Answer
 /// `OUTSIDE` if `y` is 0.
 #[unsafe(no_mangle)]
 pub extern "C" fn cellarcove_mod_floor_i64(x: i64, y: i64) -> I64Answer
-    ensures { I64Answers (y ≢ pos 0) (IsRemainder IsFloored x y) (Only outside) result }
+    ensures { I64Answers (y ≢ pos 0) (IsRemainder IsFloored x y) (StatusIs outside) result }
 {
     I64Answer::of(checked::mod_floor(x, y), OUTSIDE)
 }
@@ -148,7 +148,7 @@ pub extern "C" fn cellarcove_mod_floor_i64(x: i64, y: i64) -> I64Answer
 /// `OUTSIDE` if `y` is 0.
 #[unsafe(no_mangle)]
 pub extern "C" fn cellarcove_mod_floor_u64(x: u64, y: u64) -> U64Answer
-    ensures { U64Answers (pos y ≢ pos 0) (IsRemainder IsFloored (pos x) (pos y)) (Only outside)
+    ensures { U64Answers (pos y ≢ pos 0) (IsRemainder IsFloored (pos x) (pos y)) (StatusIs outside)
         result }
 {
     U64Answer::of(checked::mod_floor(x, y), OUTSIDE)
@@ -169,7 +169,7 @@ pub extern "C" fn cellarcove_div_mod_floor_i64(x: i64, y: i64) -> I64Division
 /// `OUTSIDE` if `y` is 0.
 #[unsafe(no_mangle)]
 pub extern "C" fn cellarcove_div_mod_floor_u64(x: u64, y: u64) -> U64Division
-    ensures { U64Quotients IsFloored (pos x) (pos y) (Only outside) result }
+    ensures { U64Quotients IsFloored (pos x) (pos y) (StatusIs outside) result }
 {
     U64Division::of(checked::div_mod_floor(x, y), OUTSIDE)
 }
@@ -239,7 +239,7 @@ pub extern "C" fn cellarcove_prev_multiple_of_i64(x: i64, y: i64) -> I64Answer
 /// `OUTSIDE` if `y` is 0.
 #[unsafe(no_mangle)]
 pub extern "C" fn cellarcove_prev_multiple_of_u64(x: u64, y: u64) -> U64Answer
-    ensures { U64Quotient (pos y) (IsMultiple IsFloored (pos x) (pos y)) (Only outside) result }
+    ensures { U64Quotient (pos y) (IsMultiple IsFloored (pos x) (pos y)) (StatusIs outside) result }
 {
     U64Answer::of(checked::prev_multiple_of(x, y), OUTSIDE)
 }
@@ -265,7 +265,7 @@ impl I64Division {
     fn of(option: Option<(i64, i64)>, reason: u32) -> I64Division
         requires { reason ≢ 0 }
         ensures answer { answer_of result.status (result.quotient, result.remainder) ≡ option }
-        ensures refusal { Refuses {A = ℤ × ℤ} (Only reason) (pos 0, pos 0)
+        ensures refusal { Refuses {A = ℤ × ℤ} (StatusIs reason) (pos 0, pos 0)
             result.status (result.quotient, result.remainder) }
     {
         let (status, (quotient, remainder)) = with_status(option, (0, 0), reason);
@@ -282,7 +282,7 @@ impl U64Division {
     fn of(option: Option<(u64, u64)>, reason: u32) -> U64Division
         requires { reason ≢ 0 }
         ensures answer { answer_of result.status (result.quotient, result.remainder) ≡ option }
-        ensures refusal { Refuses {A = ℕ × ℕ} (Only reason) (0, 0) result.status
+        ensures refusal { Refuses {A = ℕ × ℕ} (StatusIs reason) (0, 0) result.status
             (result.quotient, result.remainder) }
     {
         let (status, (quotient, remainder)) = with_status(option, (0, 0), reason);

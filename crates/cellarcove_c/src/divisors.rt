@@ -6,7 +6,7 @@ ghost use Rattle.num_integer.specs.Bezout.{HasPair, IsBezoutAnswer};
 ghost use Rattle.num_integer.specs.Divisors.{GcdFits, IsGreatestCommonDivisor, IsLeastCommonMultiple};
 ghost use Rattle.num_integer.specs.Range.{EachFits};
 ghost use Rattle.cellarcove_c.specs.Answers.{Answers, I64Answers, I64Fitting, U64Answers, U64Fitting};
-ghost use Rattle.cellarcove_c.specs.Statuses.{Only, not_fitting};
+ghost use Rattle.cellarcove_c.specs.Statuses.{StatusIs, not_fitting};
 
 use crate::answers::{ANSWER, I64Answer, NOT_FITTING, U64Answer, with_status};
 use num_integer::{ExtendedGcd, checked};
@@ -45,7 +45,7 @@ pub struct U64GcdLcm {
 #[unsafe(no_mangle)]
 pub extern "C" fn cellarcove_gcd_i64(x: i64, y: i64) -> I64Answer
     ensures { I64Answers (GcdFits (FitsSigned w64) x y) (IsGreatestCommonDivisor x y)
-        (Only not_fitting) result }
+        (StatusIs not_fitting) result }
 {
     I64Answer::of(checked::gcd(x, y), NOT_FITTING)
 }
@@ -54,7 +54,7 @@ pub extern "C" fn cellarcove_gcd_i64(x: i64, y: i64) -> I64Answer
 #[unsafe(no_mangle)]
 pub extern "C" fn cellarcove_gcd_u64(x: u64, y: u64) -> U64Answer
     ensures answer { U64Answers (GcdFits (FitsUnsignedBits 64) (pos x) (pos y))
-        (IsGreatestCommonDivisor (pos x) (pos y)) (Only not_fitting) result }
+        (IsGreatestCommonDivisor (pos x) (pos y)) (StatusIs not_fitting) result }
     ensures always { result.status ≡ 0 }
 {
     U64Answer::of(checked::gcd(x, y), NOT_FITTING)
@@ -88,7 +88,7 @@ pub extern "C" fn cellarcove_gcd_lcm_i64(x: i64, y: i64) -> I64GcdLcm
     ensures { Answers {A = ℤ × ℤ}
         (GcdFits (FitsSigned w64) x y × EachFits (FitsSigned w64) (IsLeastCommonMultiple x y))
         (λ (g, l). IsGreatestCommonDivisor x y g × IsLeastCommonMultiple x y l)
-        (Only not_fitting) (pos 0, pos 0) result.status (result.gcd, result.lcm) }
+        (StatusIs not_fitting) (pos 0, pos 0) result.status (result.gcd, result.lcm) }
 {
     let (status, (gcd, lcm)) = with_status(checked::gcd_lcm(x, y), (0, 0), NOT_FITTING);
     I64GcdLcm { status, gcd, lcm }
@@ -104,7 +104,7 @@ pub extern "C" fn cellarcove_gcd_lcm_u64(x: u64, y: u64) -> U64GcdLcm
         × EachFits (FitsUnsignedBits 64) (IsLeastCommonMultiple (pos x) (pos y)))
         (λ (g, l). IsGreatestCommonDivisor (pos x) (pos y) (pos g)
         × IsLeastCommonMultiple (pos x) (pos y) (pos l))
-        (Only not_fitting) (0, 0) result.status (result.gcd, result.lcm) }
+        (StatusIs not_fitting) (0, 0) result.status (result.gcd, result.lcm) }
 {
     let (status, (gcd, lcm)) = with_status(checked::gcd_lcm(x, y), (0, 0), NOT_FITTING);
     U64GcdLcm { status, gcd, lcm }
@@ -120,7 +120,7 @@ pub extern "C" fn cellarcove_extended_gcd_i64(x: i64, y: i64) -> I64Bezout
     ensures { Answers {A = ℤ × ℤ × ℤ}
         (GcdFits (FitsSigned w64) x y × HasPair (FitsSigned w64) x y)
         (λ (g, u, v). IsBezoutAnswer x y g u v)
-        (Only not_fitting) (pos 0, pos 0, pos 0) result.status (result.gcd, result.x, result.y) }
+        (StatusIs not_fitting) (pos 0, pos 0, pos 0) result.status (result.gcd, result.x, result.y) }
 {
     match checked::extended_gcd(x, y) {
         Some(e) => I64Bezout::some(e),

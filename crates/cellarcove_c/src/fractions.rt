@@ -8,7 +8,7 @@ ghost use Rattle.ratio64.specs.Ratio.{AnswersFraction, den_of, num_of};
 ghost use Rattle.ratio64.specs.RatioError.{number_of};
 ghost use Rattle.ratio64.specs.declared.error.RatioError.{RatioError};
 ghost use Rattle.ratio64.specs.declared.fraction.Ratio.{Ratio};
-ghost use Rattle.cellarcove_c.specs.Fractions.{AnswersOfOne, AnswersOfTwo, IsDifferenceOf, IsMagnitude, IsNegation, IsPower, IsProductOf, IsQuotientOf, IsReciprocal, IsSumOf, IsTimes, OnBoth, OnOne, StandsFor, order_number};
+ghost use Rattle.cellarcove_c.specs.Fractions.{AnswersOfOne, AnswersOfTwo, IsDifferenceOf, IsMagnitude, IsNegation, IsPower, IsProductOf, IsQuotientOf, IsReciprocal, IsSumOf, IsTimes, OnBothFractions, OnOne, Represents, order_number};
 ghost use Rattle.cellarcove_c.specs.Statuses.{outside};
 
 use crate::answers::{ANSWER, OUTSIDE};
@@ -46,7 +46,7 @@ pub struct OrderAnswer {
 #[unsafe(no_mangle)]
 pub extern "C" fn cellarcove_fraction_new(num: i64, den: i64) -> FractionAnswer
     ensures { (r : Result Ratio RatioError) × AnswersFraction num den r
-        × StandsFor r result.status result.value.num result.value.den }
+        × Represents r result.status result.value.num result.value.den }
 {
     FractionAnswer::of(Ratio::new(num, den))
 }
@@ -158,7 +158,7 @@ pub extern "C" fn cellarcove_fraction_times(a: Fraction, n: i64, d: i64) -> Frac
 pub extern "C" fn cellarcove_fraction_cmp(a: Fraction, b: Fraction) -> OrderAnswer
     ensures { (p q : Result Ratio RatioError) × AnswersFraction a.num a.den p
         × AnswersFraction b.num b.den q
-        × OnBoth p q
+        × OnBothFractions p q
         (λ x y. (result.status ≡ 0) × (result.order
         ≡ order_number (fraction_cmp (num_of x) (den_of x) (num_of y) (den_of y))))
         (λ e. (result.status ≡ number_of e) × (result.order ≡ pos 0)) }
@@ -201,7 +201,7 @@ impl Fraction {
 impl FractionAnswer {
     /// Returns a result of `ratio64`.
     pub(crate) fn of(answered: Result<Ratio, RatioError>) -> FractionAnswer
-        ensures { StandsFor answered result.status result.value.num result.value.den }
+        ensures { Represents answered result.status result.value.num result.value.den }
     {
         match answered {
             Ok(ratio) => FractionAnswer::some(&ratio),
@@ -316,7 +316,7 @@ fn times(a: Result<Ratio, RatioError>, n: i64, d: i64) -> Result<Ratio, RatioErr
 
 /// Returns the order of two fractions, or the status of the first error.
 fn order(a: Result<Ratio, RatioError>, b: Result<Ratio, RatioError>) -> OrderAnswer
-    ensures { OnBoth a b
+    ensures { OnBothFractions a b
         (λ x y. (result.status ≡ 0) × (result.order
         ≡ order_number (fraction_cmp (num_of x) (den_of x) (num_of y) (den_of y))))
         (λ e. (result.status ≡ number_of e) × (result.order ≡ pos 0)) }

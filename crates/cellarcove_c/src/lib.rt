@@ -14,7 +14,7 @@ mod decimals;
 mod division;
 mod divisors;
 mod fractions;
-mod from_contracts;
+mod laws;
 mod layout;
 mod lists;
 mod modulo;

@@ -5,7 +5,7 @@ ghost use Rattle.std.specs.Int.{int_pow};
 ghost use Rattle.modular.specs.Congruences.{IsInverse, IsQuotientModulo, IsResidue};
 ghost use Rattle.cellarcove_c.specs.Answers.{I64Answers, U64Answers};
 ghost use Rattle.cellarcove_c.specs.Congruences.{I64Solution, IsNever, U64Solution};
-ghost use Rattle.cellarcove_c.specs.Statuses.{Only, bad_modulus};
+ghost use Rattle.cellarcove_c.specs.Statuses.{StatusIs, bad_modulus};
 
 use crate::answers::{BAD_MODULUS, I64Answer, NO_SOLUTION, U64Answer};
 use modular::checked;
@@ -15,7 +15,7 @@ use modular::checked;
 /// `BAD_MODULUS` if `m` is not positive.
 #[unsafe(no_mangle)]
 pub extern "C" fn cellarcove_residue_i64(a: i64, m: i64) -> I64Answer
-    ensures { I64Answers (pos 0 <ℤ m) (IsResidue m a) (Only bad_modulus) result }
+    ensures { I64Answers (pos 0 <ℤ m) (IsResidue m a) (StatusIs bad_modulus) result }
 {
     I64Answer::of(checked::residue(a, m), BAD_MODULUS)
 }
@@ -25,7 +25,7 @@ pub extern "C" fn cellarcove_residue_i64(a: i64, m: i64) -> I64Answer
 /// `BAD_MODULUS` if `m` is 0.
 #[unsafe(no_mangle)]
 pub extern "C" fn cellarcove_residue_u64(a: u64, m: u64) -> U64Answer
-    ensures { U64Answers (pos 0 <ℤ pos m) (IsResidue (pos m) (pos a)) (Only bad_modulus) result }
+    ensures { U64Answers (pos 0 <ℤ pos m) (IsResidue (pos m) (pos a)) (StatusIs bad_modulus) result }
 {
     U64Answer::of(checked::residue(a, m), BAD_MODULUS)
 }
@@ -35,7 +35,7 @@ pub extern "C" fn cellarcove_residue_u64(a: u64, m: u64) -> U64Answer
 /// `BAD_MODULUS` if `m` is not positive.
 #[unsafe(no_mangle)]
 pub extern "C" fn cellarcove_negation_modulo_i64(a: i64, m: i64) -> I64Answer
-    ensures { I64Answers (pos 0 <ℤ m) (IsResidue m (neg_ℤ a)) (Only bad_modulus) result }
+    ensures { I64Answers (pos 0 <ℤ m) (IsResidue m (neg_ℤ a)) (StatusIs bad_modulus) result }
 {
     I64Answer::of(checked::negation_modulo(a, m), BAD_MODULUS)
 }
@@ -45,7 +45,7 @@ pub extern "C" fn cellarcove_negation_modulo_i64(a: i64, m: i64) -> I64Answer
 /// `BAD_MODULUS` if `m` is 0.
 #[unsafe(no_mangle)]
 pub extern "C" fn cellarcove_negation_modulo_u64(a: u64, m: u64) -> U64Answer
-    ensures { U64Answers (pos 0 <ℤ pos m) (IsResidue (pos m) (neg_ℤ (pos a))) (Only bad_modulus)
+    ensures { U64Answers (pos 0 <ℤ pos m) (IsResidue (pos m) (neg_ℤ (pos a))) (StatusIs bad_modulus)
         result }
 {
     U64Answer::of(checked::negation_modulo(a, m), BAD_MODULUS)
@@ -56,7 +56,7 @@ pub extern "C" fn cellarcove_negation_modulo_u64(a: u64, m: u64) -> U64Answer
 /// `BAD_MODULUS` if `m` is not positive.
 #[unsafe(no_mangle)]
 pub extern "C" fn cellarcove_sum_modulo_i64(a: i64, b: i64, m: i64) -> I64Answer
-    ensures { I64Answers (pos 0 <ℤ m) (IsResidue m (a +ℤ b)) (Only bad_modulus) result }
+    ensures { I64Answers (pos 0 <ℤ m) (IsResidue m (a +ℤ b)) (StatusIs bad_modulus) result }
 {
     I64Answer::of(checked::sum_modulo(a, b, m), BAD_MODULUS)
 }
@@ -66,7 +66,7 @@ pub extern "C" fn cellarcove_sum_modulo_i64(a: i64, b: i64, m: i64) -> I64Answer
 /// `BAD_MODULUS` if `m` is 0.
 #[unsafe(no_mangle)]
 pub extern "C" fn cellarcove_sum_modulo_u64(a: u64, b: u64, m: u64) -> U64Answer
-    ensures { U64Answers (pos 0 <ℤ pos m) (IsResidue (pos m) (pos a +ℤ pos b)) (Only bad_modulus)
+    ensures { U64Answers (pos 0 <ℤ pos m) (IsResidue (pos m) (pos a +ℤ pos b)) (StatusIs bad_modulus)
         result }
 {
     U64Answer::of(checked::sum_modulo(a, b, m), BAD_MODULUS)
@@ -77,7 +77,7 @@ pub extern "C" fn cellarcove_sum_modulo_u64(a: u64, b: u64, m: u64) -> U64Answer
 /// `BAD_MODULUS` if `m` is not positive.
 #[unsafe(no_mangle)]
 pub extern "C" fn cellarcove_difference_modulo_i64(a: i64, b: i64, m: i64) -> I64Answer
-    ensures { I64Answers (pos 0 <ℤ m) (IsResidue m (a -ℤ b)) (Only bad_modulus) result }
+    ensures { I64Answers (pos 0 <ℤ m) (IsResidue m (a -ℤ b)) (StatusIs bad_modulus) result }
 {
     I64Answer::of(checked::difference_modulo(a, b, m), BAD_MODULUS)
 }
@@ -87,7 +87,7 @@ pub extern "C" fn cellarcove_difference_modulo_i64(a: i64, b: i64, m: i64) -> I6
 /// `BAD_MODULUS` if `m` is 0.
 #[unsafe(no_mangle)]
 pub extern "C" fn cellarcove_difference_modulo_u64(a: u64, b: u64, m: u64) -> U64Answer
-    ensures { U64Answers (pos 0 <ℤ pos m) (IsResidue (pos m) (pos a -ℤ pos b)) (Only bad_modulus)
+    ensures { U64Answers (pos 0 <ℤ pos m) (IsResidue (pos m) (pos a -ℤ pos b)) (StatusIs bad_modulus)
         result }
 {
     U64Answer::of(checked::difference_modulo(a, b, m), BAD_MODULUS)
@@ -98,7 +98,7 @@ pub extern "C" fn cellarcove_difference_modulo_u64(a: u64, b: u64, m: u64) -> U6
 /// `BAD_MODULUS` if `m` is not positive.
 #[unsafe(no_mangle)]
 pub extern "C" fn cellarcove_product_modulo_i64(a: i64, b: i64, m: i64) -> I64Answer
-    ensures { I64Answers (pos 0 <ℤ m) (IsResidue m (a *ℤ b)) (Only bad_modulus) result }
+    ensures { I64Answers (pos 0 <ℤ m) (IsResidue m (a *ℤ b)) (StatusIs bad_modulus) result }
 {
     I64Answer::of(checked::product_modulo(a, b, m), BAD_MODULUS)
 }
@@ -108,7 +108,7 @@ pub extern "C" fn cellarcove_product_modulo_i64(a: i64, b: i64, m: i64) -> I64An
 /// `BAD_MODULUS` if `m` is 0.
 #[unsafe(no_mangle)]
 pub extern "C" fn cellarcove_product_modulo_u64(a: u64, b: u64, m: u64) -> U64Answer
-    ensures { U64Answers (pos 0 <ℤ pos m) (IsResidue (pos m) (pos a *ℤ pos b)) (Only bad_modulus)
+    ensures { U64Answers (pos 0 <ℤ pos m) (IsResidue (pos m) (pos a *ℤ pos b)) (StatusIs bad_modulus)
         result }
 {
     U64Answer::of(checked::product_modulo(a, b, m), BAD_MODULUS)
@@ -119,7 +119,7 @@ pub extern "C" fn cellarcove_product_modulo_u64(a: u64, b: u64, m: u64) -> U64An
 /// `BAD_MODULUS` if `m` is not positive.
 #[unsafe(no_mangle)]
 pub extern "C" fn cellarcove_power_modulo_i64(a: i64, exponent: u64, m: i64) -> I64Answer
-    ensures { I64Answers (pos 0 <ℤ m) (IsResidue m (int_pow a exponent)) (Only bad_modulus) result }
+    ensures { I64Answers (pos 0 <ℤ m) (IsResidue m (int_pow a exponent)) (StatusIs bad_modulus) result }
 {
     I64Answer::of(
         checked::power_modulo(a, u128::from(exponent), m),
@@ -133,7 +133,7 @@ pub extern "C" fn cellarcove_power_modulo_i64(a: i64, exponent: u64, m: i64) -> 
 #[unsafe(no_mangle)]
 pub extern "C" fn cellarcove_power_modulo_u64(a: u64, exponent: u64, m: u64) -> U64Answer
     ensures { U64Answers (pos 0 <ℤ pos m) (IsResidue (pos m) (int_pow (pos a) exponent))
-        (Only bad_modulus) result }
+        (StatusIs bad_modulus) result }
 {
     U64Answer::of(
         checked::power_modulo(a, u128::from(exponent), m),

@@ -7,7 +7,7 @@ ghost use Rattle.applied.specs.Paging.{IsPlace, IsRangeOfPage, IsRangeOfPart};
 ghost use Rattle.num_integer.specs.Range.{EachFits};
 ghost use Rattle.cellarcove_c.specs.Answers.{Answers, I64Answers, U64Answers};
 ghost use Rattle.cellarcove_c.specs.Paging.{IsFewestPages};
-ghost use Rattle.cellarcove_c.specs.Statuses.{IsReason, Only, outside};
+ghost use Rattle.cellarcove_c.specs.Statuses.{IsReason, StatusIs, outside};
 
 use crate::answers::{ANSWER, I64Answer, NOT_FITTING, OUTSIDE, U64Answer};
 use applied::paging::{item_at, pages, place_of, range_of_page, range_of_part};
@@ -53,7 +53,7 @@ pub struct U64Range {
 /// `OUTSIDE` if `page_size` is not positive.
 #[unsafe(no_mangle)]
 pub extern "C" fn cellarcove_pages_i64(items: i64, page_size: i64) -> I64Answer
-    ensures { I64Answers (pos 0 <ℤ page_size) (IsFewestPages items page_size) (Only outside) result }
+    ensures { I64Answers (pos 0 <ℤ page_size) (IsFewestPages items page_size) (StatusIs outside) result }
 {
     if page_size > 0 {
         I64Answer::some(pages(items, page_size))
@@ -67,7 +67,7 @@ pub extern "C" fn cellarcove_pages_i64(items: i64, page_size: i64) -> I64Answer
 /// `OUTSIDE` if `page_size` is 0.
 #[unsafe(no_mangle)]
 pub extern "C" fn cellarcove_pages_u64(items: u64, page_size: u64) -> U64Answer
-    ensures { U64Answers (pos 0 <ℤ pos page_size) (IsFewestPages (pos items) (pos page_size)) (Only outside) result }
+    ensures { U64Answers (pos 0 <ℤ pos page_size) (IsFewestPages (pos items) (pos page_size)) (StatusIs outside) result }
 {
     if page_size > 0 {
         U64Answer::some(pages(items, page_size))
@@ -83,7 +83,7 @@ pub extern "C" fn cellarcove_pages_u64(items: u64, page_size: u64) -> U64Answer
 pub extern "C" fn cellarcove_place_of_i64(item: i64, page_size: i64) -> I64Place
     ensures { Answers {A = ℤ × ℤ} (pos 0 <ℤ page_size)
         (λ (page, place). IsPlace item page_size page place)
-        (Only outside) (pos 0, pos 0) result.status (result.page, result.place) }
+        (StatusIs outside) (pos 0, pos 0) result.status (result.page, result.place) }
 {
     if page_size > 0 {
         let (page, place) = place_of(item, page_size);
@@ -100,7 +100,7 @@ pub extern "C" fn cellarcove_place_of_i64(item: i64, page_size: i64) -> I64Place
 pub extern "C" fn cellarcove_place_of_u64(item: u64, page_size: u64) -> U64Place
     ensures { Answers {A = ℕ × ℕ} (pos 0 <ℤ pos page_size)
         (λ (page, place). IsPlace (pos item) (pos page_size) (pos page) (pos place))
-        (Only outside) (0, 0) result.status (result.page, result.place) }
+        (StatusIs outside) (0, 0) result.status (result.page, result.place) }
 {
     if page_size > 0 {
         let (page, place) = place_of(item, page_size);
@@ -150,7 +150,7 @@ pub extern "C" fn cellarcove_item_at_u64(page: u64, place: u64, page_size: u64) 
 pub extern "C" fn cellarcove_range_of_page_i64(page: i64, page_size: i64, items: i64) -> I64Range
     ensures { Answers {A = ℤ × ℤ} ((pos 0 <ℤ page_size) × (pos 0 ≤ℤ items))
         (λ (first, end). IsRangeOfPage page page_size items first end)
-        (Only outside) (pos 0, pos 0) result.status (result.first, result.end) }
+        (StatusIs outside) (pos 0, pos 0) result.status (result.first, result.end) }
 {
     if page_size <= 0 || items < 0 {
         return I64Range::none();
@@ -167,7 +167,7 @@ pub extern "C" fn cellarcove_range_of_page_i64(page: i64, page_size: i64, items:
 pub extern "C" fn cellarcove_range_of_page_u64(page: u64, page_size: u64, items: u64) -> U64Range
     ensures { Answers {A = ℕ × ℕ} (pos 0 <ℤ pos page_size)
         (λ (first, end). IsRangeOfPage (pos page) (pos page_size) (pos items) (pos first) (pos end))
-        (Only outside) (0, 0) result.status (result.first, result.end) }
+        (StatusIs outside) (0, 0) result.status (result.first, result.end) }
 {
     if page_size == 0 {
         return U64Range::none();
@@ -185,7 +185,7 @@ pub extern "C" fn cellarcove_range_of_page_u64(page: u64, page_size: u64, items:
 pub extern "C" fn cellarcove_range_of_part_i64(part: i64, parts: i64, items: i64) -> I64Range
     ensures { Answers {A = ℤ × ℤ} ((pos 0 ≤ℤ part) × (part <ℤ parts) × (pos 0 ≤ℤ items))
         (λ (first, end). IsRangeOfPart part parts items first end)
-        (Only outside) (pos 0, pos 0) result.status (result.first, result.end) }
+        (StatusIs outside) (pos 0, pos 0) result.status (result.first, result.end) }
 {
     if !is_part(part, parts, items) {
         return I64Range::none();
@@ -203,7 +203,7 @@ pub extern "C" fn cellarcove_range_of_part_i64(part: i64, parts: i64, items: i64
 pub extern "C" fn cellarcove_range_of_part_u64(part: u64, parts: u64, items: u64) -> U64Range
     ensures { Answers {A = ℕ × ℕ} (pos part <ℤ pos parts)
         (λ (first, end). IsRangeOfPart (pos part) (pos parts) (pos items) (pos first) (pos end))
-        (Only outside) (0, 0) result.status (result.first, result.end) }
+        (StatusIs outside) (0, 0) result.status (result.first, result.end) }
 {
     if parts <= part {
         return U64Range::none();

@@ -5,7 +5,7 @@ ghost use Rattle.std.specs.Int.{int_pow};
 ghost use Rattle.applied.specs.Powers.{IsLogarithm};
 ghost use Rattle.cellarcove_c.specs.Answers.{Answers, Refuses};
 ghost use Rattle.cellarcove_c.specs.Roots.{IsRootWithRest};
-ghost use Rattle.cellarcove_c.specs.Statuses.{Only, answer_of, outside};
+ghost use Rattle.cellarcove_c.specs.Statuses.{StatusIs, answer_of, outside};
 
 use crate::answers::{OUTSIDE, U64Answer, with_status};
 use applied::powers::{checked, is_perfect_power, is_power, is_square};
@@ -86,7 +86,7 @@ pub extern "C" fn cellarcove_is_perfect_power_u64(x: u64) -> bool
 #[unsafe(no_mangle)]
 pub extern "C" fn cellarcove_sqrt_rem_i64(x: i64) -> I64Root
     ensures { Answers {A = ℤ × ℤ} (pos 0 ≤ℤ x) (λ (root, rest). IsRootWithRest x root rest)
-        (Only outside) (pos 0, pos 0) result.status (result.root, result.rest) }
+        (StatusIs outside) (pos 0, pos 0) result.status (result.root, result.rest) }
 {
     I64Root::of(checked::sqrt_rem(x))
 }
@@ -97,7 +97,7 @@ pub extern "C" fn cellarcove_sqrt_rem_i64(x: i64) -> I64Root
 pub extern "C" fn cellarcove_sqrt_rem_u64(x: u64) -> U64Root
     ensures answer { Answers {A = ℕ × ℕ} (pos 0 ≤ℤ pos x)
         (λ (root, rest). IsRootWithRest (pos x) (pos root) (pos rest))
-        (Only outside) (0, 0) result.status (result.root, result.rest) }
+        (StatusIs outside) (0, 0) result.status (result.root, result.rest) }
     ensures always { result.status ≡ 0 }
 {
     U64Root::of(checked::sqrt_rem(x))
@@ -110,7 +110,7 @@ pub extern "C" fn cellarcove_sqrt_rem_u64(x: u64) -> U64Root
 #[unsafe(no_mangle)]
 pub extern "C" fn cellarcove_ilog_i64(x: i64, base: i64) -> U64Answer
     ensures { Answers ((pos 0 <ℤ x) × (pos 1 <ℤ base)) (IsLogarithm base x)
-        (Only outside) 0 result.status result.value }
+        (StatusIs outside) 0 result.status result.value }
 {
     logarithm(checked::ilog(x, base))
 }
@@ -122,7 +122,7 @@ pub extern "C" fn cellarcove_ilog_i64(x: i64, base: i64) -> U64Answer
 #[unsafe(no_mangle)]
 pub extern "C" fn cellarcove_ilog_u64(x: u64, base: u64) -> U64Answer
     ensures { Answers ((pos 0 <ℤ pos x) × (pos 1 <ℤ pos base)) (IsLogarithm (pos base) (pos x))
-        (Only outside) 0 result.status result.value }
+        (StatusIs outside) 0 result.status result.value }
 {
     logarithm(checked::ilog(x, base))
 }
@@ -131,7 +131,7 @@ impl I64Root {
     /// Returns the result of a call of `applied::powers::checked`.
     fn of(option: Option<(i64, i64)>) -> I64Root
         ensures answer { answer_of result.status (result.root, result.rest) ≡ option }
-        ensures refusal { Refuses {A = ℤ × ℤ} (Only outside) (pos 0, pos 0)
+        ensures refusal { Refuses {A = ℤ × ℤ} (StatusIs outside) (pos 0, pos 0)
             result.status (result.root, result.rest) }
     {
         let (status, (root, rest)) = with_status(option, (0, 0), OUTSIDE);
@@ -143,7 +143,7 @@ impl U64Root {
     /// Returns the result of a call of `applied::powers::checked`.
     fn of(option: Option<(u64, u64)>) -> U64Root
         ensures answer { answer_of result.status (result.root, result.rest) ≡ option }
-        ensures refusal { Refuses {A = ℕ × ℕ} (Only outside) (0, 0) result.status (result.root, result.rest) }
+        ensures refusal { Refuses {A = ℕ × ℕ} (StatusIs outside) (0, 0) result.status (result.root, result.rest) }
     {
         let (status, (root, rest)) = with_status(option, (0, 0), OUTSIDE);
         U64Root { status, root, rest }
@@ -153,7 +153,7 @@ impl U64Root {
 /// Returns the result of a logarithm.
 fn logarithm(option: Option<u32>) -> U64Answer
     ensures answer { answer_of result.status result.value ≡ option }
-    ensures refusal { Refuses (Only outside) 0 result.status result.value }
+    ensures refusal { Refuses (StatusIs outside) 0 result.status result.value }
 {
     match option {
         Some(degree) => U64Answer::some(u64::from(degree)),

@@ -4,7 +4,7 @@ ghost use Rattle.std.specs.Prelude.{◌≡◌, ◌↔◌, ◌<◌, ◌^◌, ℕ,
 ghost use Rattle.num_integer.specs.Coefficient.{coefficient};
 ghost use Rattle.applied.specs.Ranking.{IsChoice, IsChoiceOfRank, rank_of};
 ghost use Rattle.cellarcove_c.specs.Answers.{Answers, U64Answers};
-ghost use Rattle.cellarcove_c.specs.Statuses.{IsReason, Only, outside};
+ghost use Rattle.cellarcove_c.specs.Statuses.{IsReason, StatusIs, outside};
 
 use crate::answers::{ANSWER, NOT_FITTING, OUTSIDE, U64Answer};
 use crate::binomials::binomial;
@@ -38,7 +38,7 @@ pub extern "C" fn cellarcove_rank_u64(choice: &[u64], n: u64) -> U64Answer
 #[unsafe(no_mangle)]
 pub extern "C" fn cellarcove_choice_of_rank_u64(rank: u64, n: u64, choice: &mut [u64]) -> u32
     ensures { Answers {A = List ℕ} (rank < coefficient n (length choice.old))
-        (IsChoiceOfRank n (length choice.old) rank) (Only outside) choice.old result choice.new }
+        (IsChoiceOfRank n (length choice.old) rank) (StatusIs outside) choice.old result choice.new }
 {
     if is_rank(rank, n, choice.len() as u64) {
         choice_of_rank(rank, n, choice);

@@ -4,7 +4,7 @@ ghost use Rattle.std.specs.Prelude.{◌≡◌, ◌≢◌, ◌%◌, ◌≤ℤ◌,
 ghost use Rattle.num_integer.specs.Averages.{IsAverageCeil, IsAverageFloor};
 ghost use Rattle.num_integer.specs.RootOf.{IsRoot};
 ghost use Rattle.cellarcove_c.specs.Answers.{I64Answers, U64Answers};
-ghost use Rattle.cellarcove_c.specs.Statuses.{Only, outside};
+ghost use Rattle.cellarcove_c.specs.Statuses.{StatusIs, outside};
 
 use crate::answers::{I64Answer, OUTSIDE, U64Answer};
 use num_integer::{average_ceil, average_floor, cbrt, checked};
@@ -46,7 +46,7 @@ pub extern "C" fn cellarcove_average_ceil_u64(x: u64, y: u64) -> u64
 /// `OUTSIDE` if `x` is negative.
 #[unsafe(no_mangle)]
 pub extern "C" fn cellarcove_sqrt_i64(x: i64) -> I64Answer
-    ensures { I64Answers (pos 0 ≤ℤ x) (IsRoot x 2) (Only outside) result }
+    ensures { I64Answers (pos 0 ≤ℤ x) (IsRoot x 2) (StatusIs outside) result }
 {
     I64Answer::of(checked::sqrt(x), OUTSIDE)
 }
@@ -54,7 +54,7 @@ pub extern "C" fn cellarcove_sqrt_i64(x: i64) -> I64Answer
 /// Returns the square root rounded down, which always fits. That of 99 is 9.
 #[unsafe(no_mangle)]
 pub extern "C" fn cellarcove_sqrt_u64(x: u64) -> U64Answer
-    ensures answer { U64Answers (pos 0 ≤ℤ pos x) (IsRoot (pos x) 2) (Only outside) result }
+    ensures answer { U64Answers (pos 0 ≤ℤ pos x) (IsRoot (pos x) 2) (StatusIs outside) result }
     ensures always { result.status ≡ 0 }
 {
     U64Answer::of(checked::sqrt(x), OUTSIDE)
@@ -82,7 +82,7 @@ pub extern "C" fn cellarcove_cbrt_u64(x: u64) -> u64
 #[unsafe(no_mangle)]
 pub extern "C" fn cellarcove_nth_root_i64(x: i64, degree: u32) -> I64Answer
     ensures { I64Answers ((degree ≢ 0) × (degree % 2 ≡ 0 → pos 0 ≤ℤ x)) (IsRoot x degree)
-        (Only outside) result }
+        (StatusIs outside) result }
 {
     I64Answer::of(checked::nth_root(x, degree), OUTSIDE)
 }
@@ -93,7 +93,7 @@ pub extern "C" fn cellarcove_nth_root_i64(x: i64, degree: u32) -> I64Answer
 #[unsafe(no_mangle)]
 pub extern "C" fn cellarcove_nth_root_u64(x: u64, degree: u32) -> U64Answer
     ensures { U64Answers ((degree ≢ 0) × (degree % 2 ≡ 0 → pos 0 ≤ℤ pos x)) (IsRoot (pos x) degree)
-        (Only outside) result }
+        (StatusIs outside) result }
 {
     U64Answer::of(checked::nth_root(x, degree), OUTSIDE)
 }

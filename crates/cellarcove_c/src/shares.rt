@@ -3,7 +3,7 @@
 ghost use Rattle.std.specs.Prelude.{ℕ, ℤ, List};
 ghost use Rattle.applied.specs.Shares.{AreShares, AreSharesByRemainder, AreSignedShares, CanBeShared};
 ghost use Rattle.cellarcove_c.specs.Answers.{Answers};
-ghost use Rattle.cellarcove_c.specs.Statuses.{Only, outside};
+ghost use Rattle.cellarcove_c.specs.Statuses.{StatusIs, outside};
 
 use crate::answers::{ANSWER, OUTSIDE};
 use applied::shares::{shares, shares_by_largest_remainder, signed_shares};
@@ -17,7 +17,7 @@ use applied::shares::{shares, shares_by_largest_remainder, signed_shares};
 #[unsafe(no_mangle)]
 pub extern "C" fn cellarcove_shares_i64(amount: i64, weights: &[u64], parts: &mut [i64]) -> u32
     ensures { Answers {A = List ℤ} (CanBeShared weights.now parts.old)
-        (AreSignedShares amount weights.now) (Only outside) parts.old result parts.new }
+        (AreSignedShares amount weights.now) (StatusIs outside) parts.old result parts.new }
 {
     match signed_shares(amount, weights, parts) {
         Ok(()) => ANSWER,
@@ -33,7 +33,7 @@ pub extern "C" fn cellarcove_shares_i64(amount: i64, weights: &[u64], parts: &mu
 #[unsafe(no_mangle)]
 pub extern "C" fn cellarcove_shares_u64(amount: u64, weights: &[u64], parts: &mut [u64]) -> u32
     ensures { Answers {A = List ℕ} (CanBeShared weights.now parts.old)
-        (AreShares amount weights.now) (Only outside) parts.old result parts.new }
+        (AreShares amount weights.now) (StatusIs outside) parts.old result parts.new }
 {
     match shares(amount, weights, parts) {
         Ok(()) => ANSWER,
@@ -54,7 +54,7 @@ pub extern "C" fn cellarcove_shares_by_largest_remainder_u64(
     parts: &mut [u64],
 ) -> u32
     ensures { Answers {A = List ℕ} (CanBeShared weights.now parts.old)
-        (AreSharesByRemainder amount weights.now) (Only outside) parts.old result parts.new }
+        (AreSharesByRemainder amount weights.now) (StatusIs outside) parts.old result parts.new }
 {
     match shares_by_largest_remainder(amount, weights, parts) {
         Ok(()) => ANSWER,

@@ -7,7 +7,7 @@ ghost use Rattle.calendar.specs.Weeks.{HasWeekday, IsFirstWeekday, IsLastWeekday
 ghost use Rattle.calendar.specs.declared.weekday.Weekday.{Weekday};
 ghost use Rattle.cellarcove_c.specs.Answers.{Answers, Refuses};
 ghost use Rattle.cellarcove_c.specs.Dates.{Exists, IsDayOfIsoNumber, IsLastOfIsoNumber, IsNthOfIsoNumber, day_of, zero_date};
-ghost use Rattle.cellarcove_c.specs.Statuses.{Either, Only, no_date, not_fitting, outside};
+ghost use Rattle.cellarcove_c.specs.Statuses.{StatusIsOneOf, StatusIs, no_date, not_fitting, outside};
 
 use crate::answers::{I64Answer, NO_DATE, NOT_FITTING, OUTSIDE, U64Answer};
 use crate::dates::{Date, DateAnswer};
@@ -33,7 +33,7 @@ pub extern "C" fn cellarcove_weekday(day: i64) -> u8
 pub extern "C" fn cellarcove_weekday_of_date(date: Date) -> U64Answer
     ensures { Answers (Exists date)
         (λ number. IsDayOfIsoNumber number (λ w day. HasWeekday day w) (day_of date))
-        (Only no_date) 0 result.status result.value }
+        (StatusIs no_date) 0 result.status result.value }
 {
     match date.found() {
         Some(found) => U64Answer::some(u64::from(found.weekday().iso_number())),
@@ -53,7 +53,7 @@ pub extern "C" fn cellarcove_first_weekday_on_or_after(day: i64, weekday: u8) ->
     ensures not_fitting { result.status ≡ not_fitting → (first : ℤ)
         → IsDayOfIsoNumber weekday (λ w first. IsFirstWeekday day w first) first
         → ¬ (FitsSigned w64 first) }
-    ensures refusal { Refuses (Either outside not_fitting) (pos 0) result.status result.value }
+    ensures refusal { Refuses (StatusIsOneOf outside not_fitting) (pos 0) result.status result.value }
 {
     match Weekday::from_iso_number(weekday) {
         Some(weekday) => I64Answer::of(first_weekday_on_or_after(day, weekday), NOT_FITTING),
@@ -73,7 +73,7 @@ pub extern "C" fn cellarcove_last_weekday_on_or_before(day: i64, weekday: u8) ->
     ensures not_fitting { result.status ≡ not_fitting → (last : ℤ)
         → IsDayOfIsoNumber weekday (λ w last. IsLastWeekday day w last) last
         → ¬ (FitsSigned w64 last) }
-    ensures refusal { Refuses (Either outside not_fitting) (pos 0) result.status result.value }
+    ensures refusal { Refuses (StatusIsOneOf outside not_fitting) (pos 0) result.status result.value }
 {
     match Weekday::from_iso_number(weekday) {
         Some(weekday) => I64Answer::of(last_weekday_on_or_before(day, weekday), NOT_FITTING),
@@ -97,7 +97,7 @@ pub extern "C" fn cellarcove_nth_weekday_of_month(
     ensures outside { (result.status ≡ outside) ↔ (¬ ((1 ≤ weekday) × (weekday ≤ 7))) }
     ensures no_date { result.status ≡ no_date → (y : ℤ) (m d : ℕ)
         → ¬ (IsNthOfIsoNumber year month weekday n y m d) }
-    ensures refusal { Refuses (Either outside no_date) zero_date result.status result.date }
+    ensures refusal { Refuses (StatusIsOneOf outside no_date) zero_date result.status result.date }
 {
     match Weekday::from_iso_number(weekday) {
         Some(weekday) => match nth_weekday_of_month(year, month, weekday, n) {
@@ -120,7 +120,7 @@ pub extern "C" fn cellarcove_last_weekday_of_month(year: i64, month: u8, weekday
     ensures outside { (result.status ≡ outside) ↔ (¬ ((1 ≤ weekday) × (weekday ≤ 7))) }
     ensures no_date { (result.status ≡ no_date)
         ↔ (((1 ≤ weekday) × (weekday ≤ 7)) × (¬ ((1 ≤ month) × (month ≤ 12)))) }
-    ensures refusal { Refuses (Either outside no_date) zero_date result.status result.date }
+    ensures refusal { Refuses (StatusIsOneOf outside no_date) zero_date result.status result.date }
 {
     match Weekday::from_iso_number(weekday) {
         Some(weekday) => match last_weekday_of_month(year, month, weekday) {

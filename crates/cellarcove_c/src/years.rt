@@ -7,7 +7,7 @@ ghost use Rattle.calendar.specs.Months.{days_before_month, days_in_month};
 ghost use Rattle.calendar.specs.Years.{days_in_year};
 ghost use Rattle.cellarcove_c.specs.Answers.{Answers};
 ghost use Rattle.cellarcove_c.specs.Dates.{Exists};
-ghost use Rattle.cellarcove_c.specs.Statuses.{Only, no_date};
+ghost use Rattle.cellarcove_c.specs.Statuses.{StatusIs, no_date};
 
 use crate::answers::{NO_DATE, U64Answer};
 use crate::dates::Date;
@@ -43,7 +43,7 @@ pub extern "C" fn cellarcove_weeks_in_year(year: i64) -> u8
 #[unsafe(no_mangle)]
 pub extern "C" fn cellarcove_days_in_month(year: i64, month: u8) -> U64Answer
     ensures { Answers ((1 ≤ month) × (month ≤ 12)) (λ days. days ≡ days_in_month year month)
-        (Only no_date) 0 result.status result.value }
+        (StatusIs no_date) 0 result.status result.value }
 {
     if (1..=12).contains(&month) {
         U64Answer::some(u64::from(days_in_month(year, month)))
@@ -59,7 +59,7 @@ pub extern "C" fn cellarcove_days_in_month(year: i64, month: u8) -> U64Answer
 pub extern "C" fn cellarcove_day_of_year(date: Date) -> U64Answer
     ensures { Answers (Exists date)
         (λ day. day ≡ days_before_month date.year date.month + date.day_of_month)
-        (Only no_date) 0 result.status result.value }
+        (StatusIs no_date) 0 result.status result.value }
 {
     match date.found() {
         Some(found) => U64Answer::some(u64::from(found.day_of_year())),

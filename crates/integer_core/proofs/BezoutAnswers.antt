@@ -3,7 +3,7 @@ use Rattle.integer_core.proofs.Common.{◌≡◌, ◌≢◌, ◌<◌, ◌*ℤ◌
 use Rattle.integer_core.proofs.Divisibility.{Divides-zero, cancel, divides_decided, divides_or_not, only_gcd, gcd-divisor, gcd-swap, gcd-nonzero, gcd-zero}
 use Rattle.integer_core.proofs.Quotients.{small_multiple, zero_or_not}
 use Rattle.integer_core.proofs.Whole.{mul-one}
-use Rattle.integer_core.proofs.Rows.{rows_first, last_rows, last_gcd, last_at_once, last_after_turns}
+use Rattle.integer_core.proofs.Rows.{rows_first, last_rows, last_gcd, last_at_once, last_after_iterations}
 
 small_pair_swapped : {a b g x y : ℤ} → IsSmallPair a b g x y → IsSmallPair b a g y x
 small_pair_swapped h = record { equation = let e = h.equation in omega (arith, linear); x_small = h.y_small; y_small = h.x_small }
@@ -100,15 +100,15 @@ answer_for_zero {a} {b} none = record {
 pub answer_of_loop : {a b r x y : ℤ} → b ≢ pos 0 → IsGreatestCommonDivisor a b (pos (unsigned_abs r))
     → (Divides b a → (r ≡ b) × (x ≡ pos 0) × (y ≡ pos 1)) → (¬ (Divides b a) → IsSmallPair a b r x y)
     → IsBezoutAnswer a b (sign r *ℤ r) (sign r *ℤ x) (sign r *ℤ y)
-answer_of_loop {a} {b} {r} nonzero greatest at_once after_turns =
+answer_of_loop {a} {b} {r} nonzero greatest at_once after_iterations =
     let is : IsGreatestCommonDivisor a b (sign r *ℤ r) = rw (sign_size r) greatest in
     let small = λ (not_second : ¬ (SecondDividesFirst a b)).
-    small_signed (after_turns (λ divides. not_second (record { nonzero = nonzero; divides = divides }))) in
+    small_signed (after_iterations (λ divides. not_second (record { nonzero = nonzero; divides = divides }))) in
     record {
       greatest = is;
       equation = elim (divides_or_not b a nonzero) [
         | inl divides ↦ let row = at_once divides in rw (row.0, row.1, row.2) (simp (mul-one, *ℤ-zero, zero-*ℤ, +ℤ_idl))
-        | inr not_second ↦ (small_signed (after_turns not_second)).equation
+        | inr not_second ↦ (small_signed (after_iterations not_second)).equation
       ];
       second_divides = λ second. let row = at_once second.divides in rw (row.0, row.1, row.2) (*ℤ-zero (sign b), mul-one (sign b));
       first_divides = λ not_second. elim [
@@ -134,7 +134,7 @@ bezout_answer_exists a b = elim (zero_or_not b) [
   | inr nonzero ↦
       let last = (last_rows (rows_first a b nonzero)).0 in
       let rows = last.rows in
-      (_, _, _, answer_of_loop nonzero (last_gcd rows last.ends) (last_at_once rows) (last_after_turns rows last.ends))
+      (_, _, _, answer_of_loop nonzero (last_gcd rows last.ends) (last_at_once rows) (last_after_iterations rows last.ends))
 ]
 
 -- a pair is in one of the three cases of an answer

@@ -8,8 +8,8 @@ pub mod Runs
 pub mod NaturalGcd
 pub mod OddParts
 pub mod SteinSteps
-pub mod EuclidTurns
-pub mod GcdTurns
+pub mod EuclidIterations
+pub mod GcdIterations
 pub mod Rows
 pub mod BezoutAnswers
 pub mod OrderedProducts

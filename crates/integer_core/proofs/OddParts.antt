@@ -1,5 +1,5 @@
--- Odd parts: what a shift by `trailing_zeros` leaves, and what the turns of Stein's loop keep.
-use Rattle.integer_core.proofs.Common.{le-div_iff_mul-le, div-mul-le_self, cases_lt, ◌≡◌, ◌+◌, ◌-◌, ◌*◌, ◌/◌, ◌%◌, ◌^◌, ◌<◌, ◌≤◌, w8, w16, w32, IsOddPart, IsOrderedTurn, ℕ, zero, suc, inl, inr, refl, sym, ◌∙◌, ap, arith, mul-one, div-one, add-one, mul-le-mul_right, mul-pos, pow_mono, pow_pos, pow-add, le-mul_of_pos_right, pow-succ', div-div-eq-div-mul, lt_of_not-le, IsGcd, Width, w64, w128, trailing_zeros, mul-lt, IsGcd-from_sub, IsGcd-swap, bit_xor, xor_lt, xor_mod, and_le_l, and_le_r, div-add-mod', mul-mod_left, mul-div_cancel}
+-- Odd parts: what a shift by `trailing_zeros` leaves, and what the iterations of Stein's loop keep.
+use Rattle.integer_core.proofs.Common.{le-div_iff_mul-le, div-mul-le_self, cases_lt, ◌≡◌, ◌+◌, ◌-◌, ◌*◌, ◌/◌, ◌%◌, ◌^◌, ◌<◌, ◌≤◌, w8, w16, w32, IsOddPart, IsOrderedIteration, ℕ, zero, suc, inl, inr, refl, sym, ◌∙◌, ap, arith, mul-one, div-one, add-one, mul-le-mul_right, mul-pos, pow_mono, pow_pos, pow-add, le-mul_of_pos_right, pow-succ', div-div-eq-div-mul, lt_of_not-le, IsGcd, Width, w64, w128, trailing_zeros, mul-lt, IsGcd-from_sub, IsGcd-swap, bit_xor, xor_lt, xor_mod, and_le_l, and_le_r, div-add-mod', mul-mod_left, mul-div_cancel}
 use lib.Count.{count_trailing_zeros, under}
 use Rattle.std.proofs.lemmas.Nat.Bits.{bit_at-trailing_zeros, bit_at_xor}
 use mir.Val.{bits}
@@ -46,12 +46,12 @@ times_half n m (suc k) odd product even = omega (arith, le-mul_of_pos_right m (p
 pub odd_part_le : {n m : ℕ} → IsOddPart n m → m ≤ n
 odd_part_le {m = m} part = omega (arith, part.product, le-mul_of_pos_right m (pow_pos part.twos))
 
--- what the loop keeps: its numbers are odd, their gcd is that of a and b, and their product has been halved each turn
-pub record Turning (a b m n turns : ℕ) : Type 0 where
+-- what the loop keeps: its numbers are odd, their gcd is that of a and b, and their product has been halved each iteration
+pub record Turning (a b m n iterations : ℕ) : Type 0 where
   pub m_odd : m % 2 ≡ 1
   pub n_odd : n % 2 ≡ 1
   pub same : (g : ℕ) → IsGcd m n g → IsGcd a b g
-  pub shrunk : m * n * 2 ^ turns ≤ a * b
+  pub shrunk : m * n * 2 ^ iterations ≤ a * b
 
 turning_left : {a b m n d t : ℕ} → Turning a b m n t → n < m → IsOddPart (m - n) d → Turning a b d n (t + 1)
 turning_left {m = m} {n = n} {d = d} {t = t} v less part =
@@ -66,34 +66,34 @@ turning_left {m = m} {n = n} {d = d} {t = t} v less part =
 turning_exchanged : {a b m n t : ℕ} → Turning a b m n t → Turning a b n m t
 turning_exchanged v = record { m_odd = v.n_odd; n_odd = v.m_odd; same = λ g h. v.same g (IsGcd-swap _ _ g h); shrunk = omega (arith, v.shrunk) }
 
-pub turning_turn : {a b m n d e t : ℕ} → Turning a b m n t → IsOrderedTurn (record { m = m; n = n }) (record { m = d; n = e }) → Turning a b d e (t + 1)
-turning_turn v h = elim h [
+pub turning_iteration : {a b m n d e t : ℕ} → Turning a b m n t → IsOrderedIteration (record { m = m; n = n }) (record { m = d; n = e }) → Turning a b d e (t + 1)
+turning_iteration v h = elim h [
   | inl left ↦ rw left.n (turning_left v left.above left.m)
   | inr right ↦ rw right.n (turning_left (turning_exchanged v) right.above right.m)
 ]
 
-pub turning_falls : {a b m n d e t : ℕ} → Turning a b m n t → IsOrderedTurn (record { m = m; n = n }) (record { m = d; n = e }) → d + e < m + n
+pub turning_falls : {a b m n d e t : ℕ} → Turning a b m n t → IsOrderedIteration (record { m = m; n = n }) (record { m = d; n = e }) → d + e < m + n
 turning_falls v h = elim h [
   | inl left ↦ omega (arith, odd_part_le left.m, left.above, left.n, v.n_odd)
   | inr right ↦ omega (arith, odd_part_le right.m, right.above, right.n, v.m_odd)
 ]
 
--- so the turns are few
+-- so the iterations are few
 pub turning_small : {a b m n t : ℕ} (k : ℕ) → Turning a b m n t → 2 ^ k ≤ m * n → 2 ^ (t + k) ≤ a * b
 turning_small {t = t} k v more = omega (arith, v.shrunk, pow-add 2 t k, mul-le-mul_right (2 ^ t) more)
 
 pub turning_ends : {a b m n t : ℕ} → Turning a b m n t → 2 ^ t ≤ a * b
 turning_ends {m = m} {n = n} {t = t} v = omega (arith, v.shrunk, mul-le-mul_right (2 ^ t) (mul-pos {m = m} {n = n} (omega (arith, v.m_odd)) (omega (arith, v.n_odd))))
 
-pub few_turns : {a b t : ℕ} (k l : ℕ) → 2 ^ t ≤ a * b → a < 2 ^ k → b < 2 ^ l → t ≤ k + l
-few_turns {a} {b} {t} k l least a_fits b_fits = elim (cases_lt (k + l) t) [
+pub few_iterations : {a b t : ℕ} (k l : ℕ) → 2 ^ t ≤ a * b → a < 2 ^ k → b < 2 ^ l → t ≤ k + l
+few_iterations {a} {b} {t} k l least a_fits b_fits = elim (cases_lt (k + l) t) [
   | inl more ↦ absurd (omega (arith, pow_mono {i = k + l} {j = t} (omega arith), mul-lt a b (2 ^ k) (2 ^ l) a_fits b_fits, pow-add 2 k l))
   | inr few ↦ few
 ]
 
--- numbers of 128 bits take so few turns that one more can be counted
-pub turns_fit : (t : ℕ) {a b : ℕ} → 2 ^ t ≤ a * b → a < 2 ^ 128 → b < 2 ^ 128 → t + 1 < 2 ^ 32
-turns_fit t least a_fits b_fits = omega (arith, few_turns 128 128 least a_fits b_fits)
+-- numbers of 128 bits take so few iterations that one more can be counted
+pub iterations_fit : (t : ℕ) {a b : ℕ} → 2 ^ t ≤ a * b → a < 2 ^ 128 → b < 2 ^ 128 → t + 1 < 2 ^ 32
+iterations_fit t least a_fits b_fits = omega (arith, few_iterations 128 128 least a_fits b_fits)
 
 -- ---- the last bits that two numbers share: their difference has as many factors 2
 

@@ -1,10 +1,10 @@
--- The rows of the extended Euclidean algorithm after some turns of its loop, how large their coefficients grow, and that they fit.
-use Rattle.integer_core.proofs.Common.{◌≡◌, ◌≢◌, ◌⊎◌, ◌<◌, ◌≤◌, ◌+◌, ◌+ℤ◌, ◌-ℤ◌, ◌*ℤ◌, ◌*◌, ◌^◌, ◌≤ℤ◌, EuclidEnds, IsEuclidTurn, IsSmallPair, HasPair, sign, ℤ, ℕ, pos, zero, suc, unsigned_abs, arith, refl, inl, inr, ints, abs_is, linear, expand, IsTruncated, Divides, IsGreatestCommonDivisor, ap, mul-le-mul_left, unsigned_abs-mul, products, negsuc, ◌∙◌, zero-*ℤ, +ℤ_idr, IsRange}
+-- The rows of the extended Euclidean algorithm after some iterations of its loop, how large their coefficients grow, and that they fit.
+use Rattle.integer_core.proofs.Common.{◌≡◌, ◌≢◌, ◌⊎◌, ◌<◌, ◌≤◌, ◌+◌, ◌+ℤ◌, ◌-ℤ◌, ◌*ℤ◌, ◌*◌, ◌^◌, ◌≤ℤ◌, EuclidEnds, IsEuclidIteration, IsSmallPair, HasPair, sign, ℤ, ℕ, pos, zero, suc, unsigned_abs, arith, refl, inl, inr, ints, abs_is, linear, expand, IsTruncated, Divides, IsGreatestCommonDivisor, ap, mul-le-mul_left, unsigned_abs-mul, products, negsuc, ◌∙◌, zero-*ℤ, +ℤ_idr, IsRange}
 use Rattle.integer_core.proofs.Divisibility.{rest_is, divides_or_not, divisor_size, gcd-divisor, gcd-remainder}
-use Rattle.integer_core.proofs.EuclidTurns.{inexact, truncated_size, twice, not_one, few_turns}
+use Rattle.integer_core.proofs.EuclidIterations.{inexact, truncated_size, twice, not_one, few_iterations}
 use Rattle.integer_core.proofs.Quotients.{truncated_is, zero_or_not, small_multiple}
 use Rattle.integer_core.proofs.Ranges.{no_minus_one}
-use Rattle.integer_core.proofs.Runs.{Reaches, reaches_first, reaches_turn, reaches_last}
+use Rattle.integer_core.proofs.Runs.{Reaches, reaches_first, reaches_iteration, reaches_last}
 
 -- x and previous_x are one operand's coefficients in the rows of these remainders, and m is the other operand: times the other row's
 -- remainder they add up to m in magnitude, and have opposite signs
@@ -22,18 +22,18 @@ module _ {m current previous x previous_x q r : ℤ} (weighed : IsWeighed m curr
   sizes : unsigned_abs (x *ℤ previous) ≡ unsigned_abs ((q *ℤ x) *ℤ current) + unsigned_abs (x *ℤ r)
   sizes = simp unsigned_abs-mul (omega (arith, ap (λ (n : ℕ). unsigned_abs x * n) (truncated_size row)))
 
-  pub weighed_turn : IsWeighed m r current (previous_x -ℤ q *ℤ x) x
-  weighed_turn =
+  pub weighed_iteration : IsWeighed m r current (previous_x -ℤ q *ℤ x) x
+  weighed_iteration =
       let is : (previous_x -ℤ q *ℤ x) *ℤ current ≡ previous_x *ℤ current -ℤ (q *ℤ x) *ℤ current = simp expand (omega (arith, linear)) in
       record {
         total = rw is (omega (arith, linear, abs_is, parts, sizes, weighed.total, weighed.opposite));
         opposite = rw is (omega (arith, linear, abs_is, parts, weighed.opposite));
       }
 
-  -- a turn's coefficient, and the product in it, are at most half of m
+  -- an iteration's coefficient, and the product in it, are at most half of m
   pub halves : 2 ≤ unsigned_abs current
       → (2 * unsigned_abs (q *ℤ x) ≤ unsigned_abs m) × (2 * unsigned_abs (previous_x -ℤ q *ℤ x) ≤ unsigned_abs m)
-  halves two = (half (q *ℤ x) (omega (arith, sizes, weighed.total)), half (previous_x -ℤ q *ℤ x) (omega (arith, weighed_turn.total)))
+  halves two = (half (q *ℤ x) (omega (arith, sizes, weighed.total)), half (previous_x -ℤ q *ℤ x) (omega (arith, weighed_iteration.total)))
     where
       half : (z : ℤ) → unsigned_abs (z *ℤ current) ≤ unsigned_abs m → 2 * unsigned_abs z ≤ unsigned_abs m
       half z small = omega (arith, unsigned_abs-mul z current, mul-le-mul_left (unsigned_abs z) two)
@@ -58,11 +58,11 @@ of_first a = record { remainder = a; x = pos 1; y = pos 0 }
 abbrev pub of_second : ℤ → Row
 of_second b = record { remainder = b; x = pos 0; y = pos 1 }
 
--- the row that a turn with the quotient q and the remainder r makes
+-- the row that an iteration with the quotient q and the remainder r makes
 abbrev pub next_row : Row → Row → ℤ → ℤ → Row
 next_row current previous q r = record { remainder = r; x = previous.x -ℤ q *ℤ current.x; y = previous.y -ℤ q *ℤ current.y }
 
--- what the loop keeps: both rows meet the equation, the operands have the gcd of the remainders, and after the first turn the remainders fall
+-- what the loop keeps: both rows meet the equation, the operands have the gcd of the remainders, and after the first iteration the remainders fall
 pub record Rows (a b : ℤ) (current previous : Row) (t : ℕ) : Type 0 where
   pub nonzero : current.remainder ≢ pos 0
   pub equation : current.x *ℤ a +ℤ current.y *ℤ b ≡ current.remainder
@@ -72,7 +72,7 @@ pub record Rows (a b : ℤ) (current previous : Row) (t : ℕ) : Type 0 where
   pub greatest : (g : ℤ) → IsGreatestCommonDivisor previous.remainder current.remainder g → IsGreatestCommonDivisor a b g
   pub start : ((current ≡ of_second b) × (previous ≡ of_first a))
       ⊎ ((¬ (Divides b a)) × (unsigned_abs current.remainder < unsigned_abs previous.remainder))
-  pub run : Reaches IsEuclidTurn EuclidEnds (record { current = b; previous = a })
+  pub run : Reaches IsEuclidIteration EuclidEnds (record { current = b; previous = a })
       (record { current = current.remainder; previous = previous.remainder }) t
 
 pub rows_first : (a b : ℤ) → b ≢ pos 0 → Rows a b (of_second b) (of_first a) 0
@@ -88,17 +88,17 @@ rows_first a b nonzero = record {
 }
 
 module _ {a b : ℤ} {current previous : Row} {t : ℕ} (h : Rows a b current previous t) where
-  pub rows_turn : {q r : ℤ} → ¬ (Divides current.remainder previous.remainder) → IsTruncated previous.remainder current.remainder q r
+  pub rows_iteration : {q r : ℤ} → ¬ (Divides current.remainder previous.remainder) → IsTruncated previous.remainder current.remainder q r
       → Rows a b (next_row current previous q r) current (t + 1)
-  rows_turn {q} {r} goes_on row = record {
+  rows_iteration {q} {r} goes_on row = record {
     nonzero = inexact row goes_on;
     equation = rw (rest_is row.division, ← h.equation, ← h.previous_equation) (simp expand (omega (arith, linear)));
     previous_equation = h.equation;
-    x_weighed = weighed_turn h.x_weighed row;
-    y_weighed = weighed_turn h.y_weighed row;
+    x_weighed = weighed_iteration h.x_weighed row;
+    y_weighed = weighed_iteration h.y_weighed row;
     greatest = λ g k. h.greatest g (gcd-remainder row.division k);
     start = inr (elim h.start [ inl first ↦ (λ divides. goes_on (rw (first.0, first.1) divides)) | inr later ↦ later.0 ], row.division.small);
-    run = reaches_turn h.run (record {
+    run = reaches_iteration h.run (record {
       goes_on = goes_on;
       quotient = q;
       truncated = record { remainder = r; division = row };
@@ -114,8 +114,8 @@ module _ {a b : ℤ} {current previous : Row} {t : ℕ} (h : Rows a b current pr
   pub last_at_once : Divides b a → (current.remainder ≡ b) × (current.x ≡ pos 0) × (current.y ≡ pos 1)
   last_at_once divides = elim h.start [ inl first ↦ rw first.0 (refl, refl, refl) | inr later ↦ absurd (later.0 divides) ]
 
-  pub last_after_turns : Divides current.remainder previous.remainder → ¬ (Divides b a) → IsSmallPair a b current.remainder current.x current.y
-  last_after_turns ends not_second = elim h.start [
+  pub last_after_iterations : Divides current.remainder previous.remainder → ¬ (Divides b a) → IsSmallPair a b current.remainder current.x current.y
+  last_after_iterations ends not_second = elim h.start [
     | inl first ↦ absurd (not_second (rw (first.0, first.1) at ends))
     | inr later ↦ record {
       equation = h.equation;
@@ -128,23 +128,23 @@ module _ {a b : ℤ} {current previous : Row} {t : ℕ} (h : Rows a b current pr
 pub record LastRows (a b : ℤ) : Type 0 where
   pub current : Row
   pub previous : Row
-  pub turns : ℕ
-  pub rows : Rows a b current previous turns
+  pub iterations : ℕ
+  pub rows : Rows a b current previous iterations
   pub ends : Divides current.remainder previous.remainder
 
--- it ends, after t turns or more
-pub last_rows : {a b : ℤ} {current previous : Row} {t : ℕ} → Rows a b current previous t → (last : LastRows a b) × (t ≤ last.turns)
+-- it ends, after t iterations or more
+pub last_rows : {a b : ℤ} {current previous : Row} {t : ℕ} → Rows a b current previous t → (last : LastRows a b) × (t ≤ last.iterations)
 last_rows {a} {b} {current} h = below (unsigned_abs current.remainder) h (omega arith)
   where
     below : (size : ℕ) {current previous : Row} {t : ℕ} → Rows a b current previous t → unsigned_abs current.remainder ≤ size
-        → (last : LastRows a b) × (t ≤ last.turns)
+        → (last : LastRows a b) × (t ≤ last.iterations)
     below zero h small = let nonzero = h.nonzero in absurd (omega (arith, linear, abs_is))
     below (suc size) {current} {previous} {t} h small = elim (divides_or_not current.remainder previous.remainder h.nonzero) [
-      | inl ends ↦ (record { current = current; previous = previous; turns = t; rows = h; ends = ends }, omega arith)
+      | inl ends ↦ (record { current = current; previous = previous; iterations = t; rows = h; ends = ends }, omega arith)
       | inr goes_on ↦
           let row = truncated_is previous.remainder current.remainder h.nonzero in
           let less = row.division.small in
-          let last = below size (rows_turn h goes_on row) (omega arith) in
+          let last = below size (rows_iteration h goes_on row) (omega arith) in
           (last.0, omega (arith, last.1))
     ]
 
@@ -204,14 +204,14 @@ rows_fit_first {a = a} {b = b} range a_fits b_fits nonzero pair = record {
   pair = pair;
 }
 
--- what a turn computes for the coefficient after x
+-- what an iteration computes for the coefficient after x
 pub record StepFits (fits : ℤ → Type 0) (high q x previous_x : ℤ) : Type 0 where
   pub product : fits (q *ℤ x)
   pub next : IsCoefficient fits high (previous_x -ℤ q *ℤ x)
 
 module _ {fits : ℤ → Type 0} {low high a b q r : ℤ} {current previous : Row} {t : ℕ} (h : RowsFit fits low high a b current previous t)
     (goes_on : ¬ (Divides current.remainder previous.remainder)) (row : IsTruncated previous.remainder current.remainder q r) where
-  -- in a type without negatives one remainder divides the other, so a turn only exchanges them
+  -- in a type without negatives one remainder divides the other, so an iteration only exchanges them
   no_quotient : ¬ (fits (negsuc 0)) → q ≡ pos 0
   no_quotient unsigned = elim (h.pair unsigned) [
     | inl divides ↦
@@ -232,16 +232,16 @@ module _ {fits : ℤ → Type 0} {low high a b q r : ℤ} {current previous : Ro
         record { product = (half_fits h.range signed m_fits half.0).in_range; next = half_fits h.range signed m_fits half.1 }
   ]
 
-  pub turn_fits : StepFits fits high q current.x previous.x × StepFits fits high q current.y previous.y
-  turn_fits = (row_step_fits h.b_fits h.rows.x_weighed h.previous_fits.x, row_step_fits h.a_fits h.rows.y_weighed h.previous_fits.y)
+  pub iteration_fits : StepFits fits high q current.x previous.x × StepFits fits high q current.y previous.y
+  iteration_fits = (row_step_fits h.b_fits h.rows.x_weighed h.previous_fits.x, row_step_fits h.a_fits h.rows.y_weighed h.previous_fits.y)
 
-  pub rows_fit_turn : fits r → RowsFit fits low high a b (next_row current previous q r) current (t + 1)
-  rows_fit_turn r_fits = record {
+  pub rows_fit_iteration : fits r → RowsFit fits low high a b (next_row current previous q r) current (t + 1)
+  rows_fit_iteration r_fits = record {
     range = h.range;
     a_fits = h.a_fits;
     b_fits = h.b_fits;
-    rows = rows_turn h.rows goes_on row;
-    current_fits = record { remainder = r_fits; x = turn_fits.0.next; y = turn_fits.1.next };
+    rows = rows_iteration h.rows goes_on row;
+    current_fits = record { remainder = r_fits; x = iteration_fits.0.next; y = iteration_fits.1.next };
     previous_fits = h.current_fits;
     pair = λ unsigned. rw (same unsigned) (elim (h.pair unsigned) [ inl divides ↦ inr divides | inr divides ↦ inl divides ]);
   }
@@ -249,10 +249,10 @@ module _ {fits : ℤ → Type 0} {low high a b q r : ℤ} {current previous : Ro
       same : ¬ (fits (negsuc 0)) → r ≡ previous.remainder
       same unsigned = rest_is row.division ∙ simp (no_quotient unsigned, zero-*ℤ, +ℤ_idr)
 
--- the turns are few, and fit their counter
-pub turns_fit : {fits : ℤ → Type 0} {low high a b : ℤ} {current previous : Row} {t : ℕ} → b ≢ pos 0
+-- the iterations are few, and fit their counter
+pub iterations_fit : {fits : ℤ → Type 0} {low high a b : ℤ} {current previous : Row} {t : ℕ} → b ≢ pos 0
     → RowsFit fits low high a b current previous t → t < 258
-turns_fit {b = b} nonzero h =
+iterations_fit {b = b} nonzero h =
     let last = last_rows h.rows in
     let small : unsigned_abs b < 2 ^ 129 = omega (arith, linear, abs_is, h.range.low_end, h.range.positive, h.range.bounded, (h.range.between b).0 h.b_fits) in
-    omega (arith, last.1, few_turns 129 nonzero (reaches_last last.0.rows.run last.0.ends) small)
+    omega (arith, last.1, few_iterations 129 nonzero (reaches_last last.0.rows.run last.0.ends) small)

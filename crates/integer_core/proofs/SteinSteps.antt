@@ -1,10 +1,10 @@
 -- Stein's method on the values of an unsigned type, and what its loops keep.
-use Rattle.integer_core.proofs.Common.{◌≡◌, ◌≢◌, ◌↔◌, ◌⊎◌, ◌≤ℤ◌, ◌*◌, ◌%◌, ◌^◌, ◌<◌, ◌+◌, ◌∷◌, IsPowerOfTwo, AreWithinBits, IsCountedGcd, IsOddPart, MakesGcdRun, exchanged, GcdEnds, IsGcdTurn, IsOddGcd, IsOrderedTurn, OddPair, natural, ℤ, pos, unsigned_abs, IsGcd, ℕ, refl, sym, subst, arith, inl, inr, ints, abs_is, linear, eq-one_of_dvd-one, one-dvd, dvd_refl, le_of_dvd, IsGreatestCommonDivisor, List, [], map, ◌∙◌, IsRun, RunHasTurns}
+use Rattle.integer_core.proofs.Common.{◌≡◌, ◌≢◌, ◌↔◌, ◌⊎◌, ◌≤ℤ◌, ◌*◌, ◌%◌, ◌^◌, ◌<◌, ◌+◌, ◌∷◌, IsPowerOfTwo, AreWithinBits, IsCountedGcd, IsOddPart, MakesGcdRun, exchanged, GcdEnds, IsGcdIteration, IsOddGcd, IsOrderedIteration, OddPair, natural, ℤ, pos, unsigned_abs, IsGcd, ℕ, refl, sym, subst, arith, inl, inr, ints, abs_is, linear, eq-one_of_dvd-one, one-dvd, dvd_refl, le_of_dvd, IsGreatestCommonDivisor, List, [], map, ◌∙◌, IsRun, RunHasIterations}
 use Rattle.integer_core.proofs.CommonDivisors.{gcd-magnitudes, gcd-zero}
 use Rattle.integer_core.proofs.NaturalGcd.{odd_divisor, odd_divides}
 use Rattle.std.proofs.lemmas.List.{length-map}
-use Rattle.integer_core.proofs.OddParts.{Turning, turning_ends, turning_small, turning_turn, turns_fit}
-use Rattle.integer_core.proofs.Runs.{Reaches, reaches_first, reaches_instead, reaches_last, reaches_turn}
+use Rattle.integer_core.proofs.OddParts.{Turning, turning_ends, turning_small, turning_iteration, iterations_fit}
+use Rattle.integer_core.proofs.Runs.{Reaches, reaches_first, reaches_instead, reaches_last, reaches_iteration}
 
 -- the gcd of a number and 0 is the number
 pub gcd_with_zero : {n : ℤ} → pos 0 ≤ℤ n → IsGreatestCommonDivisor n (pos 0) n
@@ -41,54 +41,54 @@ power_of_smallest least is m_is nonzero = elim least [
   | inr power ↦ rw (m_is, is) power
 ]
 
--- the gcd of two numbers by that of their magnitudes m and n, with no turn if `Smallest` holds
+-- the gcd of two numbers by that of their magnitudes m and n, with no iteration if `Smallest` holds
 pub counted_by_magnitudes : {low a b m n g : ℤ} {t : ℕ} {Smallest : Type 0} → m ≡ pos (unsigned_abs a) → n ≡ pos (unsigned_abs b) → Smallest ↔ ((a ≡ low) ⊎ (b ≡ low))
     → IsGreatestCommonDivisor m n g → (Smallest ⊎ ((m ≡ pos 0) ⊎ (n ≡ pos 0)) → t ≡ 0)
     → (¬ Smallest → m ≢ pos 0 → n ≢ pos 0 → MakesGcdRun (unsigned_abs m) (unsigned_abs n) t) → AreWithinBits m n t → IsCountedGcd low a b g t
-counted_by_magnitudes {a = a} {b = b} m_is n_is smallest greatest at_once by_turns bound = record {
+counted_by_magnitudes {a = a} {b = b} m_is n_is smallest greatest at_once by_iterations bound = record {
   greatest = gcd-magnitudes m_is n_is greatest;
-  turns = record {
+  iterations = record {
     at_once = λ h. at_once (grind (arith, linear, abs_is));
-    by_turns = λ p q. rw (m_is, n_is) at (by_turns (λ s. grind arith) (grind (arith, linear, abs_is)) (grind (arith, linear, abs_is)));
+    by_iterations = λ p q. rw (m_is, n_is) at (by_iterations (λ s. grind arith) (grind (arith, linear, abs_is)) (grind (arith, linear, abs_is)));
   };
   bound = rw (m_is, n_is) at bound;
 }
 
 -- ---- what both loops on two odd numbers keep, at each step of them
 
--- the runs from a pair are those from the pair with its places exchanged, turn by turn
-exchanged_turn : (s t : OddPair) → IsGcdTurn s t → IsGcdTurn (exchanged s) (exchanged t)
-exchanged_turn s t h = elim h [
+-- the runs from a pair are those from the pair with its places exchanged, iteration by iteration
+exchanged_iteration : (s t : OddPair) → IsGcdIteration s t → IsGcdIteration (exchanged s) (exchanged t)
+exchanged_iteration s t h = elim h [
   | inl left ↦ inr (record { above = left.above; m = left.n; n = left.m })
   | inr right ↦ inl (record { above = right.above; m = right.n; n = right.m })
 ]
 
-exchanged_run : (s : OddPair) (rest : List OddPair) → IsRun IsGcdTurn GcdEnds (s ∷ rest) → IsRun IsGcdTurn GcdEnds (exchanged s ∷ map exchanged rest)
+exchanged_run : (s : OddPair) (rest : List OddPair) → IsRun IsGcdIteration GcdEnds (s ∷ rest) → IsRun IsGcdIteration GcdEnds (exchanged s ∷ map exchanged rest)
 exchanged_run s [] h = sym h
-exchanged_run s (t ∷ rest) h = (exchanged_turn s t h.0, exchanged_run t rest h.1)
+exchanged_run s (t ∷ rest) h = (exchanged_iteration s t h.0, exchanged_run t rest h.1)
 
-exchanged_makes : {s : OddPair} {n : ℕ} → RunHasTurns IsGcdTurn GcdEnds s n → RunHasTurns IsGcdTurn GcdEnds (exchanged s) n
+exchanged_makes : {s : OddPair} {n : ℕ} → RunHasIterations IsGcdIteration GcdEnds s n → RunHasIterations IsGcdIteration GcdEnds (exchanged s) n
 exchanged_makes {s} h = record {
   rest = map exchanged h.rest;
   run = exchanged_run s h.rest h.run;
-  turns = length-map h.rest exchanged ∙ h.turns;
+  iterations = length-map h.rest exchanged ∙ h.iterations;
 }
 
-reaches_ordered : {first s t : OddPair} {n : ℕ} → Reaches IsGcdTurn GcdEnds first s n → IsOrderedTurn s t → Reaches IsGcdTurn GcdEnds first t (n + 1)
-reaches_ordered {t = t} h turn = elim turn [
-  | inl left ↦ reaches_turn h (inl left)
-  | inr right ↦ reaches_instead (reaches_turn {t = exchanged t} h (inr (record { above = right.above; m = right.n; n = right.m }))) (λ m i. exchanged_makes i)
+reaches_ordered : {first s t : OddPair} {n : ℕ} → Reaches IsGcdIteration GcdEnds first s n → IsOrderedIteration s t → Reaches IsGcdIteration GcdEnds first t (n + 1)
+reaches_ordered {t = t} h iteration = elim iteration [
+  | inl left ↦ reaches_iteration h (inl left)
+  | inr right ↦ reaches_instead (reaches_iteration {t = exchanged t} h (inr (record { above = right.above; m = right.n; n = right.m }))) (λ m i. exchanged_makes i)
 ]
 
 -- what a loop holds
 abbrev pair_of : ℕ → ℕ → OddPair
 pair_of m n = record { m = m; n = n }
 
--- the turns so far lead from a and b to m and n, which are in range
-pub record OddLoop (InRange : Type 0) (a b m n turns : ℕ) : Type 0 where
+-- the iterations so far lead from a and b to m and n, which are in range
+pub record OddLoop (InRange : Type 0) (a b m n iterations : ℕ) : Type 0 where
   pub in_range : InRange
-  pub kept : Turning a b m n turns
-  pub reached : Reaches IsGcdTurn GcdEnds (pair_of a b) (pair_of m n) turns
+  pub kept : Turning a b m n iterations
+  pub reached : Reaches IsGcdIteration GcdEnds (pair_of a b) (pair_of m n) iterations
 
 module _ {a b : ℕ} where
   pub loop_begins : {InRange : Type 0} → InRange → a % 2 ≡ 1 → b % 2 ≡ 1 → OddLoop InRange a b a b 0
@@ -99,10 +99,10 @@ module _ {a b : ℕ} where
   }
 
   module _ {Before : Type 0} {m n t : ℕ} (v : OddLoop Before a b m n t) where
-    pub loop_goes_on : {InRange : Type 0} {d e : ℕ} → InRange → IsOrderedTurn (pair_of m n) (pair_of d e) → OddLoop InRange a b d e (t + 1)
-    loop_goes_on in_range turn = record { in_range = in_range; kept = turning_turn v.kept turn; reached = reaches_ordered v.reached turn }
+    pub loop_goes_on : {InRange : Type 0} {d e : ℕ} → InRange → IsOrderedIteration (pair_of m n) (pair_of d e) → OddLoop InRange a b d e (t + 1)
+    loop_goes_on in_range iteration = record { in_range = in_range; kept = turning_iteration v.kept iteration; reached = reaches_ordered v.reached iteration }
 
-    -- another count of turns begins with these
+    -- another count of iterations begins with these
     pub loop_handed_on : {g r : ℕ} → IsOddGcd m n g r → IsOddGcd a b g (t + r)
     loop_handed_on rest = record {
       greatest = v.kept.same _ rest.greatest;
@@ -117,6 +117,6 @@ module _ {a b : ℕ} where
       few = turning_ends v.kept;
     }
 
-    -- a turn more can be counted
+    -- an iteration more can be counted
     pub loop_counts : a < 2 ^ 128 → b < 2 ^ 128 → t + 1 < 2 ^ 32
-    loop_counts a_fits b_fits = turns_fit t (turning_ends v.kept) a_fits b_fits
+    loop_counts a_fits b_fits = iterations_fit t (turning_ends v.kept) a_fits b_fits

@@ -2,7 +2,7 @@
 use Rattle.std.specs.Prelude.{◌≡◌, ◌≢◌, ◌⊎◌, ◌≤◌, ◌*◌, ◌+ℤ◌, ◌-ℤ◌, ◌*ℤ◌, ℤ, ℕ, pos, negsuc, unsigned_abs}
 use Rattle.integer_core.specs.Division.{IsQuotient, IsTruncated}
 use Rattle.integer_core.specs.Divisors.{Divides, IsGreatestCommonDivisor}
-use Rattle.integer_core.specs.Runs.{RunHasTurns}
+use Rattle.integer_core.specs.Runs.{RunHasIterations}
 
 -- The sign of a negative number is -1, and of any other 1.
 -- Examples: -5: -1; 0: 1; 5: 1.
@@ -61,19 +61,19 @@ pub record Remainders : Type 0 where
 abbrev pub EuclidEnds : Remainders → Type 0
 EuclidEnds s = Divides s.current s.previous
 
--- If the current remainder does not divide the previous one, a turn replaces the two by previous - q·current and
+-- If the current remainder does not divide the previous one, an iteration replaces the two by previous - q·current and
 -- current, with the truncated quotient q of the two.
 -- Examples: 46 and 240 to 10 and 46; 10 and 46 to 6 and 10; none from 2 and 4.
-pub record IsEuclidTurn (s t : Remainders) : Type 0 where
+pub record IsEuclidIteration (s t : Remainders) : Type 0 where
   pub goes_on : ¬ (EuclidEnds s)
   pub quotient : ℤ
   pub truncated : IsQuotient IsTruncated s.previous s.current quotient
   pub current : t.current ≡ s.previous -ℤ quotient *ℤ s.current
   pub previous : t.previous ≡ s.current
 
--- n is 0 if b is 0, and otherwise the number of turns of the run that begins with the current remainder b and the
+-- n is 0 if b is 0, and otherwise the number of iterations of the run that begins with the current remainder b and the
 -- previous one a.
 -- Examples: 240 and 46: 4; 12 and 4: 0; 8 and 13: 5.
-pub record AreEuclidTurns (a b : ℤ) (n : ℕ) : Type 0 where
+pub record AreEuclidIterations (a b : ℤ) (n : ℕ) : Type 0 where
   pub of_zero : b ≡ pos 0 → n ≡ 0
-  pub of_nonzero : b ≢ pos 0 → RunHasTurns IsEuclidTurn EuclidEnds (record { current = b; previous = a }) n
+  pub of_nonzero : b ≢ pos 0 → RunHasIterations IsEuclidIteration EuclidEnds (record { current = b; previous = a }) n

@@ -8,5 +8,5 @@ AnswersWhere domain answer result = MatchOption result (¬ domain) (λ r. domain
 
 -- The number that x means is in the range of its type and has the property.
 -- Examples: of 'is 100 + 27' in i8: 127 has it; nothing has that of 'is 100 + 28'.
-abbrev pub Has : (ℤ → Type 0) → {X : Type 0} → (X → ℤ) → (ℤ → Type 0) → X → Type 0
-Has fits value P x = fits (value x) × P (value x)
+abbrev pub FitsWith : (ℤ → Type 0) → {X : Type 0} → (X → ℤ) → (ℤ → Type 0) → X → Type 0
+FitsWith fits value P x = fits (value x) × P (value x)

@@ -2,16 +2,16 @@
 //! 4.5.2, algorithm X). The loop here stops one iteration earlier.
 
 ghost use Rattle.std.specs.Prelude.{◌≡◌, ◌≢◌, ◌≤◌, ◌+◌, ◌*◌, ◌*ℤ◌, pos, unsigned_abs};
-ghost use Rattle.integer_core.specs.Bezout.{AreEuclidTurns, EuclidEnds, HasPair, IsBezoutAnswer, IsEuclidTurn, IsSmallPair, NeedsBoth, sign};
+ghost use Rattle.integer_core.specs.Bezout.{AreEuclidIterations, EuclidEnds, HasPair, IsBezoutAnswer, IsEuclidIteration, IsSmallPair, NeedsBoth, sign};
 ghost use Rattle.integer_core.specs.Divisors.{Divides, GcdFits, IsGreatestCommonDivisor};
 ghost use Rattle.integer_core.specs.Fibonacci.{fibonacci};
 ghost use Rattle.integer_core.specs.Only.{IsOnly};
-ghost use Rattle.integer_core.specs.Runs.{RunHasTurns};
+ghost use Rattle.integer_core.specs.Runs.{RunHasIterations};
 
 use crate::Integer;
 use crate::guards::check_pair;
 use crate::operators::{is_negative, is_zero, one, zero};
-use crate::plain::{difference, negated, product};
+use crate::fitting::{difference, negated, product};
 
 /// A greatest common divisor with Bezout's coefficients: for the operands `a` and `b`, `a * x + b * y`
 /// equals `gcd`. `240.extended_gcd(&46)` is `ExtendedGcd { gcd: 2, x: -9, y: 47 }`.
@@ -88,10 +88,10 @@ fn last_row<T: Integer + Copy>(a: T, b: T) -> (Row<T>, u32)
     ensures at_once { Divides (T.value b) (T.value a)
         → (T.value result.0.remainder ≡ T.value b)
         × (T.value result.0.x ≡ pos 0) × (T.value result.0.y ≡ pos 1) }
-    ensures after_turns { ¬ (Divides (T.value b) (T.value a))
+    ensures after_iterations { ¬ (Divides (T.value b) (T.value a))
         → IsSmallPair (T.value a) (T.value b)
         (T.value result.0.remainder) (T.value result.0.x) (T.value result.0.y) }
-    ensures turns { RunHasTurns IsEuclidTurn EuclidEnds
+    ensures iterations { RunHasIterations IsEuclidIteration EuclidEnds
         (record { current = T.value b; previous = T.value a }) result.1 }
 {
     let mut previous = Row::of_first(a);
@@ -100,16 +100,16 @@ fn last_row<T: Integer + Copy>(a: T, b: T) -> (Row<T>, u32)
         x: zero(),
         y: one(),
     };
-    let mut turns = 0;
+    let mut iterations = 0;
     'rows: while !previous.remainder.is_multiple_of(&current.remainder) {
         let (quotient, remainder) = previous.remainder.div_rem(&current.remainder);
         let x = difference(previous.x, product(*&quotient, *&current.x));
         let y = difference(previous.y, product(quotient, *&current.y));
         previous = current;
         current = Row { remainder, x, y };
-        turns += 1;
+        iterations += 1;
     }
-    (current, turns)
+    (current, iterations)
 }
 
 /// Returns [`Integer::extended_gcd`] and the number of iterations of its loop. `extended_gcd_counted(8, 13)` is
@@ -132,7 +132,7 @@ pub fn extended_gcd_counted<T: Integer + Copy>(a: T, b: T) -> (ExtendedGcd<T>, u
     ensures only { NeedsBoth (T.value a) (T.value b)
         → IsOnly (λ (x, y). IsSmallPair (T.value a) (T.value b) (T.value result.0.gcd) x y)
         (T.value result.0.x, T.value result.0.y) }
-    ensures turns { AreEuclidTurns (T.value a) (T.value b) result.1 }
+    ensures iterations { AreEuclidIterations (T.value a) (T.value b) result.1 }
     ensures bound { T.value b ≢ pos 0
         → fibonacci (result.1 + 2) * unsigned_abs (T.value result.0.gcd)
         ≤ unsigned_abs (T.value b) }
@@ -141,7 +141,7 @@ pub fn extended_gcd_counted<T: Integer + Copy>(a: T, b: T) -> (ExtendedGcd<T>, u
     if is_zero(*&b) {
         (Row::of_first(a).normalized(), 0)
     } else {
-        let (row, turns) = last_row(a, b);
-        (row.normalized(), turns)
+        let (row, iterations) = last_row(a, b);
+        (row.normalized(), iterations)
     }
 }

@@ -2,7 +2,7 @@
 
 ghost use Rattle.std.specs.Prelude.{◌+◌, ◌≤◌, ℕ};
 ghost use Rattle.integer_core.specs.Divisors.{GcdFits, IsGreatestCommonDivisor};
-ghost use Rattle.integer_core.specs.GcdRuns.{AreGcdTurns, IsBitLength};
+ghost use Rattle.integer_core.specs.GcdRuns.{AreGcdIterations, IsBitLength};
 
 use crate::Integer;
 pub use crate::bezout::extended_gcd_counted;
@@ -26,7 +26,7 @@ pub trait GcdCounted: Integer {
         ensures in_range { Self.fits (Self.value result.0) }
         ensures greatest { IsGreatestCommonDivisor (Self.value self.now) (Self.value other.now)
             (Self.value result.0) }
-        ensures turns { AreGcdTurns Self.low (Self.value self.now) (Self.value other.now)
+        ensures iterations { AreGcdIterations Self.low (Self.value self.now) (Self.value other.now)
             result.1 }
         ensures bound { (k l : ℕ) → IsBitLength (Self.value self.now) k
             → IsBitLength (Self.value other.now) l → result.1 ≤ k + l };

@@ -6,7 +6,7 @@ ghost use Rattle.integer_core.specs.Range.{EachFits};
 
 use crate::native::Native;
 use crate::operators::{is_negative, is_zero, quotient, remainder};
-use crate::plain::{predecessor, sum};
+use crate::fitting::{predecessor, sum};
 use num_traits::Num;
 
 /// Returns the quotient rounded toward zero, and its remainder.

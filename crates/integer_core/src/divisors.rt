@@ -5,7 +5,7 @@ ghost use Rattle.integer_core.specs.Divisors.{Divides, IsEven};
 
 use crate::native::Native;
 use crate::operators::{is_minus_one, is_zero, one, remainder};
-use crate::plain::sum;
+use crate::fitting::sum;
 
 /// Returns `true` if `d` divides `n`.
 pub(crate) fn is_multiple_of<T: Native>(n: T, d: T) -> bool

@@ -7,7 +7,7 @@ ghost use Rattle.integer_core.specs.Divisors.{GcdFits, IsLeastCommonMultiple};
 ghost use Rattle.integer_core.specs.Range.{EachFits};
 
 use crate::native::{Magnitudes, Native};
-use crate::{Integer, plain};
+use crate::{Integer, fitting};
 use num_traits::Num;
 
 /// Says that the condition holds. In plain Rust it panics with the reason if it does not.
@@ -30,7 +30,7 @@ pub fn sum_or<T: Num>(a: T, b: T, reason: &str) -> T
     ensures in_range { T.fits (T.value result) }
     ensures value { T.value result ≡ T.value a +ℤ T.value b }
 {
-    plain::sum(a, b)
+    fitting::sum(a, b)
 }
 
 /// Returns `a * b`. In plain Rust it panics with the reason if the product does not fit.
@@ -40,7 +40,7 @@ pub fn product_or<T: Num>(a: T, b: T, reason: &str) -> T
     ensures in_range { T.fits (T.value result) }
     ensures value { T.value result ≡ T.value a *ℤ T.value b }
 {
-    plain::product(a, b)
+    fitting::product(a, b)
 }
 
 /// Returns the non-negative number with this magnitude. In plain Rust it panics with the reason if the number does not fit.

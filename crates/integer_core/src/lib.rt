@@ -17,7 +17,7 @@ mod native_integer;
 #[doc(hidden)]
 pub mod operators;
 pub mod padded;
-pub mod plain;
+pub mod fitting;
 mod stein;
 
 pub use bezout::ExtendedGcd;

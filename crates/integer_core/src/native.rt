@@ -6,7 +6,7 @@ ghost use Rattle.std.proofs.Common.{lit≤};
 ghost use Rattle.integer_core.specs.NativeRanges.{IsNative, signed_native, unsigned_native};
 
 use crate::operators::{is_negative, zero};
-use crate::plain::{difference, successor};
+use crate::fitting::{difference, successor};
 use crate::stein::Magnitude;
 use num_traits::{AsPrimitive, Bounded, CheckedAdd, CheckedMul, CheckedSub, FixedWidth, Num};
 

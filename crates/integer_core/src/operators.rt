@@ -4,7 +4,7 @@
 
 ghost use Rattle.std.specs.Prelude.{◌≡◌, ◌≢◌, ◌↔◌, ◌<ℤ◌, ◌+ℤ◌, ◌-ℤ◌, ◌*ℤ◌, pos, negsuc, neg_ℤ, int_rem, int_div, IsTrue};
 
-use crate::plain;
+use crate::fitting;
 use num_traits::Num;
 
 /// Returns 0. `zero::<i64>()` is `0`.
@@ -72,7 +72,7 @@ pub fn is_minus_one<T: Copy + Num + PartialOrd>(a: T) -> bool
     requires in_range { T.fits (T.value a) }
     ensures { IsTrue result ↔ (T.value a ≡ negsuc 0) }
 {
-    is_negative(a) && is_zero(plain::successor(a))
+    is_negative(a) && is_zero(fitting::successor(a))
 }
 
 /// Returns `a + b`. `sum(2, 3)` is `5`.
@@ -86,7 +86,7 @@ pub fn sum<T: Num>(a: T, b: T) -> T
     ensures in_range { T.fits (T.value result) }
     ensures value { T.value result ≡ T.value a +ℤ T.value b }
 {
-    plain::sum(a, b)
+    fitting::sum(a, b)
 }
 
 /// Returns `a - b`. `difference(2, 3)` is `-1`.
@@ -100,7 +100,7 @@ pub fn difference<T: Num>(a: T, b: T) -> T
     ensures in_range { T.fits (T.value result) }
     ensures value { T.value result ≡ T.value a -ℤ T.value b }
 {
-    plain::difference(a, b)
+    fitting::difference(a, b)
 }
 
 /// Returns `a * b`. `product(2, 3)` is `6`.
@@ -114,7 +114,7 @@ pub fn product<T: Num>(a: T, b: T) -> T
     ensures in_range { T.fits (T.value result) }
     ensures value { T.value result ≡ T.value a *ℤ T.value b }
 {
-    plain::product(a, b)
+    fitting::product(a, b)
 }
 
 /// Returns `a / b`, rounded toward zero. `quotient(-8, 3)` is `-2`.
@@ -160,7 +160,7 @@ pub fn successor<T: Num>(a: T) -> T
     ensures in_range { T.fits (T.value result) }
     ensures value { T.value result ≡ T.value a +ℤ pos 1 }
 {
-    plain::successor(a)
+    fitting::successor(a)
 }
 
 /// Returns `a - 1`. `predecessor(43)` is `42`.
@@ -174,7 +174,7 @@ pub fn predecessor<T: Num>(a: T) -> T
     ensures in_range { T.fits (T.value result) }
     ensures value { T.value result ≡ T.value a -ℤ pos 1 }
 {
-    plain::predecessor(a)
+    fitting::predecessor(a)
 }
 
 /// Returns `-a`. `negated(7)` is `-7`.
@@ -188,5 +188,5 @@ pub fn negated<T: Num>(a: T) -> T
     ensures in_range { T.fits (T.value result) }
     ensures value { T.value result ≡ neg_ℤ (T.value a) }
 {
-    plain::negated(a)
+    fitting::negated(a)
 }

@@ -6,7 +6,7 @@ ghost use Rattle.std.specs.Int.{IsGcd, IsPowerOfTwo};
 ghost use Rattle.std.specs.Option.{MatchOption};
 ghost use Rattle.std.proofs.Common.{lit<, lit≤};
 ghost use Rattle.integer_core.specs.Divisors.{GcdFits, IsGreatestCommonDivisor, IsLeastCommonMultiple};
-ghost use Rattle.integer_core.specs.GcdRuns.{AreGcdTurns, ArePositive, AreWithinBits, IsCountedGcd, IsOddGcd, IsOddPart, IsOrderedTurn, IsPositiveGcd, MakesGcdRun};
+ghost use Rattle.integer_core.specs.GcdRuns.{AreGcdIterations, ArePositive, AreWithinBits, IsCountedGcd, IsOddGcd, IsOddPart, IsOrderedIteration, IsPositiveGcd, MakesGcdRun};
 ghost use Rattle.integer_core.specs.NativeRanges.{within_128_bits};
 ghost use Rattle.integer_core.specs.Range.{EachFits};
 ghost use Rattle.num_traits.specs.Ints.{unsigned-low};
@@ -203,7 +203,7 @@ fn next_pair<M: Magnitude>(m: M, n: M) -> (M, M)
     requires in_range { M.fits (M.value m) × M.fits (M.value n) }
     requires goes_on { unsigned_abs (M.value m) ≢ unsigned_abs (M.value n) }
     ensures in_range { M.fits (M.value result.0) × M.fits (M.value result.1) }
-    ensures turn { IsOrderedTurn
+    ensures iteration { IsOrderedIteration
         (record { m = unsigned_abs (M.value m); n = unsigned_abs (M.value n) })
         (record { m = unsigned_abs (M.value result.0); n = unsigned_abs (M.value result.1) }) }
 {
@@ -221,12 +221,12 @@ fn odd_gcd(a: u64, b: u64) -> (u64, u32)
     ensures { IsOddGcd a b result.0 result.1 }
 {
     let (mut m, mut n) = (a, b);
-    let mut turns = 0;
-    'turns: while m != n {
+    let mut iterations = 0;
+    'iterations: while m != n {
         (m, n) = next_pair(m, n);
-        turns += 1;
+        iterations += 1;
     }
-    (m, turns)
+    (m, iterations)
 }
 
 /// Returns both numbers as `u64`, or `None` if one of them does not fit.
@@ -257,17 +257,17 @@ fn narrowing_gcd<M: Magnitude>(a: M, b: M) -> (M, u32)
         (unsigned_abs (M.value result.0)) result.1 }
 {
     let (mut m, mut n) = (a, b);
-    let mut turns = 0;
-    'turns: while differ_beyond_64_bits(m, n) {
+    let mut iterations = 0;
+    'iterations: while differ_beyond_64_bits(m, n) {
         (m, n) = next_pair(m, n);
-        turns += 1;
+        iterations += 1;
     }
     match at_64_bits(m, n) {
         Some((x, y)) => {
             let (gcd, rest) = odd_gcd(x, y);
-            (M::from_64_bits(gcd), turns + rest)
+            (M::from_64_bits(gcd), iterations + rest)
         }
-        None => (m, turns),
+        None => (m, iterations),
     }
 }
 
@@ -278,8 +278,8 @@ fn positive_gcd<M: Magnitude>(a: M, b: M) -> (M, u32)
     ensures gcd { IsPositiveGcd (M.value a) (M.value b) (M.value result.0) result.1 }
 {
     let (m, n, twos) = odd_parts(a, b);
-    let (odd, turns) = narrowing_gcd(m, n);
-    (odd.times_power_of_two(twos), turns)
+    let (odd, iterations) = narrowing_gcd(m, n);
+    (odd.times_power_of_two(twos), iterations)
 }
 
 /// Returns the greatest common divisor of two positive numbers, one of which is a power of two: the
@@ -322,7 +322,7 @@ fn gcd_of_magnitudes<M: Magnitude>(m: M, n: M, has_power: bool) -> (M, u32)
     ensures in_range { M.fits (M.value result.0) }
     ensures greatest { IsGreatestCommonDivisor (M.value m) (M.value n) (M.value result.0) }
     ensures at_once { IsTrue has_power ⊎ (M.value m ≡ pos 0 ⊎ M.value n ≡ pos 0) → result.1 ≡ 0 }
-    ensures by_turns { ¬ (IsTrue has_power) → M.value m ≢ pos 0 → M.value n ≢ pos 0
+    ensures by_iterations { ¬ (IsTrue has_power) → M.value m ≢ pos 0 → M.value n ≢ pos 0
         → MakesGcdRun (unsigned_abs (M.value m)) (unsigned_abs (M.value n)) result.1 }
     ensures bound { AreWithinBits (M.value m) (M.value n) result.1 }
 {
@@ -345,9 +345,9 @@ pub(crate) fn binary_gcd<T: Native>(a: T, b: T) -> (T, u32)
     ensures in_range { T.fits (T.value result.0) }
     ensures gcd { IsCountedGcd T.Bounded.low (T.value a) (T.value b) (T.value result.0) result.1 }
 {
-    let (gcd, turns) = gcd_of_magnitudes(a.magnitude(), b.magnitude(), has_smallest(a, b));
+    let (gcd, iterations) = gcd_of_magnitudes(a.magnitude(), b.magnitude(), has_smallest(a, b));
     let gcd = number_or(gcd, "the greatest common divisor does not fit");
-    (gcd, turns)
+    (gcd, iterations)
 }
 
 /// Returns `true` if one of the numbers is the smallest of its type.

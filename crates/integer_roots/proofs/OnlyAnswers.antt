@@ -1,10 +1,10 @@
 -- Each answer is the only number that meets its definition.
 use Rattle.std.specs.Prelude.{◌≡◌, ◌+◌}
 use Rattle.integer_core.proofs.Common.{ℤ, pos, negsuc, ℕ, arith, sym, ◌∙◌, ints, by_lt_z, IsOnly, linear, products}
-use Rattle.integer_core.proofs.Runs.{only_turns}
+use Rattle.integer_core.proofs.Runs.{only_iterations}
 use Rattle.integer_roots.specs.Averages.{IsAverageFloor, IsAverageCeil}
 use Rattle.integer_roots.specs.RootOf.{IsFloorRoot, IsRoot}
-use Rattle.integer_roots.specs.SquareRuns.{Guess, Rising, Falling, IsNewtonTurn, NewtonEnds, MakesNewtonRun, AreSquareRootTurns}
+use Rattle.integer_roots.specs.SquareRuns.{Guess, Rising, Falling, IsNewtonIteration, NewtonEnds, MakesNewtonRun, AreSquareRootIterations}
 use Rattle.integer_roots.proofs.Powers.{base_below, highest_bit}
 
 pub average_floor_is_only : (a b f : ℤ) → IsAverageFloor a b f → IsOnly (IsAverageFloor a b) f
@@ -25,29 +25,29 @@ root_is_only_one {x} h s k = by_lt_z x (pos 0)
     (λ below. omega (arith, linear, floor_root_is_only_one (h.below_zero below).1 _ (k.below_zero below).1))
     (λ up. floor_root_is_only_one (h.from_zero up) _ (k.from_zero up))
 
--- a state has at most one turn, and no turn if the run ends at it
-one_turn : (a : ℕ) (s t : Guess) → IsNewtonTurn a s t → IsOnly (IsNewtonTurn a s) t
-one_turn a (Rising x) (Rising y) h (Rising z) k = cc (h.1, k.1)
-one_turn a (Rising x) (Rising y) h (Falling z) k = absurd (omega arith)
-one_turn a (Rising x) (Falling y) h (Rising z) k = absurd (omega arith)
-one_turn a (Rising x) (Falling y) h (Falling z) k = cc (h.1, k.1)
-one_turn a (Falling x) (Rising y) h u k = absurd h
-one_turn a (Falling x) (Falling y) h (Rising z) k = absurd k
-one_turn a (Falling x) (Falling y) h (Falling z) k = cc (h.1, k.1)
+-- a state has at most one iteration, and no iteration if the run ends at it
+one_iteration : (a : ℕ) (s t : Guess) → IsNewtonIteration a s t → IsOnly (IsNewtonIteration a s) t
+one_iteration a (Rising x) (Rising y) h (Rising z) k = cc (h.1, k.1)
+one_iteration a (Rising x) (Rising y) h (Falling z) k = absurd (omega arith)
+one_iteration a (Rising x) (Falling y) h (Rising z) k = absurd (omega arith)
+one_iteration a (Rising x) (Falling y) h (Falling z) k = cc (h.1, k.1)
+one_iteration a (Falling x) (Rising y) h u k = absurd h
+one_iteration a (Falling x) (Falling y) h (Rising z) k = absurd k
+one_iteration a (Falling x) (Falling y) h (Falling z) k = cc (h.1, k.1)
 
-no_turn : (a : ℕ) (s t : Guess) → NewtonEnds a s → ¬ (IsNewtonTurn a s t)
-no_turn a (Rising x) (Rising y) h k = omega arith
-no_turn a (Rising x) (Falling y) h k = omega arith
-no_turn a (Falling x) (Rising y) h k = k
-no_turn a (Falling x) (Falling y) h k = omega arith
+no_iteration : (a : ℕ) (s t : Guess) → NewtonEnds a s → ¬ (IsNewtonIteration a s t)
+no_iteration a (Rising x) (Rising y) h k = omega arith
+no_iteration a (Rising x) (Falling y) h k = omega arith
+no_iteration a (Falling x) (Rising y) h k = k
+no_iteration a (Falling x) (Falling y) h k = omega arith
 
 one_count : {a m n : ℕ} → MakesNewtonRun a m → MakesNewtonRun a n → m ≡ n
 one_count {a} {m} h k =
     let same : h.top ≡ k.top =
     omega (arith, highest_bit a _ _ h.highest.power_le k.highest.next_power_gt, highest_bit a _ _ k.highest.power_le h.highest.next_power_gt) in
-    only_turns (one_turn a) (no_turn a) k.run m (rw same at h.run)
+    only_iterations (one_iteration a) (no_iteration a) k.run m (rw same at h.run)
 
-pub square_root_turns_are_only : (x : ℤ) (n : ℕ) → AreSquareRootTurns x n → IsOnly (AreSquareRootTurns x) n
-square_root_turns_are_only x n h m k = by_lt_z x (pos 4)
+pub square_root_iterations_are_only : (x : ℤ) (n : ℕ) → AreSquareRootIterations x n → IsOnly (AreSquareRootIterations x) n
+square_root_iterations_are_only x n h m k = by_lt_z x (pos 4)
     (λ below. k.below_four below ∙ sym (h.below_four below))
     (λ up. one_count (k.from_four up) (h.from_four up))

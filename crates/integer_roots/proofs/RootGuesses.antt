@@ -66,8 +66,8 @@ cube_step_is a x = rw (power_two x) refl
 
 -- ---- the guesses of the two loops, in integers
 
--- the turns of the loops, for `grind`
-pub ruleset newton_turns = (begins, rises, goes_over, falls)
+-- the iterations of the loops, for `grind`
+pub ruleset newton_iterations = (begins, rises, goes_over, falls)
 
 -- the numbers of a step fit
 pub root_step_fits : (a n x : ℕ) → 2 ≤ n → n < 64 → a < 2 ^ 64 → 2 ≤ x → x ≤ 2 ^ 24 → a / x ^ (n - 1) + (n - 1) * x < 2 ^ 64
@@ -107,21 +107,21 @@ start {a = a} {n = n} {limit = limit} top (suc k) newton degree power small plac
       near = omega (arith, power_of_power 2 (suc k) n, pow_mono {i = top} {j = suc k * n} place.0);
     })
 
--- each turn of the first loop steps up
-rises_from_first : {step : ℕ → ℕ → Type 0} {first x turns : ℕ} → IsReached step first (Rising x) turns → first + turns ≤ x
+-- each iteration of the first loop steps up
+rises_from_first : {step : ℕ → ℕ → Type 0} {first x iterations : ℕ} → IsReached step first (Rising x) iterations → first + iterations ≤ x
 rises_from_first begins = omega arith
 rises_from_first (rises reached is up) = omega (arith, rises_from_first reached)
 
--- so each guess that the loops reach is small, and the turns are few
-pub record IsInRange (limit x turns : ℕ) : Type 0 where
+-- so each guess that the loops reach is small, and the iterations are few
+pub record IsInRange (limit x iterations : ℕ) : Type 0 where
   pub above_one : 2 ≤ x
-  pub small : turns + x ≤ 4 * limit
+  pub small : iterations + x ≤ 4 * limit
 
 module _ {step : ℕ → ℕ → Type 0} {a n limit first : ℕ} (known : IsStart step a n limit first) where
   stepped : (x y : ℕ) → step x y → 2 ≤ x → IsNewtonStep a n x y
   stepped x y is above = record { m = n - 1; degree = omega (arith, known.degree); positive = omega arith; is = known.newton x y is }
 
-  pub in_range : {guess : Guess} {turns : ℕ} → IsReached step first guess turns → IsInRange limit (guess_of guess) turns
+  pub in_range : {guess : Guess} {iterations : ℕ} → IsReached step first guess iterations → IsInRange limit (guess_of guess) iterations
   in_range begins = record { above_one = known.above_one; small = omega (arith, known.small) }
   in_range (rises {x} {y} reached is up) =
       let v = in_range reached in
@@ -136,12 +136,12 @@ module _ {step : ℕ → ℕ → Type 0} {a n limit first : ℕ} (known : IsStar
       record { above_one = newton_least 2 (stepped x y is v.above_one) known.power_le; small = omega (arith, v.small) }
 
   -- no guess of the second loop is below the root
-  above_root : {x turns : ℕ} → IsReached step first (Falling x) turns → a < (x + 1) ^ n
+  above_root : {x iterations : ℕ} → IsReached step first (Falling x) iterations → a < (x + 1) ^ n
   above_root (goes_over {x} {y} reached is down) =
       omega (arith, newton_above (stepped x y is (in_range reached).above_one), pow-le-pow_left {n = y + 1} {m = x + 1} (omega arith) n)
   above_root (falls {x} {y} reached is down) = newton_above (stepped x y is (in_range reached).above_one)
 
   -- so the guess at which they end is the root
-  pub ended_at_root : {x turns : ℕ} → IsReached step first (Falling x) turns → (next : ℕ) × step x next × (x ≤ next) → IsFloorRoot (pos a) n (pos x)
+  pub ended_at_root : {x iterations : ℕ} → IsReached step first (Falling x) iterations → (next : ℕ) × step x next × (x ≤ next) → IsFloorRoot (pos a) n (pos x)
   ended_at_root {x = x} reached (next, is, up) =
       floor_root (newton_stays (stepped x next is (in_range reached).above_one) up) (above_root reached)

@@ -1,23 +1,23 @@
--- The guesses of a square root's two loops: how near the root each turn brings them, and that five turns are enough.
+-- The guesses of a square root's two loops: how near the root each iteration brings them, and that five iterations are enough.
 use Rattle.std.specs.Prelude.{◌≡◌, ◌+◌, ◌-◌, ◌*◌, ◌/◌, ◌^◌, ◌<◌, ◌≤◌, ◌∷◌, ◌%◌}
 use Rattle.integer_core.proofs.Common.{pos, ℕ, zero, suc, List, [], ◌∙◌, arith, refl, add-one, mul-le-mul, mul-le-mul_left, mul-le-mul_right, le_of_mul-le-mul_right, mul-pos, div-mul-le_self, div-lt_iff_lt-mul, le_trans, pow-add, pow_mono, lt_of_not-le, ints, one_shl, IsRun}
-use Rattle.integer_core.proofs.Runs.{Reaches, reaches_first, reaches_turn, reaches_instead, reaches_last}
-use Rattle.integer_roots.specs.SquareRuns.{square_step, Guess, Rising, Falling, IsNewtonTurn, NewtonEnds, IsHighestBit, first_guess, AreSquareRootTurns}
+use Rattle.integer_core.proofs.Runs.{Reaches, reaches_first, reaches_iteration, reaches_instead, reaches_last}
+use Rattle.integer_roots.specs.SquareRuns.{square_step, Guess, Rising, Falling, IsNewtonIteration, NewtonEnds, IsHighestBit, first_guess, AreSquareRootIterations}
 use Rattle.integer_roots.specs.NewtonRuns.{guess_of, IsReached, begins, rises, goes_over, falls}
 use Rattle.integer_roots.proofs.RootGuesses.{cross, square_step_is, IsStart, start, in_range}
 use Rattle.integer_roots.proofs.Powers.{power_two}
 
--- the factor after a number of turns: that factor, times the excess of the guess's square over a, is at most a
+-- the factor after a number of iterations: that factor, times the excess of the guess's square over a, is at most a
 abbrev pub closeness : ℕ → ℕ
 closeness zero = 1
 closeness (suc zero) = 8
-closeness (suc (suc turns)) = 4 * closeness (suc turns) * closeness (suc turns)
+closeness (suc (suc iterations)) = 4 * closeness (suc iterations) * closeness (suc iterations)
 
--- what is known of the guess x for the root of a after a number of turns
-pub record IsNear (a x turns : ℕ) : Type 0 where
-  pub near : closeness turns * (x * x) ≤ (closeness turns + 1) * a
-  pub high_at_first : turns ≡ 0 → a ≤ 2 * (x * x)
-  pub bound : turns ≤ 5
+-- what is known of the guess x for the root of a after a number of iterations
+pub record IsNear (a x iterations : ℕ) : Type 0 where
+  pub near : closeness iterations * (x * x) ≤ (closeness iterations + 1) * a
+  pub high_at_first : iterations ≡ 0 → a ≤ 2 * (x * x)
+  pub bound : iterations ≤ 5
 
 -- a step y from the guess x, multiplied out and squared
 squared_step : (a x y k m : ℕ) → 0 < x → 2 * y ≤ a / x + x → k * ((a + x * x) * (a + x * x)) ≤ m * (a * (x * x))
@@ -33,31 +33,31 @@ near_squares a d s k is near =
     let h : k * d ≤ a = (let f = rw is at near in omega arith) in
     rw is (omega (arith, mul-le-mul h h))
 
-near_next : (a x y turns : ℕ) → 0 < x → IsNear a x turns → 2 * y ≤ a / x + x → (0 < turns → a < x * x)
-    → closeness (turns + 1) * (y * y) ≤ (closeness (turns + 1) + 1) * a
+near_next : (a x y iterations : ℕ) → 0 < x → IsNear a x iterations → 2 * y ≤ a / x + x → (0 < iterations → a < x * x)
+    → closeness (iterations + 1) * (y * y) ≤ (closeness (iterations + 1) + 1) * a
 near_next a x y zero positive near h above =
     let low : x * x ≤ 2 * a = omega (arith, near.near) in
     squared_step a x y 2 9 positive h
     (omega (arith, cross (x * x) (2 * a) a (2 * (x * x)) low (near.high_at_first refl)))
-near_next a x y (suc turns) positive near h above =
-    let k : ℕ = closeness (suc turns) in
+near_next a x y (suc iterations) positive near h above =
+    let k : ℕ = closeness (suc iterations) in
     let apart : x * x ≡ a + (x * x - a) = omega (arith, above (omega arith)) in
     let bound = near_squares a (x * x - a) (x * x) k apart near.near in
     rw add-one (omega (arith, squared_step a x y (k * k) (4 * k * k + 1) positive h bound))
 
--- each turn after the first one falls
-near_after_turn : (a x y turns : ℕ) → 0 < x → IsNear a x turns → y ≡ square_step a x → a < 2 ^ 64 → (0 < turns → y < x) → IsNear a y (turns + 1)
-near_after_turn a x y turns positive near is fits down =
-    let above : (0 < turns → a < x * x) = λ h. (div-lt_iff_lt-mul positive).0 (let f = down h in omega arith) in
-    let few : turns < 5 = lt_of_not-le (λ h.
-    let five : turns ≡ 5 = omega (arith, near.bound) in
+-- each iteration after the first one falls
+near_after_iteration : (a x y iterations : ℕ) → 0 < x → IsNear a x iterations → y ≡ square_step a x → a < 2 ^ 64 → (0 < iterations → y < x) → IsNear a y (iterations + 1)
+near_after_iteration a x y iterations positive near is fits down =
+    let above : (0 < iterations → a < x * x) = λ h. (div-lt_iff_lt-mul positive).0 (let f = down h in omega arith) in
+    let few : iterations < 5 = lt_of_not-le (λ h.
+    let five : iterations ≡ 5 = omega (arith, near.bound) in
     omega (arith, above (omega arith), rw five at near.near)) in
-    record { near = near_next a x y turns positive near (omega arith) above; high_at_first = λ e. absurd (omega arith); bound = omega arith }
+    record { near = near_next a x y iterations positive near (omega arith) above; high_at_first = λ e. absurd (omega arith); bound = omega arith }
 
 rise_cases : (x e y q a : ℕ) → y ≡ x + e + 1 → a < q * x + x → q + x ≤ 2 * y + 1 → (y + 2) * y ≤ a → ⊥
 rise_cases x e y q a is lt le big = omega (arith, mul-le-mul_right {m = q + 1} {n = x + 2 * e + 4} x (omega arith), rw is at big)
 
--- the first loop makes one turn at most
+-- the first loop makes one iteration at most
 rise_once : (a x y : ℕ) → 0 < x → y ≡ square_step a x → x < y → square_step a y ≤ y
 rise_once a x y positive is up =
     let settled = lt_of_not-le {n = y + 1} {m = square_step a y} (λ lt.
@@ -99,41 +99,41 @@ near_at_first {first = first} s =
 
 -- if the step does not rise, a run from a falling guess is one from the same guess, rising
 settled_run : (a x : ℕ) (rest : List Guess) → square_step a x ≤ x
-    → IsRun (IsNewtonTurn a) (NewtonEnds a) (Falling x ∷ rest) → IsRun (IsNewtonTurn a) (NewtonEnds a) (Rising x ∷ rest)
+    → IsRun (IsNewtonIteration a) (NewtonEnds a) (Falling x ∷ rest) → IsRun (IsNewtonIteration a) (NewtonEnds a) (Rising x ∷ rest)
 settled_run a x [] le run = omega arith
 settled_run a x (Rising y ∷ rest) le run = absurd run.0
 settled_run a x (Falling y ∷ rest) le run = run
 
--- each guess that the loops reach is reached by the turns of a run
-run_to : (a : ℕ) {first turns : ℕ} {guess : Guess} → IsReached (IsSquareStep a) first guess turns
-    → Reaches (IsNewtonTurn a) (NewtonEnds a) (Rising first) guess turns
+-- each guess that the loops reach is reached by the iterations of a run
+run_to : (a : ℕ) {first iterations : ℕ} {guess : Guess} → IsReached (IsSquareStep a) first guess iterations
+    → Reaches (IsNewtonIteration a) (NewtonEnds a) (Rising first) guess iterations
 run_to a begins = reaches_first
-run_to a (rises reached is up) = reaches_turn (run_to a reached) (up, is)
+run_to a (rises reached is up) = reaches_iteration (run_to a reached) (up, is)
 run_to a (goes_over {x} reached is down) =
-    reaches_instead (run_to a reached) (λ m h. record { rest = h.rest; run = settled_run a x h.rest (omega arith) h.run; turns = h.turns })
-run_to a (falls reached is down) = reaches_turn (run_to a reached) (down, is)
+    reaches_instead (run_to a reached) (λ m h. record { rest = h.rest; run = settled_run a x h.rest (omega arith) h.run; iterations = h.iterations })
+run_to a (falls reached is down) = reaches_iteration (run_to a reached) (down, is)
 
 module _ {a first : ℕ} (known : IsSquareStart a first) where
-  positive : {guess : Guess} {turns : ℕ} → IsReached (IsSquareStep a) first guess turns → 0 < guess_of guess
+  positive : {guess : Guess} {iterations : ℕ} → IsReached (IsSquareStep a) first guess iterations → 0 < guess_of guess
   positive reached = omega (arith, (in_range known.start reached).above_one)
 
-  -- the first loop makes one turn at most
-  rises_once : {x turns : ℕ} → IsReached (IsSquareStep a) first (Rising x) turns → 0 < turns → square_step a x ≤ x
+  -- the first loop makes one iteration at most
+  rises_once : {x iterations : ℕ} → IsReached (IsSquareStep a) first (Rising x) iterations → 0 < iterations → square_step a x ≤ x
   rises_once begins h = absurd (omega arith)
   rises_once (rises {x} {y} reached is up) h = rise_once a x y (positive reached) is up
 
   -- each guess that the loops reach is near the root
-  pub near_root : {guess : Guess} {turns : ℕ} → IsReached (IsSquareStep a) first guess turns → IsNear a (guess_of guess) turns
+  pub near_root : {guess : Guess} {iterations : ℕ} → IsReached (IsSquareStep a) first guess iterations → IsNear a (guess_of guess) iterations
   near_root begins = near_at_first known
   near_root (rises {x} {y} reached is up) =
-      near_after_turn a x y _ (positive reached) (near_root reached) is known.start.limited (λ h. absurd (omega (arith, rises_once reached h)))
+      near_after_iteration a x y _ (positive reached) (near_root reached) is known.start.limited (λ h. absurd (omega (arith, rises_once reached h)))
   near_root (goes_over reached is down) = near_root reached
-  near_root (falls {x} {y} reached is down) = near_after_turn a x y _ (positive reached) (near_root reached) is known.start.limited (λ h. down)
+  near_root (falls {x} {y} reached is down) = near_after_iteration a x y _ (positive reached) (near_root reached) is known.start.limited (λ h. down)
 
-  -- at their end, their turns are those of the run
-  pub turns_of_run : {x turns : ℕ} → IsReached (IsSquareStep a) first (Falling x) turns → (next : ℕ) × IsSquareStep a x next × (x ≤ next)
-      → AreSquareRootTurns (pos a) turns
-  turns_of_run reached (next, is, up) = record {
+  -- at their end, their iterations are those of the run
+  pub iterations_of_run : {x iterations : ℕ} → IsReached (IsSquareStep a) first (Falling x) iterations → (next : ℕ) × IsSquareStep a x next × (x ≤ next)
+      → AreSquareRootIterations (pos a) iterations
+  iterations_of_run reached (next, is, up) = record {
     below_four = λ h. absurd (omega (arith, ints, known.start.power_le));
     from_four = λ h. record { top = known.top; highest = known.highest; run = rw known.is at (reaches_last (run_to a reached) (omega arith)) };
   }

@@ -8,7 +8,7 @@ abbrev pub guess_of : Guess → ℕ
 guess_of (Rising x) = x
 guess_of (Falling x) = x
 
--- The two loops reach this guess from the first one in n turns; step x y says that y is a result of the step at x.
+-- The two loops reach this guess from the first one in n iterations; step x y says that y is a result of the step at x.
 -- Examples: the fourth root of 130321 from 16: 16 after none; 19 after one, rising and then falling; never 18.
 pub data IsReached (step : ℕ → ℕ → Type 0) (first : ℕ) : Guess → ℕ → Type 0 where
   begins : IsReached step first (Rising first) 0

@@ -2,7 +2,7 @@
 
 ghost use Rattle.std.specs.Prelude.{◌≤◌, ◌≤ℤ◌, pos};
 ghost use Rattle.integer_roots.specs.RootOf.{IsRoot};
-ghost use Rattle.integer_roots.specs.SquareRuns.{AreSquareRootTurns};
+ghost use Rattle.integer_roots.specs.SquareRuns.{AreSquareRootIterations};
 
 use crate::root::Roots;
 
@@ -20,6 +20,6 @@ pub trait SqrtCounted: Roots {
         requires from_zero { pos 0 ≤ℤ Self.value self.now }
         ensures in_range { Self.fits (Self.value result.0) }
         ensures root { IsRoot (Self.value self.now) 2 (Self.value result.0) }
-        ensures turns { AreSquareRootTurns (Self.value self.now) result.1 }
+        ensures iterations { AreSquareRootIterations (Self.value self.now) result.1 }
         ensures bound { result.1 ≤ 5 };
 }

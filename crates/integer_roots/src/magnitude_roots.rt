@@ -3,7 +3,7 @@
 ghost use Rattle.std.specs.Prelude.{◌≡◌, ◌≢◌, ◌%◌, ◌≤◌, ◌≤ℤ◌, ◌<ℤ◌, neg_ℤ, pos};
 ghost use Rattle.num_traits.specs.Laws.{bit_len};
 ghost use Rattle.integer_roots.specs.RootOf.{IsRoot};
-ghost use Rattle.integer_roots.specs.SquareRuns.{AreSquareRootTurns};
+ghost use Rattle.integer_roots.specs.SquareRuns.{AreSquareRootIterations};
 
 use crate::cube_root::cube_root;
 use crate::root_of_degree::root_of_degree;
@@ -18,11 +18,11 @@ pub(crate) fn square_root_by_magnitude<T: NativeInteger<Magnitude = u64>>(x: T) 
     requires from_zero { pos 0 ≤ℤ T.value x }
     ensures in_range { T.fits (T.value result.0) }
     ensures root { IsRoot (T.value x) 2 (T.value result.0) }
-    ensures turns { AreSquareRootTurns (T.value x) result.1 }
+    ensures iterations { AreSquareRootIterations (T.value x) result.1 }
     ensures bound { result.1 ≤ 5 }
 {
-    let (root, turns) = square_root_counted(x.magnitude());
-    (T::from_magnitude(root), turns)
+    let (root, iterations) = square_root_counted(x.magnitude());
+    (T::from_magnitude(root), iterations)
 }
 
 /// Returns the cube root.

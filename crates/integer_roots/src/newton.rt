@@ -19,7 +19,7 @@ pub(crate) fn root_by_newton<F: Fn(u64) -> u64>(a: u64, n: u32, step: F) -> u64
 /// Returns the guess at which both loops end, and the number of iterations. The first loop iterates while
 /// the next guess is larger, the second while it is smaller. Both end: in the first each guess is larger
 /// than the one before, and has at most 64 bits; in the second each is smaller.
-#[tactic(auto, using(crate::proofs::RootGuesses::newton_turns))]
+#[tactic(auto, using(crate::proofs::RootGuesses::newton_iterations))]
 pub(crate) fn newton<F: Fn(u64) -> u64>(first: u64, step: F) -> (u64, u32)
     requires { (guess : Guess) (n : ℕ) → IsReached (F.post step) first guess n
         → F.pre step (guess_of guess) × (n < 2 ^ 32) }
@@ -28,16 +28,16 @@ pub(crate) fn newton<F: Fn(u64) -> u64>(first: u64, step: F) -> (u64, u32)
 {
     let mut x = first;
     let mut next = step(x);
-    let mut turns = 0;
+    let mut iterations = 0;
     'rise: while x < next {
         x = next;
         next = step(x);
-        turns += 1;
+        iterations += 1;
     }
     'fall: while x > next {
         x = next;
         next = step(x);
-        turns += 1;
+        iterations += 1;
     }
-    (x, turns)
+    (x, iterations)
 }

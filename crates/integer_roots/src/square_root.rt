@@ -1,7 +1,7 @@
 //! Square roots by Newton's method, at 64 bits.
 
 ghost use Rattle.std.specs.Prelude.{◌≡◌, ◌≤◌, ◌^◌, pos};
-ghost use Rattle.integer_roots.specs.SquareRuns.{AreSquareRootTurns, square_step};
+ghost use Rattle.integer_roots.specs.SquareRuns.{AreSquareRootIterations, square_step};
 ghost use Rattle.integer_roots.specs.RootOf.{IsFloorRoot};
 
 use crate::newton::newton;
@@ -11,7 +11,7 @@ use crate::newton::newton;
 #[allow(clippy::manual_div_ceil)] // as it was proved
 pub(crate) fn square_root_counted(a: u64) -> (u64, u32)
     ensures root { IsFloorRoot (pos a) 2 (pos result.0) }
-    ensures turns { AreSquareRootTurns (pos a) result.1 }
+    ensures iterations { AreSquareRootIterations (pos a) result.1 }
     ensures bound { result.1 ≤ 5 }
 {
     if a < 4 {

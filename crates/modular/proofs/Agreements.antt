@@ -1,5 +1,5 @@
 -- Several congruences: if every two of them agree, they have a common solution, and all their solutions are congruent.
-use Rattle.modular.proofs.Common.{◌≡◌, ◌<◌, ◌≤◌, ◌+◌, ◌≤ℤ◌, ◌<ℤ◌, ◌+ℤ◌, ◌-ℤ◌, ◌*ℤ◌, ◌∷◌, ◌∙◌, ℤ, ℕ, pos, neg_ℤ, unsigned_abs, List, [], length, Option, Some, None, MatchOption, All, arith, ap, get_or, refl, subst, sym, take, All-cons, All-head, All-nil, All-tail, Has, IsRange, Divides, IsGreatestCommonDivisor, IsLeastCommonMultiple, IsLeastFrom, Divides-cancel, Divides-sum, Divides-times, Divides-trans, comm, expand, gcd-nonzero, gcd-times, lcm-positive, linear, only_gcd, product_from_zero, products, sizes, bezout_answer_exists, division_exists, gcd_exists, gcd_times_lcm, lcm_exists, CommonSolution, Never, Beyond, At, MatchCommonSolution, Agree, AgreeInPairs, AgreesWithEach, AreCongruent, IsNextCongruent, IsResidueClass, IsSystem, SolvesBothCongruences, SolvesEach}
+use Rattle.modular.proofs.Common.{◌≡◌, ◌<◌, ◌≤◌, ◌+◌, ◌≤ℤ◌, ◌<ℤ◌, ◌+ℤ◌, ◌-ℤ◌, ◌*ℤ◌, ◌∷◌, ◌∙◌, ℤ, ℕ, pos, neg_ℤ, unsigned_abs, List, [], length, Option, Some, None, MatchOption, All, arith, ap, get_or, refl, subst, sym, take, All-cons, All-head, All-nil, All-tail, FitsWith, IsRange, Divides, IsGreatestCommonDivisor, IsLeastCommonMultiple, IsLeastFrom, Divides-cancel, Divides-sum, Divides-times, Divides-trans, comm, expand, gcd-nonzero, gcd-times, lcm-positive, linear, only_gcd, product_from_zero, products, sizes, bezout_answer_exists, division_exists, gcd_exists, gcd_times_lcm, lcm_exists, CommonSolution, Never, Beyond, At, MatchCommonSolution, Agree, AgreeInPairs, AgreesWithEach, AreCongruent, IsNextCongruent, IsResidueClass, IsSystem, SolvesBothCongruences, SolvesEach}
 use Rattle.modular.proofs.ListedItems.{all_items, at_item, one_item_more}
 use Rattle.modular.proofs.Congruences.{congruent-divisor, congruent-refl, congruent-sym, congruent-trans, congruent_by, remainder_is_residue}
 use Rattle.modular.proofs.NextCongruent.{next_congruent_is}
@@ -189,7 +189,7 @@ module _ {Each Both : ℤ → Type 0} {from next : ℤ} (narrows : (x : ℤ) →
 
   -- none if the next number that solves two of them is not in the type
   pub none_at_end : {X : Type 0} (value : X → ℤ) {fits : ℤ → Type 0} {low high : ℤ} (found : CommonSolution X) → IsRange fits low high → fits next → ((t : X) → found ≡ At t → ⊥)
-      → MatchCommonSolution found ((x : ℤ) → ¬ (Both x)) ((t : ℤ) × IsLeastFrom next Both t × ¬ (fits t)) (Has fits value (IsLeastFrom next Both))
+      → MatchCommonSolution found ((x : ℤ) → ¬ (Both x)) ((t : ℤ) × IsLeastFrom next Both t × ¬ (fits t)) (FitsWith fits value (IsLeastFrom next Both))
       → (x : ℤ) → from ≤ℤ x → Each x → ¬ (fits x)
   none_at_end value Never range next_fits other h = λ x far has _. h x (narrows x has)
   none_at_end value Beyond range next_fits other h = λ x far has x_fits. h.2 (between_fits range next_fits x_fits h.1.from_there (h.1.least x (passed x far has) (narrows x has)))
@@ -231,8 +231,8 @@ module _ {X : Type 0} {value : X → ℤ} {congruences : List (X × X)} {i : ℕ
   }
 
   pub least_of_class : {A : Type 0} (number : A → ℤ) {fits : ℤ → Type 0} {low high from : ℤ} (found : Option A) → IsRange fits low high → fits from → length congruences ≤ i
-      → MatchOption found ((t : ℤ) × IsNextCongruent from first step t × ¬ (fits t)) (Has fits number (IsNextCongruent from first step))
-      → MatchOption found ((t : ℤ) → from ≤ℤ t → SolvesEach value congruences t → ¬ (fits t)) (Has fits number (IsLeastFrom from (SolvesEach value congruences)))
+      → MatchOption found ((t : ℤ) × IsNextCongruent from first step t × ¬ (fits t)) (FitsWith fits number (IsNextCongruent from first step))
+      → MatchOption found ((t : ℤ) → from ≤ℤ t → SolvesEach value congruences t → ¬ (fits t)) (FitsWith fits number (IsLeastFrom from (SolvesEach value congruences)))
   least_of_class number (Some t) range from_fits past next = (
     next.0,
     record { from_there = next.1.from_there; holds = all_items (SolvesAt value (number t)) congruences i past (h.no_other _ next.1.holds); least = λ u far each. next.1.least u far (h.every u each) },

@@ -14,7 +14,7 @@ pub use Rattle.std.specs.Int.Count.{count_leading_zeros}
 pub use Rattle.std.specs.List.{All}
 pub use Rattle.num_integer.proofs.ForCallers.{Divides-antisym, Divides-cancel, Divides-difference, Divides-refl, Divides-sum, Divides-times, Divides-trans, Divides-zero, cancel, comm, coprime_divides, divisor_at_most, exact_quotient, expand, factor_positive, floored_remainder_range, from_not_less, gcd-nonzero, gcd-positive, gcd-times, gcd_with_positive_fits, greatest_is_only, int_pow-suc, int_pow-zero, lcm-positive, least_is_only, linear, mul-neg, mul-one, multiples_apart, one_divides, only_gcd, operator_quotient_fits, positive_quotient_fits, power_of_square, product_at_most, product_from_zero, products, shift_back, signed_is, sizes, small_multiple_is_zero, within_fits}
 pub use Rattle.num_integer.proofs.Laws.{bezout_answer_exists, division_exists, gcd_exists, gcd_times_lcm, lcm_exists}
-pub use Rattle.num_integer.specs.Checked.{AnswersWhere, Has}
+pub use Rattle.num_integer.specs.Checked.{AnswersWhere, FitsWith}
 pub use Rattle.num_integer.specs.Division.{IsFloored, IsRemainder, IsTruncated}
 pub use Rattle.num_integer.specs.Divisors.{Divides, IsGreatestCommonDivisor, IsLeastCommonMultiple}
 pub use Rattle.num_integer.specs.Least.{IsLeastFrom}
@@ -28,7 +28,7 @@ pub use Rattle.modular.specs.Congruences.{AreCongruent, IsCountOfCongruent, IsIn
 pub use Rattle.modular.specs.Counts.{AreAllFrom, IsCountFrom}
 pub use Rattle.modular.specs.Laws.{CountOfCongruentIsOnly, InverseIsOnly, NextCommonSolutionIsOnly, NextCongruentIsOnly, NextSolutionOfEachIsOnly, PreviousCongruentIsOnly, QuotientIsOnly, ReducedModulusIsOnly, ResidueClassIsOnly, ResidueIsOnly}
 pub use Rattle.modular.specs.MontgomeryForms.{joined, represented}
-pub use Rattle.modular.specs.Powers.{IsTurnCount}
+pub use Rattle.modular.specs.Powers.{IsIterationCount}
 pub use Rattle.modular.specs.Times.{IsNextInClass, IsTimesToReach}
 pub use Rattle.modular.specs.declared.common_solutions.CommonSolution.{CommonSolution}
 pub use Rattle.modular.specs.declared.common_solutions.CommonSolution.TheVariants.{At, Beyond, Never}

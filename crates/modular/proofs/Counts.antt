@@ -99,6 +99,6 @@ one_more_too_large range from_zero none more_fits = none (within_fits range more
 pub zero_from_zero : {n : ℤ} → n ≡ pos 0 → pos 0 ≤ℤ n
 zero_from_zero none = omega (arith, linear)
 
-pub count_from_zero : {X : Type 0} (fits : ℤ → Type 0) (value : X → ℤ) (N : Type 0) (from : ℤ) (Has : ℤ → Type 0) (r : Option X) → MatchOption r N (λ n. fits (value n) × IsCountFrom from Has (value n)) → IfSome r (λ n. pos 0 ≤ℤ value n)
-count_from_zero fits value N from Has (Some n) h = omega (arith, ints, h.1.counted)
-count_from_zero fits value N from Has None h = tt
+pub count_from_zero : {X : Type 0} (fits : ℤ → Type 0) (value : X → ℤ) (N : Type 0) (from : ℤ) (FitsWith : ℤ → Type 0) (r : Option X) → MatchOption r N (λ n. fits (value n) × IsCountFrom from FitsWith (value n)) → IfSome r (λ n. pos 0 ≤ℤ value n)
+count_from_zero fits value N from FitsWith (Some n) h = omega (arith, ints, h.1.counted)
+count_from_zero fits value N from FitsWith None h = tt

@@ -5,6 +5,6 @@ pub use Rattle.modular.proofs.TwoCongruences.{lcm_by_reduced_modulus, next_of_cl
 pub use Rattle.modular.proofs.BelowModulus.{congruent_is_natural, natural_residue, residue_fits, residue_is_natural, residue_of_sum}
 pub use Rattle.modular.proofs.CoprimeModuli.{coprime_product, odd_coprime}
 pub use Rattle.modular.proofs.LinearCongruences.{inverse_exists, solved_by_inverse}
-pub use Rattle.modular.proofs.PowerTurns.{congruent-power}
+pub use Rattle.modular.proofs.PowerIterations.{congruent-power}
 pub use Rattle.modular.proofs.Agreements.{agreeing_have_solution, solved_agree}
 pub use Rattle.modular.proofs.NaturalPowers.{power_is_natural, residue_of_exponent_sum}

@@ -4,8 +4,8 @@ pub mod CoprimeModuli
 pub mod TwoCongruences
 pub mod NextCongruent
 pub mod BelowModulus
-pub mod DoublingTurns
-pub mod PowerTurns
+pub mod DoublingIterations
+pub mod PowerIterations
 pub mod WideProducts
 pub mod MontgomeryInverses
 pub mod MontgomeryProducts

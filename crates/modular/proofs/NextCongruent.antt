@@ -1,5 +1,5 @@
 -- The next congruent number and the previous one, and a number that fits the type or is beyond it.
-use Rattle.modular.proofs.Common.{◌≡◌, ◌≤ℤ◌, ◌<ℤ◌, ◌+ℤ◌, ◌-ℤ◌, ℤ, pos, neg_ℤ, Option, Some, None, MatchOption, arith, subst, sym, by_lt_z, AnswersWhere, Has, expand, linear, sizes, small_multiple_is_zero, MatchWhere, AreCongruent, IsNextCongruent, IsPreviousCongruent, IsResidue}
+use Rattle.modular.proofs.Common.{◌≡◌, ◌≤ℤ◌, ◌<ℤ◌, ◌+ℤ◌, ◌-ℤ◌, ℤ, pos, neg_ℤ, Option, Some, None, MatchOption, arith, subst, sym, by_lt_z, AnswersWhere, FitsWith, expand, linear, sizes, small_multiple_is_zero, MatchWhere, AreCongruent, IsNextCongruent, IsPreviousCongruent, IsResidue}
 use Rattle.modular.proofs.Congruences.{congruent-sym, congruent-trans, congruent_by}
 
 -- of two congruent numbers, one that is less than a step further is not the larger
@@ -30,7 +30,7 @@ previous_congruent_is {to} {first} {step} {w} wait =
 
 -- a number with the property fits the type or is beyond it
 pub found_or_beyond : {X : Type 0} (fits : ℤ → Type 0) (value : X → ℤ) (Is : ℤ → Type 0) {z : ℤ} (found : Option X) → Is z → AnswersWhere (fits z) (λ t. fits (value t) × (value t ≡ z)) found
-    → MatchOption found ((t : ℤ) × Is t × ¬ (fits t)) (Has fits value Is)
+    → MatchOption found ((t : ℤ) × Is t × ¬ (fits t)) (FitsWith fits value Is)
 found_or_beyond fits value Is (Some t) is h = (h.1.0, subst Is (sym h.1.1) is)
 found_or_beyond fits value Is None is h = (_, is, h)
 

@@ -1,7 +1,7 @@
 -- Numbers modulo an odd number and modulo a power of two, joined to numbers modulo the product of the two.
 use Rattle.modular.proofs.Common.{◌≡◌, ◌+◌, ◌-◌, ◌*◌, ◌/◌, ◌%◌, ◌^◌, ◌<◌, ◌≤◌, ◌+ℤ◌, ◌-ℤ◌, ◌*ℤ◌, ℤ, ℕ, pos, int_pow, trailing_zeros, w64, arith, ap, inl, inr, subst, mul-le-mul_left, mul-le-mul_right, pow-le-pow_right, cases_lt, ints, mod_below, pow_pos, bit_at-trailing_zeros, Divides, Divides-times, expand, linear, products, shift_back, AreCongruent, IsResidue, joined, represented}
 use Rattle.modular.proofs.Congruences.{congruent-divisor, congruent-product, congruent-refl, congruent-sum, congruent-sym, congruent-trans, congruent_by, residue_of_congruent}
-use Rattle.modular.proofs.PowerTurns.{congruent-power}
+use Rattle.modular.proofs.PowerIterations.{congruent-power}
 use Rattle.modular.proofs.BelowModulus.{congruent-rest, natural_residue}
 use Rattle.modular.proofs.WideProducts.{wrapped_difference}
 use Rattle.modular.proofs.MontgomeryInverses.{inverse_congruent, low_divides}

@@ -2,7 +2,7 @@
 use Rattle.modular.proofs.Common.{◌≡◌, ◌↔◌, ◌+◌, ◌-◌, ◌*◌, ◌%◌, ◌<◌, ◌≤◌, ◌<ℤ◌, ◌≤ℤ◌, ◌-ℤ◌, ◌*ℤ◌, ℤ, ℕ, pos, unsigned_abs, Bool, true, false, IsTrue, not, int_pow, arith, ap, sym, ints, beq, expand, mul-neg, products, signed_is, sizes, signed, AreCongruent, IsResidue}
 use Rattle.modular.proofs.Congruences.{congruent-product, congruent_by, residue_of_congruent}
 use Rattle.modular.proofs.BelowModulus.{natural_residue}
-use Rattle.modular.proofs.PowerTurns.{congruent-power}
+use Rattle.modular.proofs.PowerIterations.{congruent-power}
 
 -- a wrapping difference
 pub wrapped_difference : (x : ℕ) {u w : ℕ} → u ≤ w → AreCongruent (pos w) (pos (x + (w - u))) (pos x -ℤ pos u)

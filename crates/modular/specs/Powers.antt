@@ -11,6 +11,6 @@ pub record MultipliesResidues {T : Type 0} (value : T → ℤ) (m : ℤ) (MayMul
 
 -- The number of iterations is the binary logarithm of the exponent, rounded down. It is 0 at the exponent 0.
 -- Examples: exponent 0: 0; exponent 1: 0; exponent 5: 2.
-pub record IsTurnCount (exponent turns : ℕ) : Type 0 where
-  pub no_turn : exponent ≡ 0 → turns ≡ 0
-  pub logarithm : exponent ≢ 0 → (2 ^ turns ≤ exponent) × (exponent < 2 ^ (turns + 1))
+pub record IsIterationCount (exponent iterations : ℕ) : Type 0 where
+  pub no_iteration : exponent ≡ 0 → iterations ≡ 0
+  pub logarithm : exponent ≢ 0 → (2 ^ iterations ≤ exponent) × (exponent < 2 ^ (iterations + 1))

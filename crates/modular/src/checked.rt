@@ -7,7 +7,7 @@ ghost use Rattle.std.specs.Int.{int_pow};
 ghost use Rattle.std.specs.List.{All};
 ghost use Rattle.modular.specs.CommonSolutions.{MatchCommonSolution, MatchWhere};
 ghost use Rattle.modular.specs.Congruences.{IsCountOfCongruent, IsInverse, IsNextCommonSolution, IsNextCongruent, IsPreviousCongruent, IsQuotientModulo, IsReducedModulus, IsResidue, IsResidueClass, Solves, SolvesBothCongruences, SolvesEach};
-ghost use Rattle.num_integer.specs.Checked.{AnswersWhere, Has};
+ghost use Rattle.num_integer.specs.Checked.{AnswersWhere, FitsWith};
 ghost use Rattle.num_integer.specs.Divisors.{IsLeastCommonMultiple};
 ghost use Rattle.num_integer.specs.Least.{IsLeastFrom};
 ghost use Rattle.num_integer.specs.Range.{EachFits};
@@ -22,7 +22,7 @@ use num_integer::{Fits, Integer};
 pub fn residue<T: Integer + Copy>(a: T, m: T) -> Option<T>
     requires in_range { T.fits (T.value a) × T.fits (T.value m) }
     ensures { AnswersWhere (pos 0 <ℤ T.value m)
-        (Has T.fits T.value (IsResidue (T.value m) (T.value a))) result }
+        (FitsWith T.fits T.value (IsResidue (T.value m) (T.value a))) result }
 {
     if is_positive(m) {
         Some(crate::residue(a, m))
@@ -36,7 +36,7 @@ pub fn residue<T: Integer + Copy>(a: T, m: T) -> Option<T>
 pub fn sum_modulo<T: Integer + Copy>(a: T, b: T, m: T) -> Option<T>
     requires in_range { T.fits (T.value a) × T.fits (T.value b) × T.fits (T.value m) }
     ensures { AnswersWhere (pos 0 <ℤ T.value m)
-        (Has T.fits T.value (IsResidue (T.value m) (T.value a +ℤ T.value b))) result }
+        (FitsWith T.fits T.value (IsResidue (T.value m) (T.value a +ℤ T.value b))) result }
 {
     if is_positive(m) {
         Some(crate::sum_modulo(a, b, m))
@@ -50,7 +50,7 @@ pub fn sum_modulo<T: Integer + Copy>(a: T, b: T, m: T) -> Option<T>
 pub fn difference_modulo<T: Integer + Copy>(a: T, b: T, m: T) -> Option<T>
     requires in_range { T.fits (T.value a) × T.fits (T.value b) × T.fits (T.value m) }
     ensures { AnswersWhere (pos 0 <ℤ T.value m)
-        (Has T.fits T.value (IsResidue (T.value m) (T.value a -ℤ T.value b))) result }
+        (FitsWith T.fits T.value (IsResidue (T.value m) (T.value a -ℤ T.value b))) result }
 {
     if is_positive(m) {
         Some(crate::difference_modulo(a, b, m))
@@ -64,7 +64,7 @@ pub fn difference_modulo<T: Integer + Copy>(a: T, b: T, m: T) -> Option<T>
 pub fn negation_modulo<T: Integer + Copy>(a: T, m: T) -> Option<T>
     requires in_range { T.fits (T.value a) × T.fits (T.value m) }
     ensures { AnswersWhere (pos 0 <ℤ T.value m)
-        (Has T.fits T.value (IsResidue (T.value m) (neg_ℤ (T.value a)))) result }
+        (FitsWith T.fits T.value (IsResidue (T.value m) (neg_ℤ (T.value a)))) result }
 {
     if is_positive(m) {
         Some(crate::negation_modulo(a, m))
@@ -78,7 +78,7 @@ pub fn negation_modulo<T: Integer + Copy>(a: T, m: T) -> Option<T>
 pub fn product_modulo<T: Modular>(a: T, b: T, m: T) -> Option<T>
     requires in_range { T.fits (T.value a) × T.fits (T.value b) × T.fits (T.value m) }
     ensures { AnswersWhere (pos 0 <ℤ T.value m)
-        (Has T.fits T.value (IsResidue (T.value m) (T.value a *ℤ T.value b))) result }
+        (FitsWith T.fits T.value (IsResidue (T.value m) (T.value a *ℤ T.value b))) result }
 {
     if is_positive(m) {
         Some(crate::product_modulo(a, b, m))
@@ -92,7 +92,7 @@ pub fn product_modulo<T: Modular>(a: T, b: T, m: T) -> Option<T>
 pub fn power_modulo<T: Modular>(a: T, exponent: u128, m: T) -> Option<T>
     requires in_range { T.fits (T.value a) × T.fits (T.value m) }
     ensures { AnswersWhere (pos 0 <ℤ T.value m)
-        (Has T.fits T.value (IsResidue (T.value m) (int_pow (T.value a) exponent))) result }
+        (FitsWith T.fits T.value (IsResidue (T.value m) (int_pow (T.value a) exponent))) result }
 {
     if is_positive(m) {
         Some(crate::power_modulo(a, exponent, m))
@@ -106,7 +106,7 @@ pub fn power_modulo<T: Modular>(a: T, exponent: u128, m: T) -> Option<T>
 pub fn inverse_modulo<T: Integer + Copy>(a: T, m: T) -> Option<T>
     requires in_range { T.fits (T.value a) × T.fits (T.value m) }
     ensures { MatchOption result ((x : ℤ) → ¬ (IsInverse (T.value a) (T.value m) x))
-        (Has T.fits T.value (IsInverse (T.value a) (T.value m))) }
+        (FitsWith T.fits T.value (IsInverse (T.value a) (T.value m))) }
 {
     if is_positive(m) {
         crate::inverse_modulo(a, m)
@@ -120,7 +120,7 @@ pub fn inverse_modulo<T: Integer + Copy>(a: T, m: T) -> Option<T>
 pub fn quotient_modulo<T: Modular>(a: T, b: T, m: T) -> Option<T>
     requires in_range { T.fits (T.value a) × T.fits (T.value b) × T.fits (T.value m) }
     ensures { MatchOption result ((x : ℤ) → ¬ (IsInverse (T.value b) (T.value m) x))
-        (Has T.fits T.value (IsQuotientModulo (T.value a) (T.value b) (T.value m))) }
+        (FitsWith T.fits T.value (IsQuotientModulo (T.value a) (T.value b) (T.value m))) }
 {
     if is_positive(m) {
         crate::quotient_modulo(a, b, m)
@@ -152,7 +152,7 @@ pub fn next_congruent<T: Fits>(from: T, first: T, step: T) -> Option<T>
     requires in_range { T.fits (T.value from) × T.fits (T.value first) × T.fits (T.value step) }
     ensures { MatchWhere (pos 0 <ℤ T.value step) result
         ((t : ℤ) × IsNextCongruent (T.value from) (T.value first) (T.value step) t × ¬ (T.fits t))
-        (Has T.fits T.value (IsNextCongruent (T.value from) (T.value first) (T.value step))) }
+        (FitsWith T.fits T.value (IsNextCongruent (T.value from) (T.value first) (T.value step))) }
 {
     if is_positive(step) {
         crate::next_congruent(from, first, step)
@@ -168,7 +168,7 @@ pub fn previous_congruent<T: Fits>(to: T, first: T, step: T) -> Option<T>
     ensures { MatchWhere (pos 0 <ℤ T.value step) result
         ((t : ℤ) × IsPreviousCongruent (T.value to) (T.value first) (T.value step) t
         × ¬ (T.fits t))
-        (Has T.fits T.value (IsPreviousCongruent (T.value to) (T.value first) (T.value step))) }
+        (FitsWith T.fits T.value (IsPreviousCongruent (T.value to) (T.value first) (T.value step))) }
 {
     if is_positive(step) {
         crate::previous_congruent(to, first, step)
@@ -185,7 +185,7 @@ pub fn count_congruent<T: Fits>(from: T, to: T, first: T, step: T) -> Option<T>
     ensures { MatchWhere (pos 0 <ℤ T.value step) result
         ((n : ℤ) × IsCountOfCongruent (T.value from) (T.value to) (T.value first) (T.value step) n
         × ¬ (T.fits n))
-        (Has T.fits T.value (IsCountOfCongruent (T.value from) (T.value to) (T.value first)
+        (FitsWith T.fits T.value (IsCountOfCongruent (T.value from) (T.value to) (T.value first)
         (T.value step))) }
 {
     if is_positive(step) {
@@ -232,7 +232,7 @@ pub fn next_common_solution<T: Modular + Fits>(
         ((x : ℤ) → ¬ (SolvesBothCongruences (T.value a) (T.value m) (T.value b) (T.value n) x))
         ((t : ℤ) × IsNextCommonSolution (T.value from) (T.value a) (T.value m) (T.value b)
         (T.value n) t × ¬ (T.fits t))
-        (Has T.fits T.value (IsNextCommonSolution (T.value from) (T.value a) (T.value m)
+        (FitsWith T.fits T.value (IsNextCommonSolution (T.value from) (T.value a) (T.value m)
         (T.value b) (T.value n))))
         result }
 {
@@ -259,7 +259,7 @@ pub fn next_common_solution_of<T: Modular + Fits>(
         ((x : ℤ) → ¬ (SolvesEach T.value congruences.now x))
         ((t : ℤ) × IsLeastFrom (T.value from) (SolvesEach T.value congruences.now) t
         × ¬ (T.fits t))
-        (Has T.fits T.value (IsLeastFrom (T.value from) (SolvesEach T.value congruences.now))))
+        (FitsWith T.fits T.value (IsLeastFrom (T.value from) (SolvesEach T.value congruences.now))))
         result }
 {
     if are_positive(congruences) {

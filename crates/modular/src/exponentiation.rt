@@ -4,7 +4,7 @@ ghost use Rattle.std.specs.Prelude.{ℤ, ◌<◌, ◌*ℤ◌, pos};
 ghost use Rattle.std.specs.Int.{int_pow};
 ghost use Rattle.modular.specs.Congruences.{AreCongruent};
 ghost use Rattle.modular.specs.Below.{LiesBelow};
-ghost use Rattle.modular.specs.Powers.{IsTurnCount, MultipliesResidues};
+ghost use Rattle.modular.specs.Powers.{IsIterationCount, MultipliesResidues};
 
 use num_integer::Integer;
 
@@ -39,7 +39,7 @@ pub(crate) trait ResidueForm {
     }
 }
 
-/// Returns the power of a residue, and the number of turns: one for each binary digit of the exponent after the
+/// Returns the power of a residue, and the number of iterations: one for each binary digit of the exponent after the
 /// first. `one`, `base` and the power are residues in the form `form`.
 pub(crate) fn power_counted<F: ResidueForm>(
     form: &F,
@@ -53,19 +53,19 @@ pub(crate) fn power_counted<F: ResidueForm>(
     ensures valid { F.is_valid form.now result.0 }
     ensures power { AreCongruent (F.modulus form.now)
         (int_pow (F.meaning form.now base) exponent) (F.meaning form.now result.0) }
-    ensures turns { IsTurnCount exponent result.1 }
+    ensures iterations { IsIterationCount exponent result.1 }
 {
     let mut power = one;
     let mut square = base;
     let mut rest = exponent;
-    let mut turns = 0;
+    let mut iterations = 0;
     'halvings: while rest > 1 {
         power = form.product_if(rest % 2, power, square);
         square = form.product(square, square);
         rest /= 2;
-        turns += 1;
+        iterations += 1;
     }
-    (form.product_if(rest, power, square), turns)
+    (form.product_if(rest, power, square), iterations)
 }
 
 /// The residues of a modulus as they are, and how to multiply two of them.

@@ -3,7 +3,7 @@
 ghost use Rattle.std.specs.Prelude.{◌≡◌, ◌<ℤ◌, ◌*ℤ◌, pos};
 ghost use Rattle.std.specs.Int.{int_pow};
 ghost use Rattle.modular.specs.Congruences.{IsResidue};
-ghost use Rattle.modular.specs.Powers.{IsTurnCount};
+ghost use Rattle.modular.specs.Powers.{IsIterationCount};
 
 use crate::products::Modular;
 use crate::residues::{negation_of_residue, residue};
@@ -20,8 +20,8 @@ impl<T: NativeInteger> Modular for T {
     }
 
     fn power_modulo_counted(&self, exponent: u128, modulus: &T) -> (T, u32) {
-        let (power, turns) = power_as_magnitude(*self, exponent, *modulus);
-        (of_magnitude(power), turns)
+        let (power, iterations) = power_as_magnitude(*self, exponent, *modulus);
+        (of_magnitude(power), iterations)
     }
 }
 
@@ -43,13 +43,13 @@ fn product_as_magnitude<T: Fits>(a: T, b: T, m: T) -> u128
     }
 }
 
-/// Returns `a` to the power `exponent` modulo `m` as a magnitude, and the number of turns of the loop.
+/// Returns `a` to the power `exponent` modulo `m` as a magnitude, and the number of iterations of the loop.
 fn power_as_magnitude<T: Fits>(a: T, exponent: u128, m: T) -> (u128, u32)
     requires in_range { T.fits (T.value a) × T.fits (T.value m) }
     requires positive { pos 0 <ℤ T.value m }
     ensures in_range { T.fits (pos result.0) }
     ensures residue { IsResidue (T.value m) (int_pow (T.value a) exponent) (pos result.0) }
-    ensures turns { IsTurnCount exponent result.1 }
+    ensures iterations { IsIterationCount exponent result.1 }
 {
     power_of_wide(residue(a, m).parts().1, exponent, m.parts().1)
 }

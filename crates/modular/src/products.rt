@@ -36,8 +36,8 @@ pub trait Modular: Integer + Copy {
         )
     }
 
-    /// Returns `self` to the power `exponent` modulo `modulus`, and the number of turns of its loop. If the exponent is
-    /// positive, the turns are its binary logarithm, rounded down.
+    /// Returns `self` to the power `exponent` modulo `modulus`, and the number of iterations of its loop. If the exponent is
+    /// positive, the iterations are its binary logarithm, rounded down.
     /// `3.power_modulo_counted(4, &7)` is `(4, 2)`, and `3.power_modulo_counted(0, &7)` is `(1, 0)`.
     ///
     /// # Panics
@@ -49,8 +49,8 @@ pub trait Modular: Integer + Copy {
         ensures in_range { Self.fits (Self.value result.0) }
         ensures residue { IsResidue (Self.value modulus.now)
             (int_pow (Self.value self.now) exponent) (Self.value result.0) }
-        ensures no_turn { exponent ≡ 0 → result.1 ≡ 0 }
-        ensures turns { exponent ≢ 0
+        ensures no_iteration { exponent ≡ 0 → result.1 ≡ 0 }
+        ensures iterations { exponent ≢ 0
             → (2 ^ result.1 ≤ exponent) × (exponent < 2 ^ (result.1 + 1)) }
     {
         let m = *modulus;
@@ -103,7 +103,7 @@ pub fn power_modulo<T: Modular>(a: T, exponent: u128, m: T) -> T
     power_modulo_counted(a, exponent, m).0
 }
 
-/// Returns [`power_modulo`] and the number of turns of its loop, by [`Modular::power_modulo_counted`].
+/// Returns [`power_modulo`] and the number of iterations of its loop, by [`Modular::power_modulo_counted`].
 /// `power_modulo_counted(3, 4, 7)` is `(4, 2)`, and `power_modulo_counted(3, 0, 7)` is `(1, 0)`.
 ///
 /// # Panics
@@ -114,8 +114,8 @@ pub fn power_modulo_counted<T: Modular>(a: T, exponent: u128, m: T) -> (T, u32)
     requires positive { pos 0 <ℤ T.value m }
     ensures in_range { T.fits (T.value result.0) }
     ensures residue { IsResidue (T.value m) (int_pow (T.value a) exponent) (T.value result.0) }
-    ensures no_turn { exponent ≡ 0 → result.1 ≡ 0 }
-    ensures turns { exponent ≢ 0 → (2 ^ result.1 ≤ exponent) × (exponent < 2 ^ (result.1 + 1)) }
+    ensures no_iteration { exponent ≡ 0 → result.1 ≡ 0 }
+    ensures iterations { exponent ≢ 0 → (2 ^ result.1 ≤ exponent) × (exponent < 2 ^ (result.1 + 1)) }
 {
     check(is_below(zero(), m), "the modulus is not positive");
     a.power_modulo_counted(exponent, &m)
@@ -132,7 +132,7 @@ fn product_by_doubling<T: Integer + Copy>(x: T, y: T, m: T) -> T
     let mut total = zero();
     let mut addend = x;
     let mut rest = y;
-    'turns: while is_below(one(), rest) {
+    'iterations: while is_below(one(), rest) {
         let (half, digit) = rest.div_rem(&successor(one()));
         if !is_zero(digit) {
             total = sum_of_residues(total, addend, m);

@@ -5,7 +5,7 @@ ghost use Rattle.std.specs.List.{All};
 ghost use Rattle.modular.specs.Agreement.{AgreesWithEach};
 ghost use Rattle.modular.specs.CommonSolutions.{MatchCommonSolution};
 ghost use Rattle.modular.specs.Congruences.{IsSystem, SolvesBothCongruences, SolvesEach};
-ghost use Rattle.num_integer.specs.Checked.{Has};
+ghost use Rattle.num_integer.specs.Checked.{FitsWith};
 ghost use Rattle.num_integer.specs.Least.{IsLeastFrom};
 
 use crate::common_solutions::{CommonSolution, chinese_remainder, next_common_solution};
@@ -38,7 +38,7 @@ pub fn next_common_solution_of<T: Modular + Fits>(
         ((x : ℤ) → ¬ (SolvesEach T.value congruences.now x))
         ((t : ℤ) × IsLeastFrom (T.value from) (SolvesEach T.value congruences.now) t
         × ¬ (T.fits t))
-        (Has T.fits T.value (IsLeastFrom (T.value from) (SolvesEach T.value congruences.now))) }
+        (FitsWith T.fits T.value (IsLeastFrom (T.value from) (SolvesEach T.value congruences.now))) }
 {
     check_second_positive(congruences, "a modulus is not positive");
     match least_solution(from, congruences) {
@@ -60,7 +60,7 @@ fn least_solution<T: Modular + Fits>(from: T, congruences: &[(T, T)]) -> Option<
     requires system { IsSystem T.fits T.value congruences.now }
     ensures { MatchOption result
         ((t : ℤ) → T.value from ≤ℤ t → SolvesEach T.value congruences.now t → ¬ (T.fits t))
-        (Has T.fits T.value (IsLeastFrom (T.value from) (SolvesEach T.value congruences.now))) }
+        (FitsWith T.fits T.value (IsLeastFrom (T.value from) (SolvesEach T.value congruences.now))) }
 {
     let mut first: T = zero();
     let mut step: T = one();
@@ -91,7 +91,7 @@ fn least_candidate<T: Modular + Fits>(
         → SolvesBothCongruences (T.value first.0) (T.value first.1) (T.value second.0) (T.value second.1) x }
     ensures { MatchOption result
         ((t : ℤ) → T.value from ≤ℤ t → SolvesEach T.value congruences.now t → ¬ (T.fits t))
-        (Has T.fits T.value (IsLeastFrom (T.value from) (SolvesEach T.value congruences.now))) }
+        (FitsWith T.fits T.value (IsLeastFrom (T.value from) (SolvesEach T.value congruences.now))) }
 {
     let (a, m) = first;
     let (b, n) = second;

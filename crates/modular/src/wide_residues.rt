@@ -5,7 +5,7 @@ ghost use Rattle.std.specs.Prelude.{◌≡◌, ◌+◌, ◌*◌, ◌^◌, ◌<�
 ghost use Rattle.std.specs.Int.{int_pow};
 ghost use Rattle.modular.specs.Congruences.{IsResidue};
 ghost use Rattle.modular.specs.Below.{IsNaturalRemainder, LiesBelow};
-ghost use Rattle.modular.specs.Powers.{IsTurnCount};
+ghost use Rattle.modular.specs.Powers.{IsIterationCount};
 
 use crate::exponentiation::{Residues, power_counted};
 use crate::word_residues::power_of_word;
@@ -13,16 +13,16 @@ use crate::word_residues::power_of_word;
 /// How many values a `u64` has. It is the base of the digits of a long division.
 pub(crate) const U64_VALUES: u128 = 18446744073709551616;
 
-/// Returns the power of a residue, and the number of turns of its loop. An exponent up to 3 needs too few products
+/// Returns the power of a residue, and the number of iterations of its loop. An exponent up to 3 needs too few products
 /// to make up for the conversions of [`power_of_word`].
 pub(crate) fn power_of_wide(x: u128, exponent: u128, m: u128) -> (u128, u32)
     requires { LiesBelow (pos m) (pos x) }
     ensures residue { IsResidue (pos m) (int_pow (pos x) exponent) (pos result.0) }
-    ensures turns { IsTurnCount exponent result.1 }
+    ensures iterations { IsIterationCount exponent result.1 }
 {
     if m < U64_VALUES && exponent > 3 {
-        let (power, turns) = power_of_word(x as u64, exponent, m as u64);
-        return (u128::from(power), turns);
+        let (power, iterations) = power_of_word(x as u64, exponent, m as u64);
+        return (u128::from(power), iterations);
     }
     let product = move |x: u128, y: u128| -> u128
         requires { 0 < m }

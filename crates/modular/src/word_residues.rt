@@ -4,22 +4,22 @@
 ghost use Rattle.std.specs.Prelude.{◌≡◌, ◌*◌, ◌^◌, ◌<◌, pos};
 ghost use Rattle.std.specs.Int.{int_pow};
 ghost use Rattle.modular.specs.Congruences.{AreCongruent, IsResidue};
-ghost use Rattle.modular.specs.Powers.{IsTurnCount};
+ghost use Rattle.modular.specs.Powers.{IsIterationCount};
 ghost use Rattle.modular.specs.MontgomeryForms.{joined};
 
 use crate::exponentiation::{ResidueForm, power_counted};
 use crate::montgomery::Montgomery;
 
-/// Returns the power of a number modulo `m`, and the number of turns of its loop.
+/// Returns the power of a number modulo `m`, and the number of iterations of its loop.
 pub(crate) fn power_of_word(x: u64, exponent: u128, m: u64) -> (u64, u32)
     requires { 0 < m }
     ensures residue { IsResidue (pos m) (int_pow (pos x) exponent) (pos result.0) }
-    ensures turns { IsTurnCount exponent result.1 }
+    ensures iterations { IsIterationCount exponent result.1 }
 {
     let modulus = SplitModulus::new(m);
     let base = modulus.form_of(x);
-    let (power, turns) = power_counted(&modulus, modulus.one(), base, exponent);
-    (modulus.residue_of(power), turns)
+    let (power, iterations) = power_counted(&modulus, modulus.one(), base, exponent);
+    (modulus.residue_of(power), iterations)
 }
 
 /// A modulus split into an odd factor and a power of two. A residue is a pair: its Montgomery form modulo the odd

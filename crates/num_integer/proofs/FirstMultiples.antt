@@ -3,7 +3,7 @@ use Rattle.num_integer.proofs.Common.{◌≢◌, ◌↔◌, ◌<◌, ◌≤◌, 
 use Rattle.std.specs.Prelude.{MatchOption}
 use Rattle.integer_core.proofs.DivisorSizes.{divisor_at_most, gcd_at_most, lcm-positive}
 use Rattle.integer_core.proofs.Least.{least_is_only}
-use Rattle.num_integer.specs.Checked.{AnswersWhere, Has}
+use Rattle.num_integer.specs.Checked.{AnswersWhere, FitsWith}
 use Rattle.num_integer.specs.Laws as law
 use Rattle.num_integer.specs.Least.{IsLeastFrom}
 
@@ -29,7 +29,7 @@ lcm_is_first_common_multiple = λ a b l a_nonzero b_nonzero. (
 
 -- A call that does returns the first common multiple, or no first common multiple fits.
 pub first_multiple_answers : {X : Type 0} (value : X → ℤ) (fits : ℤ → Type 0) {a b : ℤ} (r : Option X) → a ≢ pos 0 → b ≢ pos 0
-    → AnswersWhere (EachFits fits (IsLeastCommonMultiple a b)) (Has fits value (IsLeastCommonMultiple a b)) r
+    → AnswersWhere (EachFits fits (IsLeastCommonMultiple a b)) (FitsWith fits value (IsLeastCommonMultiple a b)) r
     → MatchOption r ((t : ℤ) → IsLeastFrom (pos 1) (λ u. Divides a u × Divides b u) t → ¬ (fits t)) (λ x. IsLeastFrom (pos 1) (λ u. Divides a u × Divides b u) (value x))
 first_multiple_answers value fits (Some x) a_nonzero b_nonzero h = lcm_is_first a_nonzero b_nonzero h.1.1
 first_multiple_answers value fits None a_nonzero b_nonzero none = λ t first t_fits. none (λ z is. subst fits (sym (least_is_only first z (lcm_is_first a_nonzero b_nonzero is))) t_fits)

@@ -8,11 +8,11 @@ use Rattle.num_integer.specs.Laws as law
 pub use Rattle.integer_core.proofs.BezoutAnswers.{bezout_answer_exists, bezout_answer_is_only}
 pub use Rattle.integer_core.proofs.CommonDivisors.{gcd_exists, lcm_exists, lcm_is_symmetric}
 pub use Rattle.integer_core.proofs.DivisionKinds.{division_is_only}
-pub use Rattle.integer_core.proofs.EuclidTurns.{euclid_turns_are_only}
-pub use Rattle.integer_core.proofs.GcdTurns.{bit_length_exists, gcd_turns_are_only}
+pub use Rattle.integer_core.proofs.EuclidIterations.{euclid_iterations_are_only}
+pub use Rattle.integer_core.proofs.GcdIterations.{bit_length_exists, gcd_iterations_are_only}
 pub use Rattle.integer_core.proofs.Quotients.{division_exists, negation_turns_multiples}
 pub use Rattle.integer_roots.proofs.MagnitudeRoots.{first_root}
-pub use Rattle.integer_roots.proofs.OnlyAnswers.{average_ceil_is_only, average_floor_is_only, square_root_turns_are_only}
+pub use Rattle.integer_roots.proofs.OnlyAnswers.{average_ceil_is_only, average_floor_is_only, square_root_iterations_are_only}
 pub use Rattle.num_integer.proofs.DivisorSums.{sum_of_divisors_ends_at_the_number, sum_of_divisors_exists, sum_of_divisors_is_only}
 pub use Rattle.num_integer.proofs.ExponentSums.{exponents_add}
 pub use Rattle.num_integer.proofs.FirstMultiples.{gcd_is_at_most_each_bound, lcm_is_first_common_multiple}

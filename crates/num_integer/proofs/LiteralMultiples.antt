@@ -7,15 +7,15 @@ use Rattle.integer_core.proofs.NaturalDivision.{natural_division}
 -- Euclid's algorithm, which the prover computes
 abbrev pub euclid : ℕ → ℕ → ℕ → ℕ
 euclid zero a b = a
-euclid (suc turns) a zero = a
-euclid (suc turns) a (suc b) = euclid turns (suc b) (a % suc b)
+euclid (suc iterations) a zero = a
+euclid (suc iterations) a (suc b) = euclid iterations (suc b) (a % suc b)
 
-euclid_is : (turns a b : ℕ) → b < turns → IsGreatestCommonDivisor (pos a) (pos b) (pos (euclid turns a b))
+euclid_is : (iterations a b : ℕ) → b < iterations → IsGreatestCommonDivisor (pos a) (pos b) (pos (euclid iterations a b))
 euclid_is zero a b h = absurd (omega arith)
-euclid_is (suc turns) a zero h = gcd-zero (pos a)
-euclid_is (suc turns) a (suc b) h =
-    let rest : a % suc b < turns = omega arith in
-    gcd-remainder (natural_division a (suc b) (omega arith)).division (euclid_is turns (suc b) (a % suc b) rest)
+euclid_is (suc iterations) a zero h = gcd-zero (pos a)
+euclid_is (suc iterations) a (suc b) h =
+    let rest : a % suc b < iterations = omega arith in
+    gcd-remainder (natural_division a (suc b) (omega arith)).division (euclid_is iterations (suc b) (a % suc b) rest)
 
 -- the lcm of two numbers by their magnitudes
 abbrev pub lcm_number : ℕ → ℕ → ℕ

@@ -69,7 +69,7 @@ module _ {X : Type 0} {value : X → ℤ} {counts : List X} where
   pub shared_first : IsSharedSoFar value counts 0 0 1
   shared_first = record { from_zero = λ k d l h. absurd (omega arith); positive = omega arith; rest = omega arith }
 
-  -- a turn
+  -- an iteration
   pub shared_next : {i t m k : ℕ} {x : X} → IsSharedSoFar value counts i t m → i < length counts → x ≡ get_or counts i x → pos 0 ≤ℤ value x
       → k ≡ unsigned_abs (value x) → IsSharedSoFar value counts (i + 1) (t + k) (m * coefficient (t + k) k)
   unfolding coefficients_from
@@ -110,12 +110,12 @@ sum_at_most : (s t k most : ℕ) → s ≡ t + k → t ≤ most → k ≤ most �
 sum_at_most s t k most is t_below k_below below = let above = not_below_top s k in grind arith
 
 module _ {X : Type 0} {fits : ℤ → Type 0} {value : X → ℤ} {counts : List X} where
-  -- before the first turn
+  -- before the first iteration
   pub multinomial_first : {m t : ℤ} → fits m → m ≡ pos 1 → fits t → t ≡ pos 0 → IsMultinomialSoFar fits value counts 0 m t
   multinomial_first m_fits one t_fits none =
       record { total_in_range = t_fits; total_from_zero = omega (arith, ints); in_range = m_fits; from_zero = omega (arith, ints); shared = rw (one, none) shared_first }
 
-  -- a turn whose numbers fit
+  -- an iteration whose numbers fit
   so_far_next : {i : ℕ} {x : X} {m t : ℤ} → i < length counts → x ≡ get_or counts i x → pos 0 ≤ℤ value x → fits (t +ℤ value x) → fits (m *ℤ coefficient_of (t +ℤ value x) (value x))
       → IsMultinomialSoFar fits value counts i m t → IsMultinomialSoFar fits value counts (i + 1) (m *ℤ coefficient_of (t +ℤ value x) (value x)) (t +ℤ value x)
   so_far_next {i} {x} {m} {t} inside at up t_fits m_fits h =
@@ -129,12 +129,12 @@ module _ {X : Type 0} {fits : ℤ → Type 0} {value : X → ℤ} {counts : List
         shared = rw (unsigned_abs-mul m c, sum) (shared_next h.shared inside at up refl);
       }
 
-  -- after the last turn
+  -- after the last iteration
   pub multinomial_last : {i : ℕ} {m t : ℤ} → IsMultinomialSoFar fits value counts i m t → length counts ≤ i → IsMultinomial (map value counts) m
   multinomial_last h done =
       subst (IsMultinomial (map value counts)) (omega (arith, ints, h.from_zero, (shared_last h.shared done).0)) (is_multinomial (map value counts))
 
-  -- a turn, if the multinomial of all counts fits
+  -- an iteration, if the multinomial of all counts fits
   pub multinomial_next : {low high : ℤ} {i : ℕ} {x : X} {m t : ℤ} → IsRange fits low high → EachFits fits (IsMultinomial (map value counts)) → i < length counts → x ≡ get_or counts i x
       → All (λ (y : X). fits (value y)) counts → All (λ (y : X). pos 0 ≤ℤ value y) counts → IsMultinomialSoFar fits value counts i m t
       → fits (coefficient_of (t +ℤ value x) (value x)) × IsMultinomialSoFar fits value counts (i + 1) (m *ℤ coefficient_of (t +ℤ value x) (value x)) (t +ℤ value x)
@@ -176,12 +176,12 @@ pub record IsWithinSoFar {X : Type 0} (value : X → ℤ) (counts : List X) (i t
   pub within : m ≤ most
 
 module _ {X : Type 0} {fits : ℤ → Type 0} {low high : ℤ} {value : X → ℤ} {counts : List X} {most : ℕ} (range : IsRange fits low high) (top : pos most ≡ high) where
-  -- before the first turn
+  -- before the first iteration
   pub within_first : IsWithinSoFar value counts 0 0 1 most
   within_first = record { shared = shared_first; within = let positive = range.positive in omega (arith, ints) }
 
   module _ {i t m k : ℕ} {x : X} (before : IsWithinSoFar value counts i t m most) (inside : i < length counts) (at : x ≡ get_or counts i x) (size : k ≡ unsigned_abs (value x)) where
-    -- a turn at a count that is not negative
+    -- an iteration at a count that is not negative
     pub within_next : {t' m' : ℕ} → pos 0 ≤ℤ value x → (t' ≡ t + k) × (m' ≡ m * coefficient (t + k) k) × (m' ≤ most) → IsWithinSoFar value counts (i + 1) t' m' most
     within_next up more = record { shared = rw (more.0, more.1) (shared_next before.shared inside at up size); within = more.2 }
 
@@ -198,7 +198,7 @@ module _ {X : Type 0} {fits : ℤ → Type 0} {low high : ℤ} {value : X → �
     pub none_negative : value x <ℤ pos 0 → IsTrue false ↔ HasFittingMultinomial fits value counts
     none_negative below = (λ t. absurd (cc), λ h. let up = rw (← at) at (h.0 i x inside) in absurd (omega (arith, ints)))
 
-  -- after the last turn
+  -- after the last iteration
   pub within_last : {i t m : ℕ} → IsWithinSoFar value counts i t m most → length counts ≤ i → IsTrue true ↔ HasFittingMultinomial fits value counts
   within_last h done =
       let last = shared_last h.shared done in
@@ -238,13 +238,13 @@ multinomial_ignores_order counts others h m is =
 -- ---- the loop of `checked::multinomial`: it goes on as long as each number fits
 
 module _ {X : Type 0} {fits : ℤ → Type 0} {value : X → ℤ} {counts : List X} {i : ℕ} {m t : ℤ} (before : IsMultinomialSoFar fits value counts i m t) where
-  -- a turn
+  -- an iteration
   pub checked_next : {x : X} {t' c m' : ℤ} → i < length counts → x ≡ get_or counts i x → pos 0 ≤ℤ value x → fits t' → t' ≡ t +ℤ value x → c ≡ coefficient_of t' (value x)
       → fits m' → m' ≡ m *ℤ c → IsMultinomialSoFar fits value counts (i + 1) m' t'
   checked_next inside at up t_fits total ways m_fits next =
       rw (next, ways, total) (so_far_next inside at up (rw total at t_fits) (rw (next, ways, total) at m_fits) before)
 
-  -- after the last turn
+  -- after the last iteration
   pub checked_last : length counts ≤ i → HasFittingMultinomial fits value counts × (fits m × IsMultinomial (map value counts) m)
   checked_last done =
       let own = multinomial_last before done in

@@ -2,11 +2,11 @@
 use Rattle.num_integer.proofs.Common.{ℤ, EachFits, IsOnly, subst, sym}
 use Rattle.std.specs.Prelude.{Result, Ok, Err}
 use Rattle.std.specs.Result.{OkIff, result_ok}
-use Rattle.num_integer.specs.Checked.{AnswersWhere, Has}
+use Rattle.num_integer.specs.Checked.{AnswersWhere, FitsWith}
 
 -- The only number with a property, converted to a type, is the result exactly if it fits the type.
 pub narrowed : {X E D : Type 0} (value : X → ℤ) (fits P : ℤ → Type 0) {y : X} (r : Result X E) → D → P (value y) → IsOnly P (value y) → OkIff r (fits (value y)) y
-    → AnswersWhere (D × EachFits fits P) (Has fits value P) (result_ok r)
+    → AnswersWhere (D × EachFits fits P) (FitsWith fits value P) (result_ok r)
 narrowed value fits P (Ok x) domain is only converted =
     ((domain, λ z own. subst fits (sym (only z own)) converted.0), (rw converted.1 converted.0, rw converted.1 is))
 narrowed value fits P (Err e) domain is only outside = λ each. outside (each.1 _ is)

@@ -3,16 +3,16 @@ use Rattle.std.specs.Prelude.{◌≡◌, ◌≢◌, ◌⊎◌, ◌↔◌, ◌+�
 use Rattle.std.specs.Int.{int_pow}
 use Rattle.std.specs.List.{All}
 use Rattle.std.specs.List.Sorted.{IsPermutation}
-use Rattle.integer_core.specs.Bezout.{AreEuclidTurns, IsBezoutAnswer}
+use Rattle.integer_core.specs.Bezout.{AreEuclidIterations, IsBezoutAnswer}
 use Rattle.integer_core.specs.Division.{EachKind, HaveSameSign, IsCeiled, IsFloored, IsMultiple, IsQuotient, IsRemainder}
 use Rattle.integer_core.specs.Divisors.{Divides, GcdFits, IsGreatestCommonDivisor, IsLeastCommonMultiple}
-use Rattle.integer_core.specs.GcdRuns.{AreGcdTurns, IsBitLength}
+use Rattle.integer_core.specs.GcdRuns.{AreGcdIterations, IsBitLength}
 use Rattle.integer_core.specs.Least.{IsLeastFrom}
 use Rattle.integer_core.specs.Only.{IsOnly}
 use Rattle.integer_core.specs.Range.{EachFits, IsRange}
 use Rattle.integer_roots.specs.Averages.{IsAverageCeil, IsAverageFloor}
 use Rattle.integer_roots.specs.RootOf.{IsRoot}
-use Rattle.integer_roots.specs.SquareRuns.{AreSquareRootTurns}
+use Rattle.integer_roots.specs.SquareRuns.{AreSquareRootIterations}
 use Rattle.num_integer.specs.Coefficient.{coefficient, factorial}
 use Rattle.num_integer.specs.DivisorSums.{IsSumOfDivisorsTo}
 use Rattle.num_integer.specs.Multinomial.{IsMultinomial, coefficients_from, product}
@@ -47,8 +47,8 @@ FlooredPartsAddUp = (n d q r : ℤ) → IsQuotient IsFloored n d q → IsRemaind
     → (q *ℤ d +ℤ r ≡ n) × ((r ≡ pos 0) ⊎ HaveSameSign r d) × (unsigned_abs r < unsigned_abs d)
 
 -- the next multiple of a divisor is the previous multiple of its negation
-abbrev pub NegationTurnsMultiples : Type 0
-NegationTurnsMultiples = (n d m : ℤ) → IsMultiple IsCeiled n (neg_ℤ d) m ↔ IsMultiple IsFloored n d m
+abbrev pub NegationIterationsMultiples : Type 0
+NegationIterationsMultiples = (n d m : ℤ) → IsMultiple IsCeiled n (neg_ℤ d) m ↔ IsMultiple IsFloored n d m
 
 -- ---- common divisors and multiples
 
@@ -91,9 +91,9 @@ LcmIsFirstCommonMultiple = (a b l : ℤ) → a ≢ pos 0 → b ≢ pos 0 → IsL
 abbrev pub GcdIsAtMostEachBound : Type 0
 GcdIsAtMostEachBound = (a b g : ℤ) (most : ℕ) → unsigned_abs a ≤ most → unsigned_abs b ≤ most → IsGreatestCommonDivisor a b g → unsigned_abs g ≤ most
 
--- two numbers have one number of turns of Stein's loop
-abbrev pub GcdTurnsAreOnly : Type 0
-GcdTurnsAreOnly = (low a b : ℤ) (n : ℕ) → AreGcdTurns low a b n → IsOnly (AreGcdTurns low a b) n
+-- two numbers have one number of iterations of Stein's loop
+abbrev pub GcdIterationsAreOnly : Type 0
+GcdIterationsAreOnly = (low a b : ℤ) (n : ℕ) → AreGcdIterations low a b n → IsOnly (AreGcdIterations low a b) n
 
 -- each number has a bit length
 abbrev pub BitLengthExists : Type 0
@@ -125,9 +125,9 @@ BezoutAnswerExists = (a b : ℤ) → (g x y : ℤ) × IsBezoutAnswer a b g x y
 abbrev pub BezoutAnswerIsOnly : Type 0
 BezoutAnswerIsOnly = (a b g x y : ℤ) → IsBezoutAnswer a b g x y → IsOnly (λ (h, z, w). IsBezoutAnswer a b h z w) (g, x, y)
 
--- two numbers have one number of turns of Euclid's loop
-abbrev pub EuclidTurnsAreOnly : Type 0
-EuclidTurnsAreOnly = (a b : ℤ) (n : ℕ) → AreEuclidTurns a b n → IsOnly (AreEuclidTurns a b) n
+-- two numbers have one number of iterations of Euclid's loop
+abbrev pub EuclidIterationsAreOnly : Type 0
+EuclidIterationsAreOnly = (a b : ℤ) (n : ℕ) → AreEuclidIterations a b n → IsOnly (AreEuclidIterations a b) n
 
 -- ---- averages and roots
 
@@ -148,9 +148,9 @@ RootIsOnly = (x : ℤ) (n : ℕ) (r : ℤ) → IsRoot x n r → IsOnly (IsRoot x
 abbrev pub FirstRoot : Type 0
 FirstRoot = (x : ℤ) → IsRoot x 1 x
 
--- a number has one number of turns for its square root
-abbrev pub SquareRootTurnsAreOnly : Type 0
-SquareRootTurnsAreOnly = (x : ℤ) (n : ℕ) → AreSquareRootTurns x n → IsOnly (AreSquareRootTurns x) n
+-- a number has one number of iterations for its square root
+abbrev pub SquareRootIterationsAreOnly : Type 0
+SquareRootIterationsAreOnly = (x : ℤ) (n : ℕ) → AreSquareRootIterations x n → IsOnly (AreSquareRootIterations x) n
 
 -- the power of a sum of exponents is the product of the powers
 abbrev pub ExponentsAdd : Type 0

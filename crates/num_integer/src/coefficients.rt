@@ -9,7 +9,7 @@ ghost use Rattle.num_integer.specs.Multinomial.{IsMultinomial};
 use integer_core::Integer;
 use integer_core::guards::{check, check_none_negative, product_or, sum_or};
 use integer_core::operators::{is_below, is_negative, one, quotient, remainder, zero};
-use integer_core::plain::{difference, successor};
+use integer_core::fitting::{difference, successor};
 
 /// Returns `a / b`. The quotient by a positive number always fits.
 #[tactic(auto, using(integer_core::proofs::FlooredByPositive::operator_quotient_fits))]
@@ -99,7 +99,7 @@ fn coefficient_counted<T: Integer + Copy>(n: T, k: T, reason: &'static str) -> (
     requires coefficient_fits { T.fits (coefficient_of (T.value n) (T.value k)) }
     ensures in_range { T.fits (T.value result.0) }
     ensures coefficient { T.value result.0 ≡ coefficient_of (T.value n) (T.value k) }
-    ensures turns { result.1
+    ensures iterations { result.1
         ≡ min (unsigned_abs (T.value k)) (unsigned_abs (T.value n) - unsigned_abs (T.value k)) }
     ensures bound { T.value k ≤ℤ T.value n
         → 2 ^ result.1 ≤ coefficient (unsigned_abs (T.value n)) (unsigned_abs (T.value k)) }
@@ -110,16 +110,16 @@ fn coefficient_counted<T: Integer + Copy>(n: T, k: T, reason: &'static str) -> (
     let last = nearer_end(n, k);
     let mut coefficient = one();
     let mut place = zero();
-    let mut turns = 0;
+    let mut iterations = 0;
     while is_below(place, last) {
         coefficient = next_coefficient(coefficient, n, place, reason);
         place = successor(place);
-        turns += 1;
+        iterations += 1;
     }
-    (coefficient, turns)
+    (coefficient, iterations)
 }
 
-/// Returns [`binomial`] and the number of turns of its loop. `binomial_counted(9, 4)` is `(126, 4)`,
+/// Returns [`binomial`] and the number of iterations of its loop. `binomial_counted(9, 4)` is `(126, 4)`,
 /// and `binomial_counted(200, 199)` is `(200, 1)`.
 ///
 /// # Panics
@@ -133,7 +133,7 @@ pub fn binomial_counted<T: Integer + Copy>(n: T, k: T) -> (T, u32)
     requires coefficient_fits { T.fits (coefficient_of (T.value n) (T.value k)) }
     ensures in_range { T.fits (T.value result.0) }
     ensures coefficient { T.value result.0 ≡ coefficient_of (T.value n) (T.value k) }
-    ensures turns { result.1
+    ensures iterations { result.1
         ≡ min (unsigned_abs (T.value k)) (unsigned_abs (T.value n) - unsigned_abs (T.value k)) }
     ensures bound { T.value k ≤ℤ T.value n
         → 2 ^ result.1 ≤ coefficient (unsigned_abs (T.value n)) (unsigned_abs (T.value k)) }

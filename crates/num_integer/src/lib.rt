@@ -6,12 +6,12 @@ mod bounded_coefficients;
 pub mod checked;
 mod coefficients;
 pub mod counted;
-mod domains;
+mod fits_trait;
 mod rows;
 pub mod sign_magnitude;
 
 pub use coefficients::{binomial, multinomial};
-pub use domains::Fits;
+pub use fits_trait::Fits;
 pub use integer_core::{
     ExtendedGcd, Integer, NativeInteger, div_ceil, div_floor, div_mod_floor, div_rem, gcd, gcd_lcm,
     guards, lcm, mod_floor, operators, padded,

@@ -2,7 +2,7 @@
 //! largest number: those of `i8` are `(128, 127)`.
 
 ghost use Rattle.std.specs.Prelude.{◌≡◌, ◌↔◌, ◌+◌, ◌<◌, ◌^◌, ◌+ℤ◌, ◌-ℤ◌, ◌*ℤ◌, pos, not, IsTrue};
-ghost use Rattle.num_integer.specs.Checked.{AnswersWhere, Has};
+ghost use Rattle.num_integer.specs.Checked.{AnswersWhere, FitsWith};
 ghost use Rattle.num_integer.specs.Parts.{IsWithin, signed};
 
 use integer_core::operators::is_negative;
@@ -31,7 +31,7 @@ pub fn parts_of_product<T: NativeInteger<Magnitude = u64>>(a: T, b: T) -> (bool,
 pub fn number_of<T: NativeInteger<Magnitude = u64>>(number: (bool, u128)) -> Option<T>
     ensures { AnswersWhere
         (T.fits (signed number.0 number.1))
-        (Has T.fits T.value (λ z. z ≡ signed number.0 number.1))
+        (FitsWith T.fits T.value (λ z. z ≡ signed number.0 number.1))
         result }
 {
     let magnitude = i128::try_from(number.1).ok()?;

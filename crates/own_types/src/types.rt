@@ -50,9 +50,9 @@ pub trait Tested: Average + Fits {
     fn from_signed_magnitude(n: SignedMagnitude) -> Option<Self>
         ensures { IfSome result (λ x. Self.fits (Self.value x)) };
 
-    /// The greatest common divisor and the turns of its loop, if the divisor fits and the type has the
+    /// The greatest common divisor and the iterations of its loop, if the divisor fits and the type has the
     /// call that counts them.
-    fn gcd_and_turns(&self, _other: &Self) -> Option<(Self, u32)>
+    fn gcd_and_iterations(&self, _other: &Self) -> Option<(Self, u32)>
         requires self_in_range { Self.fits (Self.value self.now) }
         requires other_in_range { Self.fits (Self.value _other.now) }
     {
@@ -69,7 +69,7 @@ impl<T: Average + Fits + FromPrimitive + GcdCounted> Tested for T {
         }
     }
 
-    fn gcd_and_turns(&self, other: &T) -> Option<(T, u32)> {
+    fn gcd_and_iterations(&self, other: &T) -> Option<(T, u32)> {
         if self.gcd_fits(other) {
             Some(self.gcd_counted(other))
         } else {

@@ -16,6 +16,6 @@ pub mod RoundedProducts
 pub mod ReducedAnswers
 pub mod ReducedParts
 pub mod NearestNumbers
-pub mod NeighbourTurns
+pub mod NeighbourIterations
 pub mod NearerNeighbour
 pub mod LimitedDenominators

@@ -11,7 +11,7 @@ use Rattle.ratio64.specs.Limiting.{IsNearestWithin, gap}
 use Rattle.ratio64.specs.Neighbours.{AreNeighbours, IsNearer}
 use Rattle.ratio64.proofs.NearerNeighbour.{equal_least, nearest_of}
 use Rattle.ratio64.proofs.NearestNumbers.{between_fits}
-use Rattle.ratio64.proofs.NeighbourTurns.{gaps_make}
+use Rattle.ratio64.proofs.NeighbourIterations.{gaps_make}
 use Rattle.ratio64.proofs.ReducedParts.{remainder_reduced}
 
 -- ---- a denominator up to the limit

@@ -12,7 +12,7 @@ pub(crate) struct Neighbour {
 }
 
 /// Returns the neighbours of `num / den`: the largest fraction below it and the smallest one above it
-/// whose denominators are at most `max`. The larger gap falls at each turn, as in Euclid's algorithm.
+/// whose denominators are at most `max`. The larger gap falls at each iteration, as in Euclid's algorithm.
 pub(crate) fn neighbours(num: u64, den: u64, max: u64) -> (Neighbour, Neighbour)
     requires positive { 0 < max }
     requires above_max { max < den }
@@ -32,7 +32,7 @@ pub(crate) fn neighbours(num: u64, den: u64, max: u64) -> (Neighbour, Neighbour)
         den: 1,
         gap: den - num,
     };
-    'turns: while below.den + above.den <= max {
+    'iterations: while below.den + above.den <= max {
         if below.gap < above.gap {
             above = closer(above, below, max);
         } else {

@@ -4,7 +4,7 @@
 //! | theorem | function |
 //! |---|---|
 //! | a root is exact, at every degree | [`root`], [`square_root`], [`cube_root`] |
-//! | the two loops of a square root make at most five iterations | [`square_root_in_five_turns`] |
+//! | the two loops of a square root make at most five iterations | [`square_root_in_five_iterations`] |
 //! | a gcd divides both numbers, and every number that divides both divides it | [`greatest_common_divisor`] |
 //! | a pair certifies the gcd, and no other small pair does | [`bezout_pair`] |
 //! | the call that counts its iterations returns the same pair | [`bezout_pair_by_two_calls`] |
@@ -20,9 +20,9 @@
 //! | an average is rounded down or up, and never overflows | [`averages`] |
 //! | each test of a domain is true exactly there | [`domain_of_quotients`], [`domains_of_multiples`], [`domains_of_divisors`], [`domain_of_bezout_pair`], [`domains_of_operators`], [`domain_of_binomial`], [`domain_of_multinomial`] |
 //! | `parts` returns the sign and the magnitude, and `ends` the ends of the type | [`parts_of_number`], [`ends_of_type`] |
-//! | the loop of a gcd makes at most as many iterations as the two bit lengths added | [`turns_for_gcd`] |
-//! | the loop of a pair makes at most as many iterations as Lamé's theorem says | [`turns_for_bezout_pair`] |
-//! | 2 to the power of the number of iterations for a coefficient is at most the coefficient | [`turns_for_binomial`] |
+//! | the loop of a gcd makes at most as many iterations as the two bit lengths added | [`iterations_for_gcd`] |
+//! | the loop of a pair makes at most as many iterations as Lamé's theorem says | [`iterations_for_bezout_pair`] |
+//! | 2 to the power of the number of iterations for a coefficient is at most the coefficient | [`iterations_for_binomial`] |
 //! | a fraction is reduced | [`parts_of_fraction`] |
 //! | a call returns an error only if the reduced fraction does not fit, or its denominator is 0 | [`fraction`], [`sum_of_fractions`], [`difference_of_fractions`], [`product_of_fractions`], [`quotient_of_fractions`] |
 //! | the rounding and the order of fractions are those of the definitions | [`floor_and_ceil_of_fraction`], [`order_of_fractions`] |
@@ -63,7 +63,7 @@
 //!   gcd of two of its numbers is one of them or less, so it always fits, and a caller has nothing to show.
 //! - `HasPair fits a b` says that one of the numbers divides the other, if the type has no -1. Otherwise one of
 //!   Bezout's coefficients is negative, so such a type has no pair.
-//! - `AreGcdTurns low a b n` says that `n` is 0 if `a` or `b` is 0 or `low`, the smallest number of the type, since
+//! - `AreGcdIterations low a b n` says that `n` is 0 if `a` or `b` is 0 or `low`, the smallest number of the type, since
 //!   the call then returns before its loop. Otherwise `n` is the number of iterations of Stein's loop.
 //! - `Appends old new line` says that the bytes `new` are the bytes `old` and then `line`. It says nothing of a sink
 //!   that shows no bytes. `S.contents` is the bytes that a sink shows.
@@ -75,18 +75,18 @@ ghost use Rattle.std.specs.Hash as written;
 ghost use Rattle.std.specs.Io.KnownBytes.{Appends, Keeps};
 ghost use Rattle.std.specs.List.{fold};
 ghost use Rattle.num_integer.specs.Averages.{IsAverageCeil, IsAverageFloor};
-ghost use Rattle.num_integer.specs.Bezout.{AreEuclidTurns, HasPair, IsBezoutAnswer, IsSmallPair, NeedsBoth};
+ghost use Rattle.num_integer.specs.Bezout.{AreEuclidIterations, HasPair, IsBezoutAnswer, IsSmallPair, NeedsBoth};
 ghost use Rattle.num_integer.specs.Coefficient.{coefficient, coefficient_of};
 ghost use Rattle.num_integer.specs.Division.{EachKind, IsCeiled, IsFloored, IsMultiple, IsQuotient, IsRemainder, IsTruncated};
 ghost use Rattle.num_integer.specs.Divisors.{Divides, GcdFits, IsEven, IsGreatestCommonDivisor, IsLeastCommonMultiple};
 ghost use Rattle.num_integer.specs.Fibonacci.{fibonacci};
-ghost use Rattle.num_integer.specs.GcdRuns.{AreGcdTurns, IsBitLength};
+ghost use Rattle.num_integer.specs.GcdRuns.{AreGcdIterations, IsBitLength};
 ghost use Rattle.num_integer.specs.Multinomial.{IsMultinomial};
 ghost use Rattle.num_integer.specs.Only.{IsOnly};
 ghost use Rattle.num_integer.specs.Range.{EachFits};
 ghost use Rattle.num_integer.specs.RootOf.{IsRoot};
 ghost use Rattle.num_integer.specs.Row.{RowFits, row_of};
-ghost use Rattle.num_integer.specs.SquareRuns.{AreSquareRootTurns};
+ghost use Rattle.num_integer.specs.SquareRuns.{AreSquareRootIterations};
 ghost use Rattle.ratio64.specs.Fraction.{AreEqual, IsExact, IsOutsideI64, IsReduced, fraction_cmp};
 ghost use Rattle.ratio64.specs.Ratio.{AnswersFraction, den_of, num_of};
 ghost use Rattle.ratio64.specs.RatioError as errors;
@@ -171,32 +171,32 @@ pub fn cube_root_of_i64(x: i64) -> i64
 }
 
 /// Returns the exact square root and the number of iterations of its loops, which is at most five.
-pub fn square_root_in_five_turns<T: SqrtCounted>(x: T) -> (T, u32)
+pub fn square_root_in_five_iterations<T: SqrtCounted>(x: T) -> (T, u32)
     requires in_range { T.fits (T.value x) }
     requires from_zero { pos 0 ≤ℤ T.value x }
     ensures exact { IsRoot (T.value x) 2 (T.value result.0) }
-    ensures turns { AreSquareRootTurns (T.value x) result.1 }
+    ensures iterations { AreSquareRootIterations (T.value x) result.1 }
     ensures five { result.1 ≤ 5 }
 {
     T::sqrt_counted(&x)
 }
 
 /// Returns the square root and the number of iterations at `i64`.
-pub fn square_root_in_five_turns_of_i64(x: i64) -> (i64, u32)
+pub fn square_root_in_five_iterations_of_i64(x: i64) -> (i64, u32)
     requires from_zero { pos 0 ≤ℤ x }
     ensures exact { IsRoot x 2 result.0 }
-    ensures turns { AreSquareRootTurns x result.1 }
+    ensures iterations { AreSquareRootIterations x result.1 }
     ensures five { result.1 ≤ 5 }
 {
     x.sqrt_counted()
 }
 
 /// Returns the square root and the number of iterations at `u64`.
-pub fn square_root_in_five_turns_of_u64(x: u64) -> (u64, u32)
+pub fn square_root_in_five_iterations_of_u64(x: u64) -> (u64, u32)
     ensures exact { IsRoot (pos x) 2 (pos result.0) }
     ensures square { result.0 ^ 2 ≤ x }
     ensures next_square { x < (result.0 + 1) ^ 2 }
-    ensures turns { AreSquareRootTurns (pos x) result.1 }
+    ensures iterations { AreSquareRootIterations (pos x) result.1 }
     ensures five { result.1 ≤ 5 }
 {
     SqrtCounted::sqrt_counted(&x)
@@ -623,11 +623,11 @@ pub fn ends_of_type<T: Fits>() -> (u128, u128)
 
 /// Returns the greatest common divisor and the number of iterations of Stein's loop. It is at most the sum of the bit
 /// lengths of the two numbers.
-pub fn turns_for_gcd<T: GcdCounted>(a: T, b: T) -> (T, u32)
+pub fn iterations_for_gcd<T: GcdCounted>(a: T, b: T) -> (T, u32)
     requires in_range { T.fits (T.value a) × T.fits (T.value b) }
     requires gcd_fits { GcdFits T.fits (T.value a) (T.value b) }
     ensures greatest { IsGreatestCommonDivisor (T.value a) (T.value b) (T.value result.0) }
-    ensures turns { AreGcdTurns T.low (T.value a) (T.value b) result.1 }
+    ensures iterations { AreGcdIterations T.low (T.value a) (T.value b) result.1 }
     ensures bound { (k l : ℕ) → IsBitLength (T.value a) k → IsBitLength (T.value b) l
         → result.1 ≤ k + l }
 {
@@ -635,9 +635,9 @@ pub fn turns_for_gcd<T: GcdCounted>(a: T, b: T) -> (T, u32)
 }
 
 /// Returns the greatest common divisor and the number of iterations at `u64`.
-pub fn turns_for_gcd_of_u64(a: u64, b: u64) -> (u64, u32)
+pub fn iterations_for_gcd_of_u64(a: u64, b: u64) -> (u64, u32)
     ensures greatest { IsGreatestCommonDivisor (pos a) (pos b) (pos result.0) }
-    ensures turns { AreGcdTurns (pos 0) (pos a) (pos b) result.1 }
+    ensures iterations { AreGcdIterations (pos 0) (pos a) (pos b) result.1 }
     ensures bound { (k l : ℕ) → IsBitLength (pos a) k → IsBitLength (pos b) l
         → result.1 ≤ k + l }
 {
@@ -646,13 +646,13 @@ pub fn turns_for_gcd_of_u64(a: u64, b: u64) -> (u64, u32)
 
 /// Returns the greatest common divisor with its pair and the number `t` of iterations of Euclid's loop. The Fibonacci
 /// number of `t + 2`, times the greatest common divisor, is at most the magnitude of `b` (Lamé, 1844).
-pub fn turns_for_bezout_pair<T: Integer>(a: T, b: T) -> (ExtendedGcd<T>, u32)
+pub fn iterations_for_bezout_pair<T: Integer>(a: T, b: T) -> (ExtendedGcd<T>, u32)
     requires in_range { T.fits (T.value a) × T.fits (T.value b) }
     requires gcd_fits { GcdFits T.fits (T.value a) (T.value b) }
     requires has_pair { HasPair T.fits (T.value a) (T.value b) }
     ensures named { IsBezoutAnswer (T.value a) (T.value b)
         (T.value result.0.gcd) (T.value result.0.x) (T.value result.0.y) }
-    ensures turns { AreEuclidTurns (T.value a) (T.value b) result.1 }
+    ensures iterations { AreEuclidIterations (T.value a) (T.value b) result.1 }
     ensures bound { T.value b ≢ pos 0
         → fibonacci (result.1 + 2) * unsigned_abs (T.value result.0.gcd)
         ≤ unsigned_abs (T.value b) }
@@ -661,10 +661,10 @@ pub fn turns_for_bezout_pair<T: Integer>(a: T, b: T) -> (ExtendedGcd<T>, u32)
 }
 
 /// Returns the pair and the number of iterations at `i64`.
-pub fn turns_for_bezout_pair_of_i64(a: i64, b: i64) -> (ExtendedGcd<i64>, u32)
+pub fn iterations_for_bezout_pair_of_i64(a: i64, b: i64) -> (ExtendedGcd<i64>, u32)
     requires gcd_fits { GcdFits (FitsSigned w64) a b }
     ensures named { IsBezoutAnswer a b result.0.gcd result.0.x result.0.y }
-    ensures turns { AreEuclidTurns a b result.1 }
+    ensures iterations { AreEuclidIterations a b result.1 }
     ensures bound { b ≢ pos 0
         → fibonacci (result.1 + 2) * unsigned_abs result.0.gcd ≤ unsigned_abs b }
 {
@@ -674,12 +674,12 @@ pub fn turns_for_bezout_pair_of_i64(a: i64, b: i64) -> (ExtendedGcd<i64>, u32)
 /// Returns the binomial coefficient and the number `t` of iterations of its loop, which is the smaller of `k` and
 /// `n - k`, or 0 if `k` is greater than `n`: in a clause `n - k` is then 0. 2 to the power of `t` is at most the
 /// coefficient, unless `k` is greater than `n`.
-pub fn turns_for_binomial<T: Integer>(n: T, k: T) -> (T, u32)
+pub fn iterations_for_binomial<T: Integer>(n: T, k: T) -> (T, u32)
     requires in_range { T.fits (T.value n) × T.fits (T.value k) }
     requires from_zero { (pos 0 ≤ℤ T.value n) × (pos 0 ≤ℤ T.value k) }
     requires coefficient_fits { T.fits (coefficient_of (T.value n) (T.value k)) }
     ensures exact { T.value result.0 ≡ coefficient_of (T.value n) (T.value k) }
-    ensures turns { result.1
+    ensures iterations { result.1
         ≡ min (unsigned_abs (T.value k)) (unsigned_abs (T.value n) - unsigned_abs (T.value k)) }
     ensures bound { T.value k ≤ℤ T.value n
         → 2 ^ result.1 ≤ coefficient (unsigned_abs (T.value n)) (unsigned_abs (T.value k)) }
@@ -688,10 +688,10 @@ pub fn turns_for_binomial<T: Integer>(n: T, k: T) -> (T, u32)
 }
 
 /// Returns the binomial coefficient and the number of iterations at `u64`.
-pub fn turns_for_binomial_of_u64(n: u64, k: u64) -> (u64, u32)
+pub fn iterations_for_binomial_of_u64(n: u64, k: u64) -> (u64, u32)
     requires coefficient_fits { coefficient n k < 2 ^ 64 }
     ensures exact { result.0 ≡ coefficient n k }
-    ensures turns { result.1 ≡ min k (n - k) }
+    ensures iterations { result.1 ≡ min k (n - k) }
     ensures bound { k ≤ n → 2 ^ result.1 ≤ coefficient n k }
 {
     binomial_counted::<u64>(n, k)

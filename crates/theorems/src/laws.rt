@@ -25,7 +25,7 @@ pub fn laws_of_integers<T: Integer>()
     ensures remainder_is_only { integers.RemainderIsOnly }
     ensures multiple_is_only { integers.MultipleIsOnly }
     ensures floored_parts_add_up { integers.FlooredPartsAddUp }
-    ensures negation_turns_multiples { integers.NegationTurnsMultiples }
+    ensures negation_turns_multiples { integers.NegationIterationsMultiples }
     ensures gcd_exists { integers.GcdExists }
     ensures gcd_is_only { integers.GcdIsOnly }
     ensures gcd_is_symmetric { integers.GcdIsSymmetric }
@@ -41,18 +41,18 @@ pub fn laws_of_integers<T: Integer>()
     ensures sum_of_divisors_is_only { integers.SumOfDivisorsIsOnly }
     ensures sum_of_divisors_ends_at_the_number { integers.SumOfDivisorsEndsAtTheNumber }
     ensures exponents_add { integers.ExponentsAdd }
-    ensures gcd_turns_are_only { integers.GcdTurnsAreOnly }
+    ensures gcd_iterations_are_only { integers.GcdIterationsAreOnly }
     ensures bit_length_exists { integers.BitLengthExists }
     ensures bit_length_is_only { integers.BitLengthIsOnly }
     ensures bezout_answer_exists { integers.BezoutAnswerExists }
     ensures bezout_answer_is_only { integers.BezoutAnswerIsOnly }
-    ensures euclid_turns_are_only { integers.EuclidTurnsAreOnly }
+    ensures euclid_iterations_are_only { integers.EuclidIterationsAreOnly }
     ensures average_floor_is_only { integers.AverageFloorIsOnly }
     ensures average_ceil_is_only { integers.AverageCeilIsOnly }
     ensures averages_are_neighbours { integers.AveragesAreNeighbours }
     ensures root_is_only { integers.RootIsOnly }
     ensures first_root { integers.FirstRoot }
-    ensures square_root_turns_are_only { integers.SquareRootTurnsAreOnly }
+    ensures square_root_iterations_are_only { integers.SquareRootIterationsAreOnly }
     ensures coefficient_mirror { integers.CoefficientMirror }
     ensures coefficient_above_row { integers.CoefficientAboveRow }
     ensures factorial_formula { integers.FactorialFormula }

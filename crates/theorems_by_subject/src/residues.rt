@@ -240,8 +240,8 @@ pub fn next_solution_of_each(from: i64, congruences: &[(i64, i64)]) -> Option<i6
 pub fn power_and_iterations(a: u64, exponent: u32, m: u64) -> (u64, u32)
     requires { 0 < m }
     ensures power { IsResidue (pos m) (int_pow (pos a) exponent) (pos result.0) }
-    ensures no_turn { exponent ≡ 0 → result.1 ≡ 0 }
-    ensures turns { exponent ≢ 0 → (2 ^ result.1 ≤ exponent) × (exponent < 2 ^ (result.1 + 1)) }
+    ensures no_iteration { exponent ≡ 0 → result.1 ≡ 0 }
+    ensures iterations { exponent ≢ 0 → (2 ^ result.1 ≤ exponent) × (exponent < 2 ^ (result.1 + 1)) }
 {
     power_modulo_counted(a, u128::from(exponent), m)
 }

@@ -3,7 +3,7 @@
 
 use crate::checked::operators::{inc, product, sum};
 use crate::coefficients::{nearer_end, next_factors, positive_quotient};
-use crate::domains::Fits;
+use crate::fits_trait::Fits;
 use crate::integer_core::operators::{is_below, is_negative, one, successor, zero};
 use crate::rows::IterBinomial;
 

@@ -3,7 +3,7 @@
 
 use crate::checked::operators::{negated, product};
 use crate::coefficients::positive_quotient;
-use crate::domains::Fits;
+use crate::fits_trait::Fits;
 use crate::integer_core::operators::{is_negative, is_zero, zero};
 use crate::integer_core::ExtendedGcd;
 use num_traits::Signed;

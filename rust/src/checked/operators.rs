@@ -2,9 +2,9 @@
 //! Checked sums, differences and products. At a native type each is the checked operator of the
 //! type.
 
-use crate::domains::Fits;
+use crate::fits_trait::Fits;
+use crate::integer_core::fitting;
 use crate::integer_core::operators::{one, zero};
-use crate::integer_core::plain;
 
 /// Returns `a + b`, or `None` if it does not fit.
 ///
@@ -21,7 +21,7 @@ use crate::integer_core::plain;
 #[must_use]
 pub fn sum<T: Fits>(a: T, b: T) -> Option<T> {
     if a.sum_fits(&b) {
-        Some(plain::sum(a, b))
+        Some(fitting::sum(a, b))
     } else {
         None
     }
@@ -42,7 +42,7 @@ pub fn sum<T: Fits>(a: T, b: T) -> Option<T> {
 #[must_use]
 pub fn difference<T: Fits>(a: T, b: T) -> Option<T> {
     if a.difference_fits(&b) {
-        Some(plain::difference(a, b))
+        Some(fitting::difference(a, b))
     } else {
         None
     }
@@ -63,7 +63,7 @@ pub fn difference<T: Fits>(a: T, b: T) -> Option<T> {
 #[must_use]
 pub fn product<T: Fits>(a: T, b: T) -> Option<T> {
     if a.product_fits(&b) {
-        Some(plain::product(a, b))
+        Some(fitting::product(a, b))
     } else {
         None
     }

@@ -643,36 +643,38 @@
 //!   result.0.x) (T.value result.0.y) }`
 //! - `ensures only { NeedsBoth (T.value a) (T.value b) → IsOnly (λ (x, y). IsSmallPair (T.value a)
 //!   (T.value b) (T.value result.0.gcd) x y) (T.value result.0.x, T.value result.0.y) }`
-//! - `ensures turns { AreEuclidTurns (T.value a) (T.value b) result.1 }`
+//! - `ensures iterations { AreEuclidIterations (T.value a) (T.value b) result.1 }`
 //! - `ensures bound { T.value b ≢ pos 0 → fibonacci (result.1 + 2) * unsigned_abs (T.value
 //!   result.0.gcd) ≤ unsigned_abs (T.value b) }`
 //! - Words: [`GcdFits`](integer_core#gcdfits), [`HasPair`](integer_core#haspair),
 //!   [`IsBezoutAnswer`](integer_core#isbezoutanswer), [`NeedsBoth`](integer_core#needsboth),
 //!   [`IsOnly`](integer_core#isonly), [`IsSmallPair`](integer_core#issmallpair),
-//!   [`AreEuclidTurns`](integer_core#areeuclidturns), [`fibonacci`](integer_core#fibonacci)
+//!   [`AreEuclidIterations`](integer_core#areeucliditerations),
+//!   [`fibonacci`](integer_core#fibonacci)
 //! ## `counted::GcdCounted::gcd_counted`
 //! - `requires gcd_fits { GcdFits Self.fits (Self.value self.now) (Self.value other.now) }`
 //! - `ensures greatest { IsGreatestCommonDivisor (Self.value self.now) (Self.value other.now)
 //!   (Self.value result.0) }`
-//! - `ensures turns { AreGcdTurns Self.low (Self.value self.now) (Self.value other.now) result.1 }`
+//! - `ensures iterations { AreGcdIterations Self.low (Self.value self.now) (Self.value other.now)
+//!   result.1 }`
 //! - `ensures bound { (k l : ℕ) → IsBitLength (Self.value self.now) k → IsBitLength (Self.value
 //!   other.now) l → result.1 ≤ k + l }`
 //! - Words: [`GcdFits`](integer_core#gcdfits),
 //!   [`IsGreatestCommonDivisor`](integer_core#isgreatestcommondivisor),
-//!   [`AreGcdTurns`](integer_core#aregcdturns), [`IsBitLength`](integer_core#isbitlength)
+//!   [`AreGcdIterations`](integer_core#aregcditerations), [`IsBitLength`](integer_core#isbitlength)
 //! ## `counted::SqrtCounted::sqrt_counted`
 //! - `requires from_zero { pos 0 ≤ℤ Self.value self.now }`
 //! - `ensures root { IsRoot (Self.value self.now) 2 (Self.value result.0) }`
-//! - `ensures turns { AreSquareRootTurns (Self.value self.now) result.1 }`
+//! - `ensures iterations { AreSquareRootIterations (Self.value self.now) result.1 }`
 //! - `ensures bound { result.1 ≤ 5 }`
 //! - Words: [`IsRoot`](integer_roots#isroot),
-//!   [`AreSquareRootTurns`](integer_roots#aresquarerootturns)
+//!   [`AreSquareRootIterations`](integer_roots#aresquarerootiterations)
 //! ## `counted::binomial_counted`
 //! - `requires n_from_zero { pos 0 ≤ℤ T.value n }`
 //! - `requires k_from_zero { pos 0 ≤ℤ T.value k }`
 //! - `requires coefficient_fits { T.fits (coefficient_of (T.value n) (T.value k)) }`
 //! - `ensures coefficient { T.value result.0 ≡ coefficient_of (T.value n) (T.value k) }`
-//! - `ensures turns { result.1 ≡ min (unsigned_abs (T.value k)) (unsigned_abs (T.value n) -
+//! - `ensures iterations { result.1 ≡ min (unsigned_abs (T.value k)) (unsigned_abs (T.value n) -
 //!   unsigned_abs (T.value k)) }`
 //! - `ensures bound { T.value k ≤ℤ T.value n → 2 ^ result.1 ≤ coefficient (unsigned_abs (T.value
 //!   n)) (unsigned_abs (T.value k)) }`
@@ -690,16 +692,16 @@
 //! - `ensures falling { T.value result ≡ falling_of (T.value n) (T.value k) }`
 //! - Words: [`falling_of`](applied#falling_of)
 //! ## `counting::checked::factorial`
-//! - `ensures { AnswersWhere ((pos 0 ≤ℤ T.value n) × T.fits (factorial_of (T.value n))) (Has T.fits
-//!   T.value (λ z. z ≡ factorial_of (T.value n))) result }`
+//! - `ensures { AnswersWhere ((pos 0 ≤ℤ T.value n) × T.fits (factorial_of (T.value n))) (FitsWith
+//!   T.fits T.value (λ z. z ≡ factorial_of (T.value n))) result }`
 //! - Words: [`AnswersWhere`](integer_core#answerswhere), [`factorial_of`](applied#factorial_of),
-//!   [`Has`](integer_core#has)
+//!   [`FitsWith`](integer_core#fitswith)
 //! ## `counting::checked::falling`
 //! - `ensures { AnswersWhere ((pos 0 ≤ℤ T.value n) × (pos 0 ≤ℤ T.value k) × T.fits (falling_of
-//!   (T.value n) (T.value k))) (Has T.fits T.value (λ z. z ≡ falling_of (T.value n) (T.value k)))
-//!   result }`
+//!   (T.value n) (T.value k))) (FitsWith T.fits T.value (λ z. z ≡ falling_of (T.value n) (T.value
+//!   k))) result }`
 //! - Words: [`AnswersWhere`](integer_core#answerswhere), [`falling_of`](applied#falling_of),
-//!   [`Has`](integer_core#has)
+//!   [`FitsWith`](integer_core#fitswith)
 //! ## `halving::midpoint`
 //! - `ensures no_farther { (T.value result -ℤ T.value a) ≤ℤ (T.value b -ℤ T.value result) }`
 //! - `ensures one_nearer_at_most { (T.value b -ℤ T.value result) ≤ℤ (T.value result -ℤ T.value a +ℤ
@@ -744,17 +746,17 @@
 //! - Words: [`AnswersWhere`](integer_core#answerswhere), [`EachFits`](integer_core#eachfits),
 //!   [`IsLeastCommonMultipleOf`](applied#isleastcommonmultipleof)
 //! ## `lists::checked::sum_of`
-//! - `ensures { AnswersWhere (T.fits (signed_sum (map T.value numbers.now))) (Has T.fits T.value (λ
-//!   s. s ≡ signed_sum (map T.value numbers.now))) result }`
+//! - `ensures { AnswersWhere (T.fits (signed_sum (map T.value numbers.now))) (FitsWith T.fits
+//!   T.value (λ s. s ≡ signed_sum (map T.value numbers.now))) result }`
 //! - Words: [`AnswersWhere`](integer_core#answerswhere), [`signed_sum`](applied#signed_sum),
-//!   [`Has`](integer_core#has)
+//!   [`FitsWith`](integer_core#fitswith)
 //! ## `lists::checked::dot_product`
 //! - `requires in_range { All (λ p. T.fits (T.value p.0) × T.fits (T.value p.1)) pairs.now }`
 //! - `ensures { AnswersWhere (T.fits (signed_sum (map (λ p. T.value p.0 *ℤ T.value p.1)
-//!   pairs.now))) (Has T.fits T.value (λ s. s ≡ signed_sum (map (λ p. T.value p.0 *ℤ T.value p.1)
-//!   pairs.now))) result }`
+//!   pairs.now))) (FitsWith T.fits T.value (λ s. s ≡ signed_sum (map (λ p. T.value p.0 *ℤ T.value
+//!   p.1) pairs.now))) result }`
 //! - Words: [`AnswersWhere`](integer_core#answerswhere), [`signed_sum`](applied#signed_sum),
-//!   [`Has`](integer_core#has)
+//!   [`FitsWith`](integer_core#fitswith)
 //! ## `modular::chinese_remainder`
 //! - `requires m_positive { pos 0 <ℤ T.value m }`
 //! - `requires n_positive { pos 0 <ℤ T.value n }`
@@ -775,11 +777,11 @@
 //! - `requires n_positive { pos 0 <ℤ T.value n }`
 //! - `ensures { MatchCommonSolution result ((x : ℤ) → ¬ (SolvesBothCongruences (T.value a) (T.value
 //!   m) (T.value b) (T.value n) x)) ((t : ℤ) × IsNextCommonSolution (T.value from) (T.value a)
-//!   (T.value m) (T.value b) (T.value n) t × ¬ (T.fits t)) (Has T.fits T.value
+//!   (T.value m) (T.value b) (T.value n) t × ¬ (T.fits t)) (FitsWith T.fits T.value
 //!   (IsNextCommonSolution (T.value from) (T.value a) (T.value m) (T.value b) (T.value n))) }`
 //! - Words: [`MatchCommonSolution`](modular#matchcommonsolution),
 //!   [`SolvesBothCongruences`](modular#solvesbothcongruences),
-//!   [`IsNextCommonSolution`](modular#isnextcommonsolution), [`Has`](integer_core#has)
+//!   [`IsNextCommonSolution`](modular#isnextcommonsolution), [`FitsWith`](integer_core#fitswith)
 //! ## `modular::inverse_modulo`
 //! - `requires positive { pos 0 <ℤ T.value m }`
 //! - `ensures answer { MatchOption result ((x : ℤ) → ¬ (IsInverse (T.value a) (T.value m) x)) (λ x.
@@ -806,8 +808,9 @@
 //! - `requires positive { pos 0 <ℤ Self.value modulus.now }`
 //! - `ensures residue { IsResidue (Self.value modulus.now) (int_pow (Self.value self.now) exponent)
 //!   (Self.value result.0) }`
-//! - `ensures no_turn { exponent ≡ 0 → result.1 ≡ 0 }`
-//! - `ensures turns { exponent ≢ 0 → (2 ^ result.1 ≤ exponent) × (exponent < 2 ^ (result.1 + 1)) }`
+//! - `ensures no_iteration { exponent ≡ 0 → result.1 ≡ 0 }`
+//! - `ensures iterations { exponent ≢ 0 → (2 ^ result.1 ≤ exponent) × (exponent < 2 ^ (result.1 +
+//!   1)) }`
 //! - Words: [`IsResidue`](modular#isresidue)
 //! ## `modular::product_modulo`
 //! - `requires positive { pos 0 <ℤ T.value m }`
@@ -828,22 +831,23 @@
 //! ## `modular::next_congruent`
 //! - `requires positive { pos 0 <ℤ T.value step }`
 //! - `ensures { MatchOption result ((t : ℤ) × IsNextCongruent (T.value from) (T.value first)
-//!   (T.value step) t × ¬ (T.fits t)) (Has T.fits T.value (IsNextCongruent (T.value from) (T.value
-//!   first) (T.value step))) }`
-//! - Words: [`IsNextCongruent`](modular#isnextcongruent), [`Has`](integer_core#has)
+//!   (T.value step) t × ¬ (T.fits t)) (FitsWith T.fits T.value (IsNextCongruent (T.value from)
+//!   (T.value first) (T.value step))) }`
+//! - Words: [`IsNextCongruent`](modular#isnextcongruent), [`FitsWith`](integer_core#fitswith)
 //! ## `modular::previous_congruent`
 //! - `requires positive { pos 0 <ℤ T.value step }`
 //! - `ensures { MatchOption result ((t : ℤ) × IsPreviousCongruent (T.value to) (T.value first)
-//!   (T.value step) t × ¬ (T.fits t)) (Has T.fits T.value (IsPreviousCongruent (T.value to)
+//!   (T.value step) t × ¬ (T.fits t)) (FitsWith T.fits T.value (IsPreviousCongruent (T.value to)
 //!   (T.value first) (T.value step))) }`
-//! - Words: [`IsPreviousCongruent`](modular#ispreviouscongruent), [`Has`](integer_core#has)
+//! - Words: [`IsPreviousCongruent`](modular#ispreviouscongruent),
+//!   [`FitsWith`](integer_core#fitswith)
 //! ## `modular::count_congruent`
 //! - `requires positive { pos 0 <ℤ T.value step }`
 //! - `ensures count { MatchOption result ((n : ℤ) × IsCountOfCongruent (T.value from) (T.value to)
-//!   (T.value first) (T.value step) n × ¬ (T.fits n)) (Has T.fits T.value (IsCountOfCongruent
+//!   (T.value first) (T.value step) n × ¬ (T.fits n)) (FitsWith T.fits T.value (IsCountOfCongruent
 //!   (T.value from) (T.value to) (T.value first) (T.value step))) }`
 //! - `ensures from_zero { IfSome result (λ n. pos 0 ≤ℤ T.value n) }`
-//! - Words: [`IsCountOfCongruent`](modular#iscountofcongruent), [`Has`](integer_core#has)
+//! - Words: [`IsCountOfCongruent`](modular#iscountofcongruent), [`FitsWith`](integer_core#fitswith)
 //! ## `modular::residue`
 //! - `requires positive { pos 0 <ℤ T.value m }`
 //! - `ensures residue { IsResidue (T.value m) (T.value a) (T.value result) }`
@@ -864,49 +868,49 @@
 //! - `requires in_range { All (λ c. T.fits (T.value c.0) × T.fits (T.value c.1)) congruences.now }`
 //! - `requires positive { All (λ c. pos 0 <ℤ T.value c.1) congruences.now }`
 //! - `ensures { MatchCommonSolution result ((x : ℤ) → ¬ (SolvesEach T.value congruences.now x)) ((t
-//!   : ℤ) × IsLeastFrom (T.value from) (SolvesEach T.value congruences.now) t × ¬ (T.fits t)) (Has
-//!   T.fits T.value (IsLeastFrom (T.value from) (SolvesEach T.value congruences.now))) }`
+//!   : ℤ) × IsLeastFrom (T.value from) (SolvesEach T.value congruences.now) t × ¬ (T.fits t))
+//!   (FitsWith T.fits T.value (IsLeastFrom (T.value from) (SolvesEach T.value congruences.now))) }`
 //! - Words: [`MatchCommonSolution`](modular#matchcommonsolution),
 //!   [`SolvesEach`](modular#solveseach), [`IsLeastFrom`](integer_core#isleastfrom),
-//!   [`Has`](integer_core#has)
+//!   [`FitsWith`](integer_core#fitswith)
 //! ## `modular::checked::residue`
-//! - `ensures { AnswersWhere (pos 0 <ℤ T.value m) (Has T.fits T.value (IsResidue (T.value m)
+//! - `ensures { AnswersWhere (pos 0 <ℤ T.value m) (FitsWith T.fits T.value (IsResidue (T.value m)
 //!   (T.value a))) result }`
-//! - Words: [`AnswersWhere`](integer_core#answerswhere), [`Has`](integer_core#has),
+//! - Words: [`AnswersWhere`](integer_core#answerswhere), [`FitsWith`](integer_core#fitswith),
 //!   [`IsResidue`](modular#isresidue)
 //! ## `modular::checked::sum_modulo`
-//! - `ensures { AnswersWhere (pos 0 <ℤ T.value m) (Has T.fits T.value (IsResidue (T.value m)
+//! - `ensures { AnswersWhere (pos 0 <ℤ T.value m) (FitsWith T.fits T.value (IsResidue (T.value m)
 //!   (T.value a +ℤ T.value b))) result }`
-//! - Words: [`AnswersWhere`](integer_core#answerswhere), [`Has`](integer_core#has),
+//! - Words: [`AnswersWhere`](integer_core#answerswhere), [`FitsWith`](integer_core#fitswith),
 //!   [`IsResidue`](modular#isresidue)
 //! ## `modular::checked::difference_modulo`
-//! - `ensures { AnswersWhere (pos 0 <ℤ T.value m) (Has T.fits T.value (IsResidue (T.value m)
+//! - `ensures { AnswersWhere (pos 0 <ℤ T.value m) (FitsWith T.fits T.value (IsResidue (T.value m)
 //!   (T.value a -ℤ T.value b))) result }`
-//! - Words: [`AnswersWhere`](integer_core#answerswhere), [`Has`](integer_core#has),
+//! - Words: [`AnswersWhere`](integer_core#answerswhere), [`FitsWith`](integer_core#fitswith),
 //!   [`IsResidue`](modular#isresidue)
 //! ## `modular::checked::negation_modulo`
-//! - `ensures { AnswersWhere (pos 0 <ℤ T.value m) (Has T.fits T.value (IsResidue (T.value m) (neg_ℤ
-//!   (T.value a)))) result }`
-//! - Words: [`AnswersWhere`](integer_core#answerswhere), [`Has`](integer_core#has),
+//! - `ensures { AnswersWhere (pos 0 <ℤ T.value m) (FitsWith T.fits T.value (IsResidue (T.value m)
+//!   (neg_ℤ (T.value a)))) result }`
+//! - Words: [`AnswersWhere`](integer_core#answerswhere), [`FitsWith`](integer_core#fitswith),
 //!   [`IsResidue`](modular#isresidue)
 //! ## `modular::checked::product_modulo`
-//! - `ensures { AnswersWhere (pos 0 <ℤ T.value m) (Has T.fits T.value (IsResidue (T.value m)
+//! - `ensures { AnswersWhere (pos 0 <ℤ T.value m) (FitsWith T.fits T.value (IsResidue (T.value m)
 //!   (T.value a *ℤ T.value b))) result }`
-//! - Words: [`AnswersWhere`](integer_core#answerswhere), [`Has`](integer_core#has),
+//! - Words: [`AnswersWhere`](integer_core#answerswhere), [`FitsWith`](integer_core#fitswith),
 //!   [`IsResidue`](modular#isresidue)
 //! ## `modular::checked::power_modulo`
-//! - `ensures { AnswersWhere (pos 0 <ℤ T.value m) (Has T.fits T.value (IsResidue (T.value m)
+//! - `ensures { AnswersWhere (pos 0 <ℤ T.value m) (FitsWith T.fits T.value (IsResidue (T.value m)
 //!   (int_pow (T.value a) exponent))) result }`
-//! - Words: [`AnswersWhere`](integer_core#answerswhere), [`Has`](integer_core#has),
+//! - Words: [`AnswersWhere`](integer_core#answerswhere), [`FitsWith`](integer_core#fitswith),
 //!   [`IsResidue`](modular#isresidue)
 //! ## `modular::checked::inverse_modulo`
-//! - `ensures { MatchOption result ((x : ℤ) → ¬ (IsInverse (T.value a) (T.value m) x)) (Has T.fits
-//!   T.value (IsInverse (T.value a) (T.value m))) }`
-//! - Words: [`IsInverse`](modular#isinverse), [`Has`](integer_core#has)
+//! - `ensures { MatchOption result ((x : ℤ) → ¬ (IsInverse (T.value a) (T.value m) x)) (FitsWith
+//!   T.fits T.value (IsInverse (T.value a) (T.value m))) }`
+//! - Words: [`IsInverse`](modular#isinverse), [`FitsWith`](integer_core#fitswith)
 //! ## `modular::checked::quotient_modulo`
-//! - `ensures { MatchOption result ((x : ℤ) → ¬ (IsInverse (T.value b) (T.value m) x)) (Has T.fits
-//!   T.value (IsQuotientModulo (T.value a) (T.value b) (T.value m))) }`
-//! - Words: [`IsInverse`](modular#isinverse), [`Has`](integer_core#has),
+//! - `ensures { MatchOption result ((x : ℤ) → ¬ (IsInverse (T.value b) (T.value m) x)) (FitsWith
+//!   T.fits T.value (IsQuotientModulo (T.value a) (T.value b) (T.value m))) }`
+//! - Words: [`IsInverse`](modular#isinverse), [`FitsWith`](integer_core#fitswith),
 //!   [`IsQuotientModulo`](modular#isquotientmodulo)
 //! ## `modular::checked::solutions`
 //! - `ensures { MatchWhere (pos 0 <ℤ T.value m) result ((x : ℤ) → ¬ (Solves (T.value a) (T.value b)
@@ -917,22 +921,22 @@
 //!   [`IsResidueClass`](modular#isresidueclass), [`IsReducedModulus`](modular#isreducedmodulus)
 //! ## `modular::checked::next_congruent`
 //! - `ensures { MatchWhere (pos 0 <ℤ T.value step) result ((t : ℤ) × IsNextCongruent (T.value from)
-//!   (T.value first) (T.value step) t × ¬ (T.fits t)) (Has T.fits T.value (IsNextCongruent (T.value
-//!   from) (T.value first) (T.value step))) }`
+//!   (T.value first) (T.value step) t × ¬ (T.fits t)) (FitsWith T.fits T.value (IsNextCongruent
+//!   (T.value from) (T.value first) (T.value step))) }`
 //! - Words: [`MatchWhere`](modular#matchwhere), [`IsNextCongruent`](modular#isnextcongruent),
-//!   [`Has`](integer_core#has)
+//!   [`FitsWith`](integer_core#fitswith)
 //! ## `modular::checked::previous_congruent`
 //! - `ensures { MatchWhere (pos 0 <ℤ T.value step) result ((t : ℤ) × IsPreviousCongruent (T.value
-//!   to) (T.value first) (T.value step) t × ¬ (T.fits t)) (Has T.fits T.value (IsPreviousCongruent
-//!   (T.value to) (T.value first) (T.value step))) }`
+//!   to) (T.value first) (T.value step) t × ¬ (T.fits t)) (FitsWith T.fits T.value
+//!   (IsPreviousCongruent (T.value to) (T.value first) (T.value step))) }`
 //! - Words: [`MatchWhere`](modular#matchwhere),
-//!   [`IsPreviousCongruent`](modular#ispreviouscongruent), [`Has`](integer_core#has)
+//!   [`IsPreviousCongruent`](modular#ispreviouscongruent), [`FitsWith`](integer_core#fitswith)
 //! ## `modular::checked::count_congruent`
 //! - `ensures { MatchWhere (pos 0 <ℤ T.value step) result ((n : ℤ) × IsCountOfCongruent (T.value
-//!   from) (T.value to) (T.value first) (T.value step) n × ¬ (T.fits n)) (Has T.fits T.value
+//!   from) (T.value to) (T.value first) (T.value step) n × ¬ (T.fits n)) (FitsWith T.fits T.value
 //!   (IsCountOfCongruent (T.value from) (T.value to) (T.value first) (T.value step))) }`
 //! - Words: [`MatchWhere`](modular#matchwhere), [`IsCountOfCongruent`](modular#iscountofcongruent),
-//!   [`Has`](integer_core#has)
+//!   [`FitsWith`](integer_core#fitswith)
 //! ## `modular::checked::chinese_remainder`
 //! - `ensures { MatchWhere ((pos 0 <ℤ T.value m) × (pos 0 <ℤ T.value n) × EachFits T.fits
 //!   (IsLeastCommonMultiple (T.value m) (T.value n))) result ((x : ℤ) → ¬ (SolvesBothCongruences
@@ -947,26 +951,27 @@
 //! - `ensures { AnswersWhere ((pos 0 <ℤ T.value m) × (pos 0 <ℤ T.value n)) (λ s.
 //!   MatchCommonSolution s ((x : ℤ) → ¬ (SolvesBothCongruences (T.value a) (T.value m) (T.value b)
 //!   (T.value n) x)) ((t : ℤ) × IsNextCommonSolution (T.value from) (T.value a) (T.value m)
-//!   (T.value b) (T.value n) t × ¬ (T.fits t)) (Has T.fits T.value (IsNextCommonSolution (T.value
-//!   from) (T.value a) (T.value m) (T.value b) (T.value n)))) result }`
+//!   (T.value b) (T.value n) t × ¬ (T.fits t)) (FitsWith T.fits T.value (IsNextCommonSolution
+//!   (T.value from) (T.value a) (T.value m) (T.value b) (T.value n)))) result }`
 //! - Words: [`AnswersWhere`](integer_core#answerswhere),
 //!   [`MatchCommonSolution`](modular#matchcommonsolution),
 //!   [`SolvesBothCongruences`](modular#solvesbothcongruences),
-//!   [`IsNextCommonSolution`](modular#isnextcommonsolution), [`Has`](integer_core#has)
+//!   [`IsNextCommonSolution`](modular#isnextcommonsolution), [`FitsWith`](integer_core#fitswith)
 //! ## `modular::checked::next_common_solution_of`
 //! - `requires in_range { All (λ c. T.fits (T.value c.0) × T.fits (T.value c.1)) congruences.now }`
 //! - `ensures { AnswersWhere (All (λ c. pos 0 <ℤ T.value c.1) congruences.now) (λ s.
 //!   MatchCommonSolution s ((x : ℤ) → ¬ (SolvesEach T.value congruences.now x)) ((t : ℤ) ×
-//!   IsLeastFrom (T.value from) (SolvesEach T.value congruences.now) t × ¬ (T.fits t)) (Has T.fits
-//!   T.value (IsLeastFrom (T.value from) (SolvesEach T.value congruences.now)))) result }`
+//!   IsLeastFrom (T.value from) (SolvesEach T.value congruences.now) t × ¬ (T.fits t)) (FitsWith
+//!   T.fits T.value (IsLeastFrom (T.value from) (SolvesEach T.value congruences.now)))) result }`
 //! - Words: [`AnswersWhere`](integer_core#answerswhere),
 //!   [`MatchCommonSolution`](modular#matchcommonsolution), [`SolvesEach`](modular#solveseach),
-//!   [`IsLeastFrom`](integer_core#isleastfrom), [`Has`](integer_core#has)
+//!   [`IsLeastFrom`](integer_core#isleastfrom), [`FitsWith`](integer_core#fitswith)
 //! ## `modular::counted::power_modulo_counted`
 //! - `requires positive { pos 0 <ℤ T.value m }`
 //! - `ensures residue { IsResidue (T.value m) (int_pow (T.value a) exponent) (T.value result.0) }`
-//! - `ensures no_turn { exponent ≡ 0 → result.1 ≡ 0 }`
-//! - `ensures turns { exponent ≢ 0 → (2 ^ result.1 ≤ exponent) × (exponent < 2 ^ (result.1 + 1)) }`
+//! - `ensures no_iteration { exponent ≡ 0 → result.1 ≡ 0 }`
+//! - `ensures iterations { exponent ≢ 0 → (2 ^ result.1 ≤ exponent) × (exponent < 2 ^ (result.1 +
+//!   1)) }`
 //! - Words: [`IsResidue`](modular#isresidue)
 //! ## `operators::zero`
 //! - `requires { T.exact }`
@@ -1432,10 +1437,10 @@
 //! ## `schedules::count`
 //! - `requires positive { pos 0 <ℤ T.value schedule.1 }`
 //! - `ensures count { MatchOption result ((n : ℤ) × IsCountOfTimes (T.value from) (T.value to)
-//!   (T.value schedule.0) (T.value schedule.1) n × ¬ (T.fits n)) (Has T.fits T.value
+//!   (T.value schedule.0) (T.value schedule.1) n × ¬ (T.fits n)) (FitsWith T.fits T.value
 //!   (IsCountOfTimes (T.value from) (T.value to) (T.value schedule.0) (T.value schedule.1))) }`
 //! - `ensures from_zero { IfSome result (λ n. pos 0 ≤ℤ T.value n) }`
-//! - Words: [`IsCountOfTimes`](applied#iscountoftimes), [`Has`](integer_core#has)
+//! - Words: [`IsCountOfTimes`](applied#iscountoftimes), [`FitsWith`](integer_core#fitswith)
 //! ## `shares::shares`
 //! - `ensures possible { IsOk result ↔ CanBeShared weights.now shares.old }`
 //! - `ensures different_lengths { (result ≡ Err SharesError.DifferentLengths) ↔ (length shares.old

@@ -2,9 +2,9 @@
 //! The extended Euclidean algorithm (Knuth, The Art of Computer Programming, volume 2, section
 //! 4.5.2, algorithm X). The loop here stops one iteration earlier.
 
+use crate::integer_core::fitting::{difference, negated, product};
 use crate::integer_core::guards::check_pair;
 use crate::integer_core::operators::{is_negative, is_zero, one, zero};
-use crate::integer_core::plain::{difference, negated, product};
 use crate::integer_core::Integer;
 
 /// A greatest common divisor with Bezout's coefficients: for the operands `a` and `b`, `a * x + b *
@@ -74,16 +74,16 @@ fn last_row<T: Integer + Clone>(a: T, b: T) -> (Row<T>, u32) {
         x: zero(),
         y: one(),
     };
-    let mut turns = 0;
+    let mut iterations = 0;
     while !previous.remainder.is_multiple_of(&current.remainder) {
         let (quotient, remainder) = previous.remainder.div_rem(&current.remainder);
         let x = difference(previous.x, product(quotient.clone(), current.x.clone()));
         let y = difference(previous.y, product(quotient, current.y.clone()));
         previous = current;
         current = Row { remainder, x, y };
-        turns += 1;
+        iterations += 1;
     }
-    (current, turns)
+    (current, iterations)
 }
 
 /// Returns [`Integer::extended_gcd`] and the number of iterations of its loop. The bound on the
@@ -111,7 +111,7 @@ pub fn extended_gcd_counted<T: Integer + Clone>(a: T, b: T) -> (ExtendedGcd<T>, 
     if is_zero(b.clone()) {
         (Row::of_first(a).normalized(), 0)
     } else {
-        let (row, turns) = last_row(a, b);
-        (row.normalized(), turns)
+        let (row, iterations) = last_row(a, b);
+        (row.normalized(), iterations)
     }
 }

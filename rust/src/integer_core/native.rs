@@ -2,8 +2,8 @@
 // It also has what rust/by_hand/src/integer_core/native.rs adds.
 //! The sealed trait of the native integer types: their range and their magnitudes.
 
+use crate::integer_core::fitting::{difference, successor};
 use crate::integer_core::operators::{is_negative, zero};
-use crate::integer_core::plain::{difference, successor};
 use crate::integer_core::stein::Magnitude;
 use num_traits::{AsPrimitive, Bounded, CheckedAdd, CheckedMul, CheckedSub, Num};
 

@@ -5,8 +5,8 @@
 //! callers never have to prove it. In plain Rust the operators that add, subtract and multiply are
 //! written by hand: they panic if the result does not fit. Those of `plain` do not test.
 
+use crate::integer_core::fitting;
 use crate::integer_core::guards::Reason;
-use crate::integer_core::plain;
 use crate::integer_core::Integer;
 use num_traits::Num;
 
@@ -138,7 +138,7 @@ pub fn is_negative<T: Num + PartialOrd>(a: T) -> bool {
 /// [Contract](crate::definitions::contracts#operatorsis_minus_one)
 #[must_use]
 pub fn is_minus_one<T: Copy + Num + PartialOrd>(a: T) -> bool {
-    is_negative(a) && is_zero(plain::successor(a))
+    is_negative(a) && is_zero(fitting::successor(a))
 }
 
 /// Returns `a + b`.

@@ -148,12 +148,12 @@ fn next_pair<M: Magnitude>(m: M, n: M) -> (M, M) {
 /// Returns the greatest common divisor of two odd numbers, and the number of iterations.
 fn odd_gcd(a: u64, b: u64) -> (u64, u32) {
     let (mut m, mut n) = (a, b);
-    let mut turns = 0;
+    let mut iterations = 0;
     while m != n {
         (m, n) = next_pair(m, n);
-        turns += 1;
+        iterations += 1;
     }
-    (m, turns)
+    (m, iterations)
 }
 
 /// Returns both numbers as `u64`, or `None` if one of them does not fit.
@@ -170,25 +170,25 @@ fn differ_beyond_64_bits<M: Magnitude>(m: M, n: M) -> bool {
 /// goes on in `u64` as soon as both numbers fit.
 fn narrowing_gcd<M: Magnitude>(a: M, b: M) -> (M, u32) {
     let (mut m, mut n) = (a, b);
-    let mut turns = 0;
+    let mut iterations = 0;
     while differ_beyond_64_bits(m, n) {
         (m, n) = next_pair(m, n);
-        turns += 1;
+        iterations += 1;
     }
     match at_64_bits(m, n) {
         Some((x, y)) => {
             let (gcd, rest) = odd_gcd(x, y);
-            (M::from_64_bits(gcd), turns + rest)
+            (M::from_64_bits(gcd), iterations + rest)
         }
-        None => (m, turns),
+        None => (m, iterations),
     }
 }
 
 /// Returns the greatest common divisor of two positive numbers, and the number of iterations.
 fn positive_gcd<M: Magnitude>(a: M, b: M) -> (M, u32) {
     let (m, n, twos) = odd_parts(a, b);
-    let (odd, turns) = narrowing_gcd(m, n);
-    (odd.times_power_of_two(twos), turns)
+    let (odd, iterations) = narrowing_gcd(m, n);
+    (odd.times_power_of_two(twos), iterations)
 }
 
 /// Returns the greatest common divisor of two positive numbers, one of which is a power of two: the
@@ -230,9 +230,9 @@ fn gcd_of_magnitudes<M: Magnitude>(m: M, n: M, has_power: bool) -> (M, u32) {
 /// is 0.
 #[track_caller]
 pub(crate) fn binary_gcd<T: Native>(a: T, b: T) -> (T, u32) {
-    let (gcd, turns) = gcd_of_magnitudes(a.magnitude(), b.magnitude(), has_smallest(a, b));
+    let (gcd, iterations) = gcd_of_magnitudes(a.magnitude(), b.magnitude(), has_smallest(a, b));
     let gcd = number_or(gcd, "the greatest common divisor does not fit");
-    (gcd, turns)
+    (gcd, iterations)
 }
 
 /// Returns `true` if one of the numbers is the smallest of its type.

@@ -10,8 +10,8 @@ use num_traits::PrimInt;
 
 /// Returns the square root, and the number of iterations of its loops.
 pub(crate) fn square_root_by_magnitude<T: NativeInteger<Magnitude = u64>>(x: T) -> (T, u32) {
-    let (root, turns) = square_root_counted(x.magnitude());
-    (T::from_magnitude(root), turns)
+    let (root, iterations) = square_root_counted(x.magnitude());
+    (T::from_magnitude(root), iterations)
 }
 
 /// Returns the cube root.

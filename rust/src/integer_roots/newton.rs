@@ -14,16 +14,16 @@ pub(crate) fn root_by_newton<F: Fn(u64) -> u64>(a: u64, n: u32, step: F) -> u64 
 pub(crate) fn newton<F: Fn(u64) -> u64>(first: u64, step: F) -> (u64, u32) {
     let mut x = first;
     let mut next = step(x);
-    let mut turns = 0;
+    let mut iterations = 0;
     while x < next {
         x = next;
         next = step(x);
-        turns += 1;
+        iterations += 1;
     }
     while x > next {
         x = next;
         next = step(x);
-        turns += 1;
+        iterations += 1;
     }
-    (x, turns)
+    (x, iterations)
 }

@@ -20,7 +20,7 @@ pub(crate) trait ResidueForm {
     }
 }
 
-/// Returns the power of a residue, and the number of turns: one for each binary digit of the
+/// Returns the power of a residue, and the number of iterations: one for each binary digit of the
 /// exponent after the first. `one`, `base` and the power are residues in the form `form`.
 #[track_caller]
 pub(crate) fn power_counted<F: ResidueForm>(
@@ -32,14 +32,14 @@ pub(crate) fn power_counted<F: ResidueForm>(
     let mut power = one;
     let mut square = base;
     let mut rest = exponent;
-    let mut turns = 0;
+    let mut iterations = 0;
     while rest > 1 {
         power = form.product_if(rest % 2, power, square);
         square = form.product(square, square);
         rest /= 2;
-        turns += 1;
+        iterations += 1;
     }
-    (form.product_if(rest, power, square), turns)
+    (form.product_if(rest, power, square), iterations)
 }
 
 /// The residues of a modulus as they are, and how to multiply two of them.

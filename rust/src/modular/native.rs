@@ -18,8 +18,8 @@ impl<T: NativeInteger> Modular for T {
     }
 
     fn power_modulo_counted(&self, exponent: u128, modulus: &T) -> (T, u32) {
-        let (power, turns) = power_as_magnitude(*self, exponent, *modulus);
-        (of_magnitude(power), turns)
+        let (power, iterations) = power_as_magnitude(*self, exponent, *modulus);
+        (of_magnitude(power), iterations)
     }
 }
 
@@ -36,8 +36,8 @@ fn product_as_magnitude<T: Fits>(a: T, b: T, m: T) -> u128 {
     }
 }
 
-/// Returns `a` to the power `exponent` modulo `m` as a magnitude, and the number of turns of the
-/// loop.
+/// Returns `a` to the power `exponent` modulo `m` as a magnitude, and the number of iterations of
+/// the loop.
 #[track_caller]
 fn power_as_magnitude<T: Fits>(a: T, exponent: u128, m: T) -> (u128, u32) {
     power_of_wide(residue(a, m).parts().1, exponent, m.parts().1)

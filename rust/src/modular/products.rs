@@ -53,8 +53,8 @@ pub trait Modular: Integer + Copy {
         )
     }
 
-    /// Returns `self` to the power `exponent` modulo `modulus`, and the number of turns of its
-    /// loop. If the exponent is positive, the turns are its binary logarithm, rounded down.
+    /// Returns `self` to the power `exponent` modulo `modulus`, and the number of iterations of its
+    /// loop. If the exponent is positive, the iterations are its binary logarithm, rounded down.
     ///
     /// # Examples
     ///
@@ -134,7 +134,7 @@ pub fn power_modulo<T: Modular>(a: T, exponent: u128, m: T) -> T {
     power_modulo_counted(a, exponent, m).0
 }
 
-/// Returns [`power_modulo`] and the number of turns of its loop, by
+/// Returns [`power_modulo`] and the number of iterations of its loop, by
 /// [`Modular::power_modulo_counted`].
 ///
 /// # Examples

@@ -8,13 +8,13 @@ use crate::modular::word_residues::power_of_word;
 /// How many values a `u64` has. It is the base of the digits of a long division.
 pub(crate) const U64_VALUES: u128 = 18446744073709551616;
 
-/// Returns the power of a residue, and the number of turns of its loop. An exponent up to 3 needs
-/// too few products to make up for the conversions of [`power_of_word`].
+/// Returns the power of a residue, and the number of iterations of its loop. An exponent up to 3
+/// needs too few products to make up for the conversions of [`power_of_word`].
 #[track_caller]
 pub(crate) fn power_of_wide(x: u128, exponent: u128, m: u128) -> (u128, u32) {
     if m < U64_VALUES && exponent > 3 {
-        let (power, turns) = power_of_word(x as u64, exponent, m as u64);
-        return (u128::from(power), turns);
+        let (power, iterations) = power_of_word(x as u64, exponent, m as u64);
+        return (u128::from(power), iterations);
     }
     let product = move |x: u128, y: u128| -> u128 { product_of_wide(x, y, m) };
     let residues = Residues {

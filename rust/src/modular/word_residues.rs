@@ -5,13 +5,13 @@
 use crate::modular::exponentiation::{power_counted, ResidueForm};
 use crate::modular::montgomery::Montgomery;
 
-/// Returns the power of a number modulo `m`, and the number of turns of its loop.
+/// Returns the power of a number modulo `m`, and the number of iterations of its loop.
 #[track_caller]
 pub(crate) fn power_of_word(x: u64, exponent: u128, m: u64) -> (u64, u32) {
     let modulus = SplitModulus::new(m);
     let base = modulus.form_of(x);
-    let (power, turns) = power_counted(&modulus, modulus.one(), base, exponent);
-    (modulus.residue_of(power), turns)
+    let (power, iterations) = power_counted(&modulus, modulus.one(), base, exponent);
+    (modulus.residue_of(power), iterations)
 }
 
 /// A modulus split into an odd factor and a power of two. A residue is a pair: its Montgomery form

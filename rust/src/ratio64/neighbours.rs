@@ -10,7 +10,7 @@ pub(crate) struct Neighbour {
 }
 
 /// Returns the neighbours of `num / den`: the largest fraction below it and the smallest one above
-/// it whose denominators are at most `max`. The larger gap falls at each turn, as in Euclid's
+/// it whose denominators are at most `max`. The larger gap falls at each iteration, as in Euclid's
 /// algorithm.
 pub(crate) fn neighbours(num: u64, den: u64, max: u64) -> (Neighbour, Neighbour) {
     let mut below = Neighbour {

@@ -1,7 +1,7 @@
 //! The calls of this module for any numbers. Each is `None` if a number is negative or the result does not fit.
 
 ghost use Rattle.std.specs.Prelude.{◌≡◌, ◌≤ℤ◌, ◌-ℤ◌, pos};
-ghost use Rattle.num_integer.specs.Checked.{AnswersWhere, Has};
+ghost use Rattle.num_integer.specs.Checked.{AnswersWhere, FitsWith};
 ghost use Rattle.applied.specs.Counting.{factorial_of, falling_of};
 
 use num_integer::Fits;
@@ -15,7 +15,7 @@ pub fn factorial<T: Fits>(n: T) -> Option<T>
     requires { T.fits (T.value n) }
     ensures { AnswersWhere
         ((pos 0 ≤ℤ T.value n) × T.fits (factorial_of (T.value n)))
-        (Has T.fits T.value (λ z. z ≡ factorial_of (T.value n))) result }
+        (FitsWith T.fits T.value (λ z. z ≡ factorial_of (T.value n))) result }
 {
     if is_negative(n) {
         None
@@ -32,7 +32,7 @@ pub fn falling<T: Fits>(n: T, k: T) -> Option<T>
     requires in_range { T.fits (T.value n) × T.fits (T.value k) }
     ensures { AnswersWhere
         ((pos 0 ≤ℤ T.value n) × (pos 0 ≤ℤ T.value k) × T.fits (falling_of (T.value n) (T.value k)))
-        (Has T.fits T.value (λ z. z ≡ falling_of (T.value n) (T.value k))) result }
+        (FitsWith T.fits T.value (λ z. z ≡ falling_of (T.value n) (T.value k))) result }
 {
     if is_negative(n) || is_negative(k) {
         return None;
@@ -51,7 +51,7 @@ fn product_above<T: Fits>(low: T, high: T) -> Option<T>
     requires ordered { T.value low ≤ℤ T.value high }
     ensures { AnswersWhere
         (T.fits (falling_of (T.value high) (T.value high -ℤ T.value low)))
-        (Has T.fits T.value
+        (FitsWith T.fits T.value
         (λ z. z ≡ falling_of (T.value high) (T.value high -ℤ T.value low))) result }
 {
     let mut ways = one();

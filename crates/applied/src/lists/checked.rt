@@ -2,7 +2,7 @@
 
 ghost use Rattle.std.specs.Prelude.{◌≡◌, ◌≢◌, ◌<◌, ◌≤ℤ◌, ◌*ℤ◌, ℕ, pos, unsigned_abs, length, map, IsFalse, IsTrue};
 ghost use Rattle.std.specs.List.{All, HoldsAt};
-ghost use Rattle.num_integer.specs.Checked.{AnswersWhere, Has};
+ghost use Rattle.num_integer.specs.Checked.{AnswersWhere, FitsWith};
 ghost use Rattle.num_integer.specs.Divisors.{IsGreatestCommonDivisor, IsLeastCommonMultiple};
 ghost use Rattle.num_integer.specs.Range.{EachFits};
 ghost use Rattle.applied.specs.Lists.{GcdOfFits, IsGreatestCommonDivisorOf, IsLeastCommonMultipleOf};
@@ -126,7 +126,7 @@ pub fn sum_of<T: NativeInteger<Magnitude = u64>>(numbers: &[T]) -> Option<T>
     requires in_range { All (λ x. T.fits (T.value x)) numbers.now }
     ensures { AnswersWhere
         (T.fits (signed_sum (map T.value numbers.now)))
-        (Has T.fits T.value (λ s. s ≡ signed_sum (map T.value numbers.now)))
+        (FitsWith T.fits T.value (λ s. s ≡ signed_sum (map T.value numbers.now)))
         result }
 {
     let mut total = Total::zero();
@@ -144,7 +144,7 @@ pub fn dot_product<T: NativeInteger<Magnitude = u64>>(pairs: &[(T, T)]) -> Optio
     requires in_range { All (λ p. T.fits (T.value p.0) × T.fits (T.value p.1)) pairs.now }
     ensures { AnswersWhere
         (T.fits (signed_sum (map (λ p. T.value p.0 *ℤ T.value p.1) pairs.now)))
-        (Has T.fits T.value (λ s. s ≡ signed_sum (map (λ p. T.value p.0 *ℤ T.value p.1) pairs.now)))
+        (FitsWith T.fits T.value (λ s. s ≡ signed_sum (map (λ p. T.value p.0 *ℤ T.value p.1) pairs.now)))
         result }
 {
     let mut total = Total::zero();

@@ -3,7 +3,7 @@
 
 ghost use Rattle.std.specs.Prelude.{◌≢◌, ◌<ℤ◌, ◌≤ℤ◌, ◌*ℤ◌, pos};
 ghost use Rattle.std.specs.Option.{IsSome};
-ghost use Rattle.num_integer.specs.Checked.{AnswersWhere, Has};
+ghost use Rattle.num_integer.specs.Checked.{AnswersWhere, FitsWith};
 ghost use Rattle.num_integer.specs.Division.{IsQuotient};
 ghost use Rattle.num_integer.specs.Range.{EachFits};
 ghost use Rattle.applied.specs.Rounding.{AnswersQuotient, IsNearest, IsNearestEven};
@@ -72,7 +72,7 @@ fn wide_product_div_round<T: NativeInteger<Magnitude = u64>>(a: T, b: T, d: T) -
     requires nonzero { T.value d ≢ pos 0 }
     ensures { AnswersWhere
         (EachFits T.fits (IsQuotient IsNearest (T.value a *ℤ T.value b) (T.value d)))
-        (Has T.fits T.value (IsQuotient IsNearest (T.value a *ℤ T.value b) (T.value d)))
+        (FitsWith T.fits T.value (IsQuotient IsNearest (T.value a *ℤ T.value b) (T.value d)))
         result }
 {
     let (product, divisor) = (parts_of_product(a, b), parts_of(d));
@@ -106,7 +106,7 @@ fn wide_product_div_round_even<T: NativeInteger<Magnitude = u64>>(a: T, b: T, d:
     requires nonzero { T.value d ≢ pos 0 }
     ensures { AnswersWhere
         (EachFits T.fits (IsQuotient IsNearestEven (T.value a *ℤ T.value b) (T.value d)))
-        (Has T.fits T.value (IsQuotient IsNearestEven (T.value a *ℤ T.value b) (T.value d)))
+        (FitsWith T.fits T.value (IsQuotient IsNearestEven (T.value a *ℤ T.value b) (T.value d)))
         result }
 {
     let (product, divisor) = (parts_of_product(a, b), parts_of(d));

@@ -9,7 +9,7 @@ ghost use Rattle.num_integer.specs.Row.{RowFits, row_of};
 
 use crate::checked::operators::{inc, product, sum};
 use crate::coefficients::{nearer_end, next_factors, positive_quotient};
-use crate::domains::Fits;
+use crate::fits_trait::Fits;
 use crate::rows::IterBinomial;
 use integer_core::operators::{is_below, is_negative, one, successor, zero};
 

@@ -5,7 +5,7 @@ ghost use Rattle.integer_core.specs.Division.{IsCeiled, IsFloored, IsMultiple, I
 ghost use Rattle.integer_core.specs.Range.{EachFits};
 ghost use Rattle.num_integer.specs.Checked.{AnswersWhere};
 
-use crate::domains::Fits;
+use crate::fits_trait::Fits;
 use integer_core::operators::is_zero;
 
 /// Returns [`Integer::div_rem`], the quotient rounded toward zero and its remainder, or `None` if `y` is 0

@@ -8,7 +8,7 @@ ghost use Rattle.num_integer.specs.Checked.{AnswersWhere};
 
 use crate::checked::operators::{negated, product};
 use crate::coefficients::positive_quotient;
-use crate::domains::Fits;
+use crate::fits_trait::Fits;
 use integer_core::ExtendedGcd;
 use integer_core::operators::{is_negative, is_zero, zero};
 use num_traits::Signed;

@@ -3,9 +3,9 @@
 ghost use Rattle.std.specs.Prelude.{◌≡◌, ◌+ℤ◌, ◌-ℤ◌, ◌*ℤ◌, pos, neg_ℤ};
 ghost use Rattle.num_integer.specs.Checked.{AnswersWhere};
 
-use crate::domains::Fits;
+use crate::fits_trait::Fits;
 use integer_core::operators::{one, zero};
-use integer_core::plain;
+use integer_core::fitting;
 
 /// Returns `a + b`, or `None` if it does not fit. `sum(200u8, 55)` is `Some(255)`, and
 /// `sum(200u8, 56)` is `None`.
@@ -18,7 +18,7 @@ pub fn sum<T: Fits>(a: T, b: T) -> Option<T>
         result }
 {
     if a.sum_fits(&b) {
-        Some(plain::sum(a, b))
+        Some(fitting::sum(a, b))
     } else {
         None
     }
@@ -35,7 +35,7 @@ pub fn difference<T: Fits>(a: T, b: T) -> Option<T>
         result }
 {
     if a.difference_fits(&b) {
-        Some(plain::difference(a, b))
+        Some(fitting::difference(a, b))
     } else {
         None
     }
@@ -52,7 +52,7 @@ pub fn product<T: Fits>(a: T, b: T) -> Option<T>
         result }
 {
     if a.product_fits(&b) {
-        Some(plain::product(a, b))
+        Some(fitting::product(a, b))
     } else {
         None
     }

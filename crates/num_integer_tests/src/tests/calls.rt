@@ -6,7 +6,7 @@ pub(crate) enum Call {
     /// The magnitude of the smallest number of the type, and its largest number.
     Ends,
     /// Whether the type has the number.
-    Has,
+    FitsWith,
     Inc,
     Dec,
     Negated,
@@ -37,15 +37,15 @@ pub(crate) enum Call {
     Lcm,
     LcmFits,
     GcdLcm,
-    /// The greatest common divisor and the turns.
+    /// The greatest common divisor and the iterations.
     CountedGcd,
-    /// The greatest common divisor, its pair and the turns.
+    /// The greatest common divisor, its pair and the iterations.
     Bezout,
     /// The greatest common divisor, its pair, and the least common multiple.
     BezoutAndMultiple,
     Binomial,
     BinomialFits,
-    /// The coefficient and the turns.
+    /// The coefficient and the iterations.
     CountedBinomial,
     Multinomial,
     MultinomialFits,
@@ -55,7 +55,7 @@ pub(crate) enum Call {
     Root,
     Sqrt,
     Cbrt,
-    /// The square root and the turns.
+    /// The square root and the iterations.
     CountedRoot,
 }
 

@@ -46,32 +46,32 @@ fn numbers_beside_a_byte(rt: HostRuntime) {
     assert!(rt; common == plain && common.mark() == 10);
 }
 
-/// The results of the three calls for a Bezout pair, and the turns.
+/// The results of the three calls for a Bezout pair, and the iterations.
 fn pairs<T: Fits>(a: T, b: T) -> Option<([ExtendedGcd<T>; 3], u32)>
     requires a_in_range { T.fits (T.value a) }
     requires b_in_range { T.fits (T.value b) }
 {
     let pair = checked::extended_gcd(a, b)?;
-    let (counted, turns) = extended_gcd_counted(a, b);
-    Some(([pair, a.extended_gcd(&b), counted], turns))
+    let (counted, iterations) = extended_gcd_counted(a, b);
+    Some(([pair, a.extended_gcd(&b), counted], iterations))
 }
 
-/// The results of the three calls for a coefficient, and the turns.
+/// The results of the three calls for a coefficient, and the iterations.
 fn coefficients<T: Fits>(n: T, k: T) -> Option<([T; 3], u32)>
     requires n_in_range { T.fits (T.value n) }
     requires k_in_range { T.fits (T.value k) }
 {
     let coefficient = checked::binomial(n, k)?;
-    let (counted, turns) = binomial_counted(n, k);
-    Some(([coefficient, binomial(n, k), counted], turns))
+    let (counted, iterations) = binomial_counted(n, k);
+    Some(([coefficient, binomial(n, k), counted], iterations))
 }
 
-/// An implementation that makes more turns than it counts, or that subtracts in place of a division, leaves a larger byte.
+/// An implementation that makes more iterations than it counts, or that subtracts in place of a division, leaves a larger byte.
 #[test]
 fn bytes_tell_the_work(rt: HostRuntime) {
     let found = pairs(Marked::new(99), Marked::new(2));
-    let (pairs, turns) = found.expect(&rt, "the pair fits");
-    holds_at(&rt, turns == 1, &turns);
+    let (pairs, iterations) = found.expect(&rt, "the pair fits");
+    holds_at(&rt, iterations == 1, &iterations);
     for ExtendedGcd { gcd, x, y } in pairs {
         let mark = gcd.mark().max(x.mark()).max(y.mark());
         let numbers = (gcd.number(), x.number(), y.number(), mark);
@@ -82,8 +82,8 @@ fn bytes_tell_the_work(rt: HostRuntime) {
         );
     }
     let found = coefficients(Marked::new(100), Marked::new(99));
-    let (coefficients, turns) = found.expect(&rt, "the coefficient fits");
-    holds_at(&rt, turns == 1, &turns);
+    let (coefficients, iterations) = found.expect(&rt, "the coefficient fits");
+    holds_at(&rt, iterations == 1, &iterations);
     for it in coefficients {
         holds_at(
             &rt,

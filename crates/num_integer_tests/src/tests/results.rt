@@ -74,7 +74,7 @@ fn both_agreed<T: Fits>(x: (T, T), y: (T, T)) -> Numbers
     if_same(same, two(x.0.parts(), x.1.parts()))
 }
 
-/// The number that a call and the call that counts return, and the turns.
+/// The number that a call and the call that counts return, and the iterations.
 fn counted<T: Fits>(x: T, y: (T, u32)) -> Numbers
     requires { T.fits (T.value x) }
 {
@@ -103,13 +103,13 @@ fn operators<T: Fits>(n: T, d: T) -> Option<(T, T)>
     }
 }
 
-/// The greatest common divisor with its pair, and the turns.
+/// The greatest common divisor with its pair, and the iterations.
 fn bezout<T: Fits>(a: &T, b: &T) -> Option<Numbers>
     requires in_range { T.fits (T.value a.now) × T.fits (T.value b.now) }
 {
     let pair = checked::extended_gcd(*a, *b)?;
-    let (other, turns) = extended_gcd_counted(*a, *b);
-    let last = (false, u128::from(turns));
+    let (other, iterations) = extended_gcd_counted(*a, *b);
+    let last = (false, u128::from(iterations));
     let numbers = [pair.gcd.parts(), pair.x.parts(), pair.y.parts(), last];
     Some(if_same((pair == other) & (pair == a.extended_gcd(b)), numbers))
 }
@@ -195,7 +195,7 @@ fn of_pair<T: Tested>(call: Call, x: &T, y: &T) -> Option<Numbers>
         Call::Difference => number(checked::difference(*x, *y)),
         Call::Product => number(checked::product(*x, *y)),
         Call::Averages => Some(averages(*x, *y)),
-        Call::CountedGcd => Some(counted(checked::gcd(*x, *y)?, x.gcd_and_turns(y)?)),
+        Call::CountedGcd => Some(counted(checked::gcd(*x, *y)?, x.gcd_and_iterations(y)?)),
         _ => of_division(call, x, y),
     }
 }
@@ -257,7 +257,7 @@ fn of_each<T: Tested>(ask: Ask) -> Option<Numbers> {
     match (ask.1, value::<T>(ask, 0), value::<T>(ask, 1)) {
         (Call::Ends, _, _) => Some(two((false, T::ends().0), (false, T::ends().1))),
         (Call::Multinomial | Call::MultinomialFits, _, _) => of_counts::<T>(ask),
-        (Call::Has, x, _) => Some(truth(x.is_some())),
+        (Call::FitsWith, x, _) => Some(truth(x.is_some())),
         (Call::Row, Some(n), _) => of_row(n, ask.2),
         (call, Some(x), Some(y)) => of_pair(call, &x, &y),
         _ => Some(DIFFERENT),

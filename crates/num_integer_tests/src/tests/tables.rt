@@ -1,9 +1,9 @@
-//! Worked values, and where the domains of the calls end, on both sides.
+//! Worked values, and where the preconditions of the calls end, on both sides.
 
 use super::calls::Call::{
     Averages, Bezout, BezoutAndMultiple, Binomial, BinomialFits, Cbrt, CountedBinomial, CountedGcd,
     CountedRoot, Dec, Difference, DivCeil, DivFloor, DivModFloor, DivRem, Divides, Ends, Gcd,
-    GcdFits, GcdLcm, Has, Inc, IsEven, IsMultipleOf, Lcm, LcmFits, ModFloor, Multinomial,
+    GcdFits, GcdLcm, FitsWith, Inc, IsEven, IsMultipleOf, Lcm, LcmFits, ModFloor, Multinomial,
     MultinomialFits, Negated, NextMultipleFits, NextMultipleOf, Parts, PrevMultipleFits,
     PrevMultipleOf, Product, QuotientFits, Root, Row as RowOf, Sqrt, Sum,
 };
@@ -51,7 +51,7 @@ pub(super) fn check_worked_values(rt: &impl Abort, alloc: Global) {
     check_rows(rt, alloc, &FITTING_DIVISORS);
     check_rows(rt, alloc, &SIGNED_PAIRS);
     check_rows(rt, alloc, &PAIRS);
-    check_rows(rt, alloc, &DIVISOR_TURNS);
+    check_rows(rt, alloc, &DIVISOR_ITERATIONS);
     check_rows(rt, alloc, &COEFFICIENTS);
     check_rows(rt, alloc, &FITTING_COEFFICIENTS);
     check_rows(rt, alloc, &SHARES);
@@ -63,8 +63,8 @@ pub(super) fn check_worked_values(rt: &impl Abort, alloc: Global) {
     check_rows(rt, alloc, &BITS);
     check_rows(rt, alloc, &PAIRS_OF_BITS);
     check_rows(rt, alloc, &STORED_OTHERWISE);
-    check_rows(rt, alloc, &TURNS);
-    check_rows(rt, alloc, &TURNS_AT_THE_ENDS);
+    check_rows(rt, alloc, &ITERATIONS);
+    check_rows(rt, alloc, &ITERATIONS_AT_THE_ENDS);
     check_rows(rt, alloc, &ENDS);
 }
 
@@ -236,8 +236,8 @@ static PAIRS: [Row; 12] = [
     (&[I32], BezoutAndMultiple, &[10, 4], Some(&[2, 1, -2, 20])),
 ];
 
-/// Divisors and their turns. The smallest number makes no turn with another.
-static DIVISOR_TURNS: [Row; 16] = [
+/// Divisors and their iterations. The smallest number makes no iteration with another.
+static DIVISOR_ITERATIONS: [Row; 16] = [
     (&[U64], CountedGcd, &[0, 0], Some(&[0, 0])),
     (&[U64], CountedGcd, &[5, 3], Some(&[1, 2])),
     (&[U64], CountedGcd, &[3, 5], Some(&[1, 2])),
@@ -256,7 +256,7 @@ static DIVISOR_TURNS: [Row; 16] = [
     (&[I128], CountedGcd, &[MIN, MAX], Some(&[1, 0])),
 ];
 
-/// Coefficients, and their turns.
+/// Coefficients, and their iterations.
 static COEFFICIENTS: [Row; 15] = [
     (&[U64], Binomial, &[67, 33], Some(&[14226520737620288370])),
     (&[U64], Binomial, &[TOP, 1], Some(&[TOP])),
@@ -438,8 +438,8 @@ static STORED_OTHERWISE: [Row; 8] = [
     (&[Marked], RowOf, &[8, 1, 8, 28, 56, 70, 56, 28, 8, 1], YES),
 ];
 
-/// Square roots and their turns, and numbers with no root.
-static TURNS: [Row; 16] = [
+/// Square roots and their iterations, and numbers with no root.
+static ITERATIONS: [Row; 16] = [
     (&[U64], CountedRoot, &[TOP], Some(&[4294967295, 1])),
     (&[U64], CountedRoot, &[SQUARE], Some(&[4294967295, 1])),
     (&[U64], CountedRoot, &[SQUARE - 1], Some(&[4294967294, 2])),
@@ -461,8 +461,8 @@ static TURNS: [Row; 16] = [
 /// The types whose square roots are counted.
 const COUNTED: [Type; 10] = [I8, I16, I32, I64, Isize, U8, U16, U32, U64, Usize];
 
-/// Square roots and their turns at the ends of the types.
-static TURNS_AT_THE_ENDS: [Row; 13] = [
+/// Square roots and their iterations at the ends of the types.
+static ITERATIONS_AT_THE_ENDS: [Row; 13] = [
     (&COUNTED, CountedRoot, &[0], Some(&[0, 0])),
     (&COUNTED, CountedRoot, &[1], Some(&[1, 0])),
     (&[I8], CountedRoot, &[127], Some(&[11, 1])),
@@ -486,10 +486,10 @@ static ENDS: [Row; 16] = [
     (&[U16], Ends, &[], Some(&[0, 65535])),
     (&[U32], Ends, &[], Some(&[0, 4294967295])),
     (&[Usize], Ends, &[], Some(&[0, TOP])),
-    (&UNSIGNED, Has, &[-1], NO),
-    (&[I8], Has, &[-129], NO),
-    (&[I8], Has, &[128], NO),
-    (&[U8], Has, &[256], NO),
+    (&UNSIGNED, FitsWith, &[-1], NO),
+    (&[I8], FitsWith, &[-129], NO),
+    (&[I8], FitsWith, &[128], NO),
+    (&[U8], FitsWith, &[256], NO),
     (&NATIVE, RowOf, &[0, 1], YES),
     (&NATIVE, RowOf, &[1, 1, 1], YES),
     (&NATIVE, RowOf, &[2, 1, 2, 1], YES),

@@ -19,7 +19,7 @@ const MAX: i128 = (1 << 100) - 1;
 const HALF: i128 = (1 << 99) - 1;
 
 /// As many as `MAX` has bits, but one.
-const TURNS: i128 = 1 << 97;
+const ITERATIONS: i128 = 1 << 97;
 
 /// Outside the domain, or out of range.
 const OUT: i128 = i128::MAX;
@@ -111,7 +111,7 @@ static DIVISION_CALLS: [(Call, &[usize]); 10] = [
     (Call::Divides, &[7]),
 ];
 
-/// Two numbers, the gcd, the lcm, the turns of Stein's loop, the Bezout pair and its turns, the coefficient and its turns, and
+/// Two numbers, the gcd, the lcm, the iterations of Stein's loop, the Bezout pair and its iterations, the coefficient and its iterations, and
 /// the multinomial.
 static DIVISORS: [([i128; 2], [i128; 9]); 21] = [
     ([MIN, 0], [OUT, 0, 0, OUT, OUT, OUT, OUT, OUT, OUT]),
@@ -120,18 +120,18 @@ static DIVISORS: [([i128; 2], [i128; 9]); 21] = [
     ([MIN, MIN], [OUT, OUT, 0, OUT, OUT, OUT, OUT, OUT, OUT]),
     ([MIN, MAX], [1, OUT, 0, -1, -1, 1, OUT, OUT, OUT]),
     ([MAX, MIN], [1, OUT, 0, -1, -1, 2, OUT, OUT, OUT]),
-    ([MAX, -1], [1, MAX, TURNS, 0, -1, 0, OUT, OUT, OUT]),
+    ([MAX, -1], [1, MAX, ITERATIONS, 0, -1, 0, OUT, OUT, OUT]),
     ([0, MIN], [OUT, 0, 0, OUT, OUT, OUT, OUT, OUT, OUT]),
     ([1, MIN], [1, OUT, 0, 1, 0, 1, OUT, OUT, OUT]),
     ([-1, MIN], [1, OUT, 0, -1, 0, 1, OUT, OUT, OUT]),
-    ([-1, MAX], [1, MAX, TURNS, -1, 0, 1, OUT, OUT, OUT]),
+    ([-1, MAX], [1, MAX, ITERATIONS, -1, 0, 1, OUT, OUT, OUT]),
     ([MAX, 0], [MAX, 0, 0, 1, 0, 0, 1, 0, 1]),
-    ([MAX, 1], [1, MAX, TURNS, 0, 1, 0, MAX, 1, OUT]),
-    ([MAX, 2], [1, OUT, TURNS, 1, -HALF, 1, OUT, OUT, OUT]),
+    ([MAX, 1], [1, MAX, ITERATIONS, 0, 1, 0, MAX, 1, OUT]),
+    ([MAX, 2], [1, OUT, ITERATIONS, 1, -HALF, 1, OUT, OUT, OUT]),
     ([MAX, MAX], [MAX, MAX, 0, 0, 1, 0, 1, 0, OUT]),
-    ([MAX, MAX - 1], [1, OUT, TURNS, 1, -1, 1, MAX, 1, OUT]),
+    ([MAX, MAX - 1], [1, OUT, ITERATIONS, 1, -1, 1, MAX, 1, OUT]),
     ([0, MAX], [MAX, 0, 0, 0, 1, 0, 0, 0, 1]),
-    ([1, MAX], [1, MAX, TURNS, 1, 0, 1, 0, 0, OUT]),
+    ([1, MAX], [1, MAX, ITERATIONS, 1, 0, 1, 0, 0, OUT]),
     ([0, 0], [0, 0, 0, 1, 0, 0, 1, 0, 1]),
     ([0, 1], [1, 0, 0, 0, 1, 0, 0, 0, 1]),
     ([1, 0], [1, 0, 0, 1, 0, 0, 1, 0, 1]),
@@ -156,7 +156,7 @@ impl Ends {
     fn at(self, n: i128) -> Option<SignedMagnitude> {
         let (in_tables, here) = match n.unsigned_abs() >> 97 {
             0 => (0, 0),
-            1 => (TURNS, u128::from(self.1.count_ones()).saturating_sub(1)),
+            1 => (ITERATIONS, u128::from(self.1.count_ones()).saturating_sub(1)),
             3 | 4 => (HALF, self.1 / 2),
             7 | 8 => (MAX, self.1),
             _ => return None,

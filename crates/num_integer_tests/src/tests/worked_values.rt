@@ -1,4 +1,4 @@
-//! Worked values, and where the domains of the calls end.
+//! Worked values, and where the preconditions of the calls end.
 
 use super::calls::Call;
 use super::calls::Call::{
@@ -40,7 +40,7 @@ static DOMAINS: [(Call, &[SignedMagnitude], bool); 9] = [
     (MultinomialFits, &[NEXT, ZERO, ONE], true),
 ];
 
-/// Half of the largest number would take some 2^127 turns if the tests of the domain did not stop.
+/// Half of the largest number would take some 2^127 iterations if the tests of the domain did not stop.
 #[test]
 fn domains_of_128_bits(rt: HostRuntime) {
     for (call, operands, fits) in &DOMAINS {

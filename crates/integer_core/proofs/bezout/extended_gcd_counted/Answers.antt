@@ -2,7 +2,7 @@ use Rattle.integer_core.proofs.Common.{rules, iff_false}
 use Rattle.std.proofs.Math.Numerals.{add-two}
 use Rattle.integer_core.proofs.BezoutAnswers.{answer_for_zero, answer_of_loop, only_answer, sign_keeps, sign_size}
 use Rattle.integer_core.proofs.CommonDivisors.{gcd_fits_is}
-use Rattle.integer_core.proofs.EuclidTurns.{lame}
+use Rattle.integer_core.proofs.EuclidIterations.{lame}
 use Rattle.integer_core.proofs.Rows.{first_fits, sign_fits}
 use Rattle.integer_core.proofs.bezout.extended_gcd_counted.Goals as goal
 
@@ -32,12 +32,12 @@ pub returns-else-is_zero : goal.returns-else-is_zero
 returns-else-is_zero g c =
     let nonzero = iff_false c.is_zero.ensures c.if-is_zero.false in
     let row = c.last_row-row.ensures in
-    let answer = answer_of_loop nonzero row.greatest row.at_once row.after_turns in
+    let answer = answer_of_loop nonzero row.greatest row.at_once row.after_iterations in
     let e = c.normalized-else-is_zero.ensures in
     rw (e.gcd, e.x, e.y) (record {
       in_range = search rules;
       answer = answer;
       only = only_answer answer;
-      turns = search rules;
-      bound = λ _. rw (sign_keeps, add-two) (lame _ nonzero row.turns row.greatest.divides_left row.greatest.divides_right);
+      iterations = search rules;
+      bound = λ _. rw (sign_keeps, add-two) (lame _ nonzero row.iterations row.greatest.divides_left row.greatest.divides_right);
     })

@@ -1,7 +1,7 @@
 use Rattle.integer_core.proofs.Common.{arith, iff_false}
-use Rattle.integer_core.proofs.EuclidTurns.{inexact}
+use Rattle.integer_core.proofs.EuclidIterations.{inexact}
 use Rattle.integer_core.proofs.Quotients.{inexact_quotient_fits}
-use Rattle.integer_core.proofs.Rows.{rows_fit_first, turn_fits, rows_fit_turn, sign_fits, turns_fit, last_gcd, last_at_once, last_after_turns}
+use Rattle.integer_core.proofs.Rows.{rows_fit_first, iteration_fits, rows_fit_iteration, sign_fits, iterations_fit, last_gcd, last_at_once, last_after_iterations}
 use Rattle.integer_core.proofs.Runs.{reaches_last}
 use Rattle.integer_core.proofs.bezout.last_row.Goals as goal
 
@@ -19,30 +19,30 @@ div_rem-quotient-requires-clause-quotient_fits g c q h =
 
 pub product-requires-clause-product_fits : goal.product-requires-clause-product_fits
 product-requires-clause-product_fits g c =
-    (turn_fits c.rows.invariant (iff_false c.is_multiple_of.ensures c.rows-test.true) c.div_rem-quotient.ensures.truncated).0.product
+    (iteration_fits c.rows.invariant (iff_false c.is_multiple_of.ensures c.rows-test.true) c.div_rem-quotient.ensures.truncated).0.product
 
 pub difference-x-requires-clause-difference_fits : goal.difference-x-requires-clause-difference_fits
 difference-x-requires-clause-difference_fits g c =
-    let turn = turn_fits c.rows.invariant (iff_false c.is_multiple_of.ensures c.rows-test.true) c.div_rem-quotient.ensures.truncated in
-    rw c.product.ensures.value turn.0.next.in_range
+    let iteration = iteration_fits c.rows.invariant (iff_false c.is_multiple_of.ensures c.rows-test.true) c.div_rem-quotient.ensures.truncated in
+    rw c.product.ensures.value iteration.0.next.in_range
 
 pub product-requires-in-rows-clause-product_fits : goal.product-requires-in-rows-clause-product_fits
 product-requires-in-rows-clause-product_fits g c =
-    (turn_fits c.rows.invariant (iff_false c.is_multiple_of.ensures c.rows-test.true) c.div_rem-quotient.ensures.truncated).1.product
+    (iteration_fits c.rows.invariant (iff_false c.is_multiple_of.ensures c.rows-test.true) c.div_rem-quotient.ensures.truncated).1.product
 
 pub difference-y-requires-clause-difference_fits : goal.difference-y-requires-clause-difference_fits
 difference-y-requires-clause-difference_fits g c =
-    let turn = turn_fits c.rows.invariant (iff_false c.is_multiple_of.ensures c.rows-test.true) c.div_rem-quotient.ensures.truncated in
-    rw c.product-in-rows.ensures.value turn.1.next.in_range
+    let iteration = iteration_fits c.rows.invariant (iff_false c.is_multiple_of.ensures c.rows-test.true) c.div_rem-quotient.ensures.truncated in
+    rw c.product-in-rows.ensures.value iteration.1.next.in_range
 
-pub overflow_add-turns : goal.overflow_add-turns
-overflow_add-turns g c = omega (arith, turns_fit c.requires.nonzero c.rows.invariant)
+pub overflow_add-iterations : goal.overflow_add-iterations
+overflow_add-iterations g c = omega (arith, iterations_fit c.requires.nonzero c.rows.invariant)
 
 pub rows-preserved : goal.rows-preserved
 rows-preserved g c =
     let goes_on = iff_false c.is_multiple_of.ensures c.rows-test.true in
     rw (c.difference-x.ensures.value, c.product.ensures.value, c.difference-y.ensures.value, c.product-in-rows.ensures.value)
-    (rows_fit_turn c.rows.invariant goes_on c.div_rem-quotient.ensures.truncated c.div_rem-quotient.ensures.in_range.1)
+    (rows_fit_iteration c.rows.invariant goes_on c.div_rem-quotient.ensures.truncated c.div_rem-quotient.ensures.in_range.1)
 
 pub returns : goal.returns
 returns g c =
@@ -53,6 +53,6 @@ returns g c =
       y_fits = sign_fits h.range h.current_fits.remainder h.current_fits.y;
       greatest = last_gcd h.rows ends;
       at_once = last_at_once h.rows;
-      after_turns = last_after_turns h.rows ends;
-      turns = reaches_last h.rows.run ends;
+      after_iterations = last_after_iterations h.rows ends;
+      iterations = reaches_last h.rows.run ends;
     }

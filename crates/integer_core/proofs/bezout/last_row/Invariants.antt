@@ -8,7 +8,7 @@ invariant-rows g l =
     RowsFit g.T.Number.fits g.T.Integer.low g.T.Integer.high (n l.fn.a) (n l.fn.b)
     (record { remainder = n l.current.remainder; x = n l.current.x; y = n l.current.y })
     (record { remainder = n l.previous.remainder; x = n l.previous.x; y = n l.previous.y })
-    l.turns
+    l.iterations
 
 abbrev pub decreases-rows : goal.decreases-rows
 decreases-rows g l = unsigned_abs (g.T.Number.value l.current.remainder)

@@ -12,7 +12,7 @@ gcd_of_magnitudes-gcd-requires-clause-power g c smallest m_nonzero n_nonzero = e
 pub number_or-gcd-requires : goal.number_or-gcd-requires
 number_or-gcd-requires g c =
     let counted = c.gcd_of_magnitudes-gcd.ensures in
-    let all = counted_by_magnitudes c.magnitude.ensures.value c.magnitude-2.ensures.value c.has_smallest.ensures counted.greatest counted.at_once counted.by_turns counted.bound in
+    let all = counted_by_magnitudes c.magnitude.ensures.value c.magnitude-2.ensures.value c.has_smallest.ensures counted.greatest counted.at_once counted.by_iterations counted.bound in
     record { number_fits = (gcd_fits_is g.met.T.Native.native_law.range c.requires.in_range.0 c.requires.in_range.1).0 c.requires.gcd_fits _ all.greatest }
 
 pub returns : goal.returns
@@ -20,5 +20,5 @@ returns g c =
     let counted = c.gcd_of_magnitudes-gcd.ensures in
     record {
       in_range = c.number_or-gcd.ensures.in_range;
-      gcd = rw c.number_or-gcd.ensures.value (counted_by_magnitudes c.magnitude.ensures.value c.magnitude-2.ensures.value c.has_smallest.ensures counted.greatest counted.at_once counted.by_turns counted.bound);
+      gcd = rw c.number_or-gcd.ensures.value (counted_by_magnitudes c.magnitude.ensures.value c.magnitude-2.ensures.value c.has_smallest.ensures counted.greatest counted.at_once counted.by_iterations counted.bound);
     }

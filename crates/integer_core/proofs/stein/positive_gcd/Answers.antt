@@ -1,5 +1,5 @@
 use Rattle.std.proofs.Common.{arith}
-use Rattle.integer_core.proofs.OddParts.{few_turns, odd_part_le}
+use Rattle.integer_core.proofs.OddParts.{few_iterations, odd_part_le}
 use Rattle.integer_core.proofs.SteinSteps.{gcd_positive}
 use Rattle.integer_core.proofs.stein.positive_gcd.Goals as goal
 
@@ -16,5 +16,5 @@ returns-clause-gcd g c =
     record {
       greatest = rw c.times_power_of_two.ensures.value (parts.gcd _ odd.greatest).0;
       run = record { first = _; left = parts.left; right = parts.right; run = odd.run };
-      bound = λ k l a_fits b_fits. few_turns k l odd.few (omega (arith, odd_part_le parts.left)) (omega (arith, odd_part_le parts.right));
+      bound = λ k l a_fits b_fits. few_iterations k l odd.few (omega (arith, odd_part_le parts.left)) (omega (arith, odd_part_le parts.right));
     }

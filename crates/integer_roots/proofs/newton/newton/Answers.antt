@@ -9,8 +9,8 @@ pub step-next-requires-in-rise : goal.step-next-requires-in-rise
 step-next-requires-in-rise g c =
     let may = c.requires _ _ (rises c.rise.invariant.reached c.rise.invariant.next_is c.rise-test.true) in search rules
 
-pub overflow_add-turns : goal.overflow_add-turns
-overflow_add-turns g c =
+pub overflow_add-iterations : goal.overflow_add-iterations
+overflow_add-iterations g c =
     omega (arith, (c.requires _ _ (rises c.rise.invariant.reached c.rise.invariant.next_is c.rise-test.true)).1)
 
 pub fall-init : goal.fall-init
@@ -22,6 +22,6 @@ pub step-next-requires-in-fall : goal.step-next-requires-in-fall
 step-next-requires-in-fall g c =
     let may = c.requires _ _ (falls c.fall.invariant.reached c.fall.invariant.next_is c.fall-test.true) in search rules
 
-pub overflow_add-turns-in-fall : goal.overflow_add-turns-in-fall
-overflow_add-turns-in-fall g c =
+pub overflow_add-iterations-in-fall : goal.overflow_add-iterations-in-fall
+overflow_add-iterations-in-fall g c =
     omega (arith, (c.requires _ _ (falls c.fall.invariant.reached c.fall.invariant.next_is c.fall-test.true)).1)

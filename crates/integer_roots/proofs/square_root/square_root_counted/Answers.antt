@@ -1,7 +1,7 @@
 use Rattle.std.proofs.Common.{arith, ◌%◌, ◌*◌, ◌^◌}
 use Rattle.integer_roots.specs.SquareRuns.{first_guess}
 use Rattle.integer_roots.proofs.RootGuesses.{in_range, ended_at_root}
-use Rattle.integer_roots.proofs.SquareGuesses.{IsSquareStart, square_start, near_root, turns_of_run}
+use Rattle.integer_roots.proofs.SquareGuesses.{IsSquareStart, square_start, near_root, iterations_of_run}
 use Rattle.integer_roots.proofs.square_root.square_root_counted.Goals as goal
 use Rattle.integer_roots.proofs.square_root.square_root_counted.Goals.{After-ilog2}
 
@@ -20,6 +20,6 @@ returns c =
     let s = first (goal.at.returns c).After-ilog2 in
     record {
       root = ended_at_root s.start c.newton.ensures.reached c.newton.ensures.ended;
-      turns = turns_of_run s c.newton.ensures.reached c.newton.ensures.ended;
+      iterations = iterations_of_run s c.newton.ensures.reached c.newton.ensures.ended;
       bound = (near_root s c.newton.ensures.reached).bound;
     }

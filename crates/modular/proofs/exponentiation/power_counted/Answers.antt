@@ -1,6 +1,6 @@
 use Rattle.modular.proofs.Common.{arith}
 use Rattle.modular.proofs.Congruences.{congruent-trans}
-use Rattle.modular.proofs.PowerTurns.{few_halvings, halved_first, halved_turn, powering_first, powering_turn, turns_counted}
+use Rattle.modular.proofs.PowerIterations.{few_halvings, halved_first, halved_iteration, powering_first, powering_iteration, iterations_counted}
 use Rattle.modular.proofs.exponentiation.power_counted.Goals as goal
 
 pub halvings-init : goal.halvings-init
@@ -12,15 +12,15 @@ halvings-preserved g c =
     record {
       power_valid = product.valid;
       square_valid = c.product-square.ensures.valid;
-      kept = powering_turn c.halvings.invariant.kept product.congruent c.product-square.ensures.congruent;
-      halved = halved_turn c.halvings.invariant.halved (omega arith);
+      kept = powering_iteration c.halvings.invariant.kept product.congruent c.product-square.ensures.congruent;
+      halved = halved_iteration c.halvings.invariant.halved (omega arith);
     }
 
-pub overflow_add-turns : goal.overflow_add-turns
-overflow_add-turns g c = omega (arith, few_halvings 128 c.halvings.invariant.halved (omega arith) (omega arith))
+pub overflow_add-iterations : goal.overflow_add-iterations
+overflow_add-iterations g c = omega (arith, few_halvings 128 c.halvings.invariant.halved (omega arith) (omega arith))
 
 pub returns-clause-power : goal.returns-clause-power
 returns-clause-power g c = congruent-trans c.halvings.invariant.kept.congruent c.product_if.ensures.congruent
 
-pub returns-clause-turns : goal.returns-clause-turns
-returns-clause-turns g c = turns_counted c.halvings.invariant.halved (omega arith)
+pub returns-clause-iterations : goal.returns-clause-iterations
+returns-clause-iterations g c = iterations_counted c.halvings.invariant.halved (omega arith)

@@ -1,4 +1,4 @@
-use Rattle.modular.proofs.PowerTurns.{Halved, Powering}
+use Rattle.modular.proofs.PowerIterations.{Halved, Powering}
 use Rattle.modular.proofs.exponentiation.power_counted.Given as goal
 
 abbrev pub invariant-halvings : goal.invariant-halvings
@@ -8,7 +8,7 @@ invariant-halvings g l =
       power_valid : g.F.ResidueForm.is_valid l.fn.form l.power;
       square_valid : g.F.ResidueForm.is_valid l.fn.form l.square;
       kept : Powering (g.F.ResidueForm.modulus l.fn.form) (meaning l.fn.base) l.fn.exponent (meaning l.power) (meaning l.square) l.rest;
-      halved : Halved l.fn.exponent l.rest l.turns;
+      halved : Halved l.fn.exponent l.rest l.iterations;
     }
 
 abbrev pub decreases-halvings : goal.decreases-halvings

@@ -7,4 +7,4 @@ returns g c =
     let power = c.power_of_wide.ensures in
     let found = power_of_magnitudes c.parts.result.1 c.args.exponent c.requires.positive c.residue.ensures.residue c.parts-2.ensures.magnitude
     c.parts.ensures.magnitude power.residue in
-    record { in_range = residue_fits g.met.T.Integer.range_law c.requires.in_range.1 found; residue = found; turns = power.turns }
+    record { in_range = residue_fits g.met.T.Integer.range_law c.requires.in_range.1 found; residue = found; iterations = power.iterations }

@@ -8,4 +8,4 @@ returns-clause-residue c =
     let odd = form.odd in
     let below = c.one.ensures.below in
     let few = few_twos odd.modulus form.twos (omega arith) form.fits in
-    power_residue odd.modulus odd.inverse odd.inverts c.args.x c.args.exponent form.twos c.new-modulus.ensures (omega arith) c.form_of-base.ensures.congruent c.power_counted-turns.ensures.power c.residue_of.ensures
+    power_residue odd.modulus odd.inverse odd.inverts c.args.x c.args.exponent form.twos c.new-modulus.ensures (omega arith) c.form_of-base.ensures.congruent c.power_counted-iterations.ensures.power c.residue_of.ensures

@@ -27,11 +27,11 @@ successor-place-requires-clause-sum_fits g c =
     next_place_fits g.met.T.Integer.range_law (omega (arith, ints)) c.requires.k_from_zero (from_test c.is_below.ensures c.if-is_below.false) c.nearer_end-last.ensures.lesser
     c.requires.n_in_range (c.is_below-in-loop-n.ensures.0 c.loop-n-test.true)
 
-pub overflow_add-turns : goal.overflow_add-turns
-overflow_add-turns g c =
+pub overflow_add-iterations : goal.overflow_add-iterations
+overflow_add-iterations g c =
     let more = c.is_below-in-loop-n.ensures.0 c.loop-n-test.true in
     let within = from_test c.is_below.ensures c.if-is_below.false in
-    let power = power_below_answer (unsigned_abs (g.T.Number.value c.args.n)) (unsigned_abs (g.T.Number.value c.args.k)) (c.loop-n.turns + 1) (omega (arith, ints)) (omega (arith, ints)) in
+    let power = power_below_answer (unsigned_abs (g.T.Number.value c.args.n)) (unsigned_abs (g.T.Number.value c.args.k)) (c.loop-n.iterations + 1) (omega (arith, ints)) (omega (arith, ints)) in
     omega (arith, few_bits _ _ g.met.T.Integer.range_law c.requires.coefficient_fits power)
 
 pub returns-clause-coefficient : goal.returns-clause-coefficient
@@ -39,8 +39,8 @@ returns-clause-coefficient g c =
     c.loop-n.invariant.coefficient ∙ last_coefficient g.met.T.Integer.range_law (omega (arith, ints)) c.requires.k_from_zero (from_test c.is_below.ensures c.if-is_below.false)
     c.nearer_end-last.ensures.lesser c.loop-n.invariant.within (from_test c.is_below-in-loop-n.ensures c.loop-n-test.false)
 
-pub returns-clause-turns : goal.returns-clause-turns
-returns-clause-turns g c =
+pub returns-clause-iterations : goal.returns-clause-iterations
+returns-clause-iterations g c =
     let done = from_test c.is_below-in-loop-n.ensures c.loop-n-test.false in
     omega (arith, ints)
 

@@ -1,5 +1,5 @@
 use Rattle.std.proofs.Common.{arith, refl}
-use Rattle.ratio64.proofs.NeighbourTurns.{steps_within}
+use Rattle.ratio64.proofs.NeighbourIterations.{steps_within}
 use Rattle.ratio64.proofs.neighbours.closer.Goals as goal
 
 pub overflow_mul-result : goal.overflow_mul-result

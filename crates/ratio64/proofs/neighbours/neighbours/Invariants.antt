@@ -2,8 +2,8 @@ use Rattle.std.proofs.Common.{◌+◌}
 use Rattle.ratio64.specs.Neighbours.{AreNeighbours}
 use Rattle.ratio64.proofs.neighbours.neighbours.Given as goal
 
-abbrev pub invariant-turns : goal.invariant-turns
-invariant-turns l = AreNeighbours l.num l.den l.max l.below l.above
+abbrev pub invariant-iterations : goal.invariant-iterations
+invariant-iterations l = AreNeighbours l.num l.den l.max l.below l.above
 
-abbrev pub decreases-turns : goal.decreases-turns
-decreases-turns l = l.below.gap + l.above.gap
+abbrev pub decreases-iterations : goal.decreases-iterations
+decreases-iterations l = l.below.gap + l.above.gap

@@ -1,5 +1,5 @@
 use Rattle.std.proofs.lemmas.Int.{to_z-of_z}
-use Rattle.theorems.proofs.headline.turns_for_bezout_pair_of_i64.Goals as goal
+use Rattle.theorems.proofs.headline.iterations_for_bezout_pair_of_i64.Goals as goal
 
 pub returns : goal.returns
 returns c =
@@ -7,6 +7,6 @@ returns c =
     let b = c.ranges.b in
     record {
       named = simp to_z-of_z at c.extended_gcd_counted.ensures.answer;
-      turns = simp to_z-of_z at c.extended_gcd_counted.ensures.turns;
+      iterations = simp to_z-of_z at c.extended_gcd_counted.ensures.iterations;
       bound = simp to_z-of_z at c.extended_gcd_counted.ensures.bound;
     }

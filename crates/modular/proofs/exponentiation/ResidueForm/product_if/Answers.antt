@@ -1,4 +1,4 @@
-use Rattle.modular.proofs.PowerTurns.{times_at_one, times_at_zero}
+use Rattle.modular.proofs.PowerIterations.{times_at_one, times_at_zero}
 use Rattle.modular.proofs.exponentiation.ResidueForm.product_if.Goals as goal
 
 pub returns-then-digit-eq1-clause-congruent : goal.returns-then-digit-eq1-clause-congruent

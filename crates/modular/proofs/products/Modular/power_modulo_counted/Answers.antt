@@ -1,6 +1,6 @@
 use Rattle.std.proofs.Common.{rules}
 use Rattle.modular.proofs.BelowModulus.{below_fits}
-use Rattle.modular.proofs.PowerTurns.{residue_of_power}
+use Rattle.modular.proofs.PowerIterations.{residue_of_power}
 use Rattle.modular.proofs.products.Modular.power_modulo_counted.Goals as goal
 
 pub power_counted-requires-clause-one_valid : goal.power_counted-requires-clause-one_valid
