@@ -11,7 +11,7 @@ use std::num::TryFromIntError;
 #[inline]
 pub fn narrowed<T: Num + TryFrom<i128, Error = TryFromIntError>>(number: i128) -> Option<T>
     requires { Narrows T.value T.fits T.try_from_gives }
-    ensures { MatchOption result (¬ (T.fits number)) (λ x. (T.value x ≡ number) × T.fits number) }
+    ensures { MatchOption result (¬ (T.fits number)) (λ x. T.fits number × (T.value x ≡ number)) }
 {
     T::try_from(number).ok()
 }
