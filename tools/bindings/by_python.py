@@ -266,12 +266,12 @@ def next_common_solution(start: int, a: int, m: int, b: int, n: int) -> int:
     return next_congruent(start, *chinese_remainder(a, m, b, n))
 
 
-def next_congruent(start: int, first: int, step: int) -> int:
-    return start + (first - start) % modulus(step)
+def next_congruent(start: int, residue: int, m: int) -> int:
+    return start + (residue - start) % modulus(m)
 
 
-def count_congruent(start: int, end: int, first: int, step: int) -> int:
-    return max(0, (end - first) // modulus(step) - ceil(start - first, step) + 1)
+def count_congruent(start: int, end: int, residue: int, m: int) -> int:
+    return max(0, (end - residue) // modulus(m) - ceil(start - residue, m) + 1)
 
 
 # ---- fractions
@@ -492,7 +492,7 @@ CONGRUENCES: dict[str, Maker] = {
     'product_modulo': modulo(operator.mul),
     'power_modulo': lambda a, exponent, m: pow(a, exponent, modulus(m)),
     'inverse_modulo': lambda a, m: quotient_modulo(1, a, m),
-    'previous_congruent': lambda end, first, step: end - (end - first) % modulus(step),
+    'previous_congruent': lambda end, residue, m: end - (end - residue) % modulus(m),
     'next_meeting': lambda now, a, p, b, q: next_common_solution(max(now, a, b), a, p, b, q),
     'count_times': lambda start, end, first, period: count_congruent(max(start, first), end, first, period),
 }

@@ -14,7 +14,7 @@ only_or_beyond P None {found} only beyond h = λ z k fits. beyond (subst (λ (x 
 only_or_beyond P (Some x) only fits h = subst P (sym fits.1) h
 
 -- a number, if it fits, and else one that does not
-pub found_or_beyond : (P : ℤ → Type 0) (o : Option ℤ) {found : ℤ} → SomeIff o (FitsSigned w64 found) found → P found → MatchOption o ((z : ℤ) × P z × ¬ (FitsSigned w64 z)) P
+pub found_or_beyond : (P : ℤ → Type 0) (o : Option ℤ) {found : ℤ} → MatchOption o (¬ (FitsSigned w64 found)) (λ x. FitsSigned w64 found × (x ≡ found)) → P found → MatchOption o ((z : ℤ) × P z × ¬ (FitsSigned w64 z)) P
 found_or_beyond P None {found} beyond h = (found, h, beyond)
 found_or_beyond P (Some x) fits h = subst P (sym fits.1) h
 
@@ -22,3 +22,8 @@ found_or_beyond P (Some x) fits h = subst P (sym fits.1) h
 pub some_from_ok : {A E : Type 0} (P : Type 0) (x : A) (r : Result A E) {o : Option A} → OkIff r P x → o ≡ result_ok r → SomeIff o P x
 some_from_ok P x (Ok n) h e = rw e h
 some_from_ok P x (Err d) h e = rw e h
+
+-- the value of `narrowed`, if it fits
+pub some_narrowed : (P : Type 0) (n : ℤ) (o : Option ℤ) → MatchOption o (¬ P) (λ x. P × (x ≡ n)) → SomeIff o P n
+some_narrowed P n None h = h
+some_narrowed P n (Some x) h = h

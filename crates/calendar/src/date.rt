@@ -11,7 +11,8 @@ use crate::eras::{
     near_year, parts_from_march,
 };
 use crate::months::{days_before_month, length_of_month, month_and_day_in_year};
-use crate::years::{at_64_bits, nearby_year};
+use crate::years::nearby_year;
+use integer_core::narrowing::narrowed;
 
 /// The day of era 0 that is 1970-01-01, as [`Date::day_of_era`] counts days.
 const EPOCH_IN_ERA_0: i64 = 865566;
@@ -117,7 +118,7 @@ impl Date {
     fn far_day_number(&self) -> Option<i64>
         ensures { SomeIff result (FitsSigned w64 (number_of self.now)) (number_of self.now) }
     {
-        at_64_bits(self.wide_day_number())
+        narrowed(self.wide_day_number())
     }
 
     /// Returns the next date, or `None` if it is in the year after `i64::MAX`.
@@ -270,7 +271,7 @@ impl Date {
             (λ date. HasParts date (self.now.year +ℤ pos 400 *ℤ eras) self.now.month self.now.day_of_month) }
     {
         Some(Self {
-            year: at_64_bits(i128::from(self.year) + i128::from(YEARS_PER_ERA) * i128::from(eras))?,
+            year: narrowed(i128::from(self.year) + i128::from(YEARS_PER_ERA) * i128::from(eras))?,
             month: self.month,
             day_of_month: self.day_of_month,
         })

@@ -10,7 +10,7 @@ ghost use Rattle.calendar.specs.declared.date.Date.{Date};
 use crate::Date;
 use crate::eras::days_of_eras;
 use crate::months::length_of_month;
-use crate::years::at_64_bits;
+use integer_core::narrowing::narrowed;
 use integer_core::{div_floor, div_mod_floor};
 
 impl Date {
@@ -52,7 +52,7 @@ impl Date {
             ((months : ℤ) × IsMonthsBetween self.now to.now months × ¬ (FitsSigned w64 months))
             (λ months. IsMonthsBetween self.now to.now months) }
     {
-        at_64_bits(whole_months(self, to))
+        narrowed(whole_months(self, to))
     }
 
     /// Returns the number of whole years from this date to `to`, which is negative if `to` is earlier, or
@@ -64,7 +64,7 @@ impl Date {
             ((years : ℤ) × IsYearsBetween self.now to.now years × ¬ (FitsSigned w64 years))
             (λ years. IsYearsBetween self.now to.now years) }
     {
-        at_64_bits(div_floor(whole_months(self, to), 12))
+        narrowed(div_floor(whole_months(self, to), 12))
     }
 
     /// Returns the number of the month, counted from January of year 0.
@@ -139,5 +139,5 @@ fn month_of(number: i128) -> Option<(i64, u8)>
         (λ found. (1 ≤ found.1) × (found.1 ≤ 12) × (month_number found.0 found.1 ≡ number)) }
 {
     let (year, month) = div_mod_floor(number, 12);
-    Some((at_64_bits(year)?, month as u8 + 1))
+    Some((narrowed(year)?, month as u8 + 1))
 }

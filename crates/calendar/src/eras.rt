@@ -10,7 +10,7 @@ ghost use Rattle.std.specs.Option.{SomeIff};
 ghost use Rattle.calendar.specs.Months.{IsDate, days_before_month};
 ghost use Rattle.calendar.specs.Years.{day_number, days_in_year};
 
-use crate::years::at_64_bits;
+use integer_core::narrowing::narrowed;
 
 /// The years of an era.
 pub(crate) const YEARS_PER_ERA: i64 = 400;
@@ -94,7 +94,7 @@ pub(crate) fn days_of_eras(eras: i64, days: i64) -> Option<i64>
 {
     match DAYS_PER_ERA.checked_mul(eras) {
         Some(whole) => whole.checked_add(days),
-        None => at_64_bits(i128::from(DAYS_PER_ERA) * i128::from(eras) + i128::from(days)),
+        None => narrowed(i128::from(DAYS_PER_ERA) * i128::from(eras) + i128::from(days)),
     }
 }
 

@@ -2,7 +2,6 @@
 
 ghost use Rattle.std.specs.Prelude.{◌≡◌, ◌↔◌, ◌<◌, ◌≤◌, ◌≤ℤ◌, ◌<ℤ◌, ◌+ℤ◌, ℤ, pos, FitsSigned, IsTrue, MatchOption};
 ghost use Rattle.std.specs.Int.{w64};
-ghost use Rattle.std.specs.Option.{SomeIff};
 ghost use Rattle.calendar.specs.LeapYears.{is_leap_year, is_multiple};
 ghost use Rattle.calendar.specs.Years.{HasDay, days_in_year, first_day};
 
@@ -82,12 +81,4 @@ pub(crate) fn nearby_year(year: i64, days: i64) -> Option<(i64, u16)>
         let after = year.checked_add(1)?;
         Some((after, (days - length_of(year)) as u16))
     }
-}
-
-/// Returns the number as an `i64`, or `None` if it does not fit.
-#[inline]
-pub(crate) fn at_64_bits(number: i128) -> Option<i64>
-    ensures { SomeIff result (FitsSigned w64 number) number }
-{
-    i64::try_from(number).ok()
 }

@@ -6,9 +6,12 @@
 //!
 //! | file | what it shows |
 //! |---|---|
-//! | `plain.rt` | calls of `num_integer`; a plain fact on the arguments meets the condition of most |
-//! | `matched.rt` | results that a caller of `num_integer` matches on |
-//! | `rows.rt` | rows of Pascal's triangle |
+//! | `quotients.rt` | quotients and remainders; a plain fact on the arguments meets the condition of most calls |
+//! | `multiples.rt` | multiples, least common multiples |
+//! | `divisors.rt` | greatest common divisors and their bounds, sums of divisors, first common multiples |
+//! | `roots.rt` | square roots, roots of a degree |
+//! | `numbers.rt` | sums, differences, products that may not fit |
+//! | `rows.rt` | binomial coefficients, rows of Pascal's triangle |
 //! | `residues.rt` | `modular`: residues, inverses, congruences |
 //! | `fractions.rt` | `ratio64`: exact results and errors, rounding |
 //! | `decimals.rt` | `ratio64`: fractions rounded half to even, and decimal numbers |
@@ -18,7 +21,6 @@
 //! | `lists.rt` | `applied`: multiples and sums of lists, reduced pairs, a rolling hash |
 //! | `rounding.rt` | `applied`: nearest quotients, roots, powers, logarithms, midpoints, factorials |
 //! | `amounts.rt` | a divisor that is computed in the call, a wider type and back, equal parts |
-//! | `divisors.rt` | sums of divisors, first common multiples, a bound of a gcd |
 //! | `powers.rt` | `modular`: powers as natural numbers, sums of exponents |
 //! | `tasks.rt` | everyday tasks: pages of items, a cipher, amounts of money, a recipe, a line of bytes |
 //!
@@ -35,11 +37,13 @@ pub mod decimals;
 pub mod divisors;
 pub mod fractions;
 pub mod lists;
-pub mod matched;
+pub mod multiples;
+pub mod numbers;
 pub mod pages;
-pub mod plain;
 pub mod powers;
+pub mod quotients;
 pub mod residues;
+pub mod roots;
 pub mod rounding;
 pub mod rows;
 pub mod tasks;

@@ -1,10 +1,10 @@
-//! Functions that use rows of Pascal's triangle.
+//! Binomial coefficients, and rows of Pascal's triangle.
 
-ghost use Rattle.std.specs.Prelude.{◌≡◌, ◌<◌, FitsSigned, IfOk, IfSome, None, map, pos};
+ghost use Rattle.std.specs.Prelude.{◌≡◌, ◌<◌, IfSome, pos, FitsSigned, IfOk, None, map};
 ghost use Rattle.std.specs.Int.{FitsUnsignedBits, w8};
-ghost use Rattle.num_integer.specs.Row.{RowFits, row_of};
+ghost use Rattle.num_integer.specs.Row.{row_of, RowFits};
 
-use num_integer::{Integer, IterBinomial};
+use num_integer::{Integer, IterBinomial, binomial};
 use std::alloc::{AllocError, Global};
 
 /// Collects the row of `n`. If the result is `Ok`, its items are the coefficients of `n` and 0, 1 and so on to `n`.
@@ -66,4 +66,20 @@ pub fn largest_item<T: Integer>(n: T) -> Option<T>
     ensures { IfSome result (λ item. T.fits (T.value item)) }
 {
     IterBinomial::new(n).max()
+}
+
+/// Returns the number of ways to choose 4 of 9 things. It is a binomial coefficient of literals.
+#[tactic(auto, unfolding(num_integer::specs::Coefficient::coefficient))]
+pub fn choices_of_4_out_of_9() -> u8
+    ensures { result ≡ 126 }
+{
+    binomial(9, 4)
+}
+
+/// Returns the row of Pascal's triangle of a literal.
+#[tactic(auto, unfolding(num_integer::specs::Coefficient::coefficient))]
+pub fn row_of_three() -> IterBinomial<u8>
+    ensures { result ≡ row_of (pos 3) }
+{
+    IterBinomial::new(3)
 }

@@ -15,7 +15,7 @@ use Rattle.cellarcove_c.specs.Dates.{IsDayBeyond, IsOfIsoNumber}
 
 -- ---- weeks
 
--- a year that has a week has the earlier ones
+-- if a year has week w, it has each week from 1 to w
 earlier_week : {day year : ℤ} {week : ℕ} (n : ℕ) → 1 ≤ week → IsInIsoWeek day year (week + n) → HasIsoWeek year week
 earlier_week n from h =
     let thursday = h.thursday -ℤ pos 7 *ℤ pos n in

@@ -10,7 +10,7 @@ use Rattle.ratio64.specs.Ratio.{AnswersFraction, num_of, den_of}
 use Rattle.ratio64.specs.declared.fraction.Ratio.{Ratio}
 use Rattle.ratio64.specs.declared.error.RatioError.{RatioError}
 use Rattle.intcalc_core.specs.Fractions.{IsRatioOf}
-use Rattle.intcalc_core.specs.Outcome.{AnswersExact, Inside, NeedsFractions, NeedsParts, OutcomeIn, PartsFit}
+use Rattle.intcalc_core.specs.Outcome.{AnswersExact, OutcomeOfFitting, NeedsFractions, NeedsParts, OutcomeIn, PartsFit}
 use Rattle.intcalc_core.specs.declared.calls.Answer.{Answer}
 use Rattle.intcalc_core.specs.declared.calls.Answer.TheVariants.{Two}
 use Rattle.intcalc_core.specs.declared.calls.Call.TheVariants.{RatioAdd, RatioMul}
@@ -62,11 +62,11 @@ module _ {a b c d : ℤ} (a_fits : FitsSigned w128 a) (b_fits : FitsSigned w128 
         rw (same.1, same.2) given
 
     pub sum_refused : OutcomeIn fits (RatioAdd a b c d) r
-    unfolding Inside
+    unfolding OutcomeOfFitting
     sum_refused = refused_given given_error
 
     pub product_refused : OutcomeIn fits (RatioMul a b c d) r
-    unfolding Inside
+    unfolding OutcomeOfFitting
     product_refused = refused_given given_error
 
   -- the operands gave the fractions x and y
@@ -76,12 +76,12 @@ module _ {a b c d : ℤ} (a_fits : FitsSigned w128 a) (b_fits : FitsSigned w128 
 
     pub sum_outcome : {r : Result Answer Refusal} (answer : Result Ratio RatioError) → MatchResult answer (λ z. r ≡ Ok (Two (num_of z) (den_of z))) (λ _. r ≡ Err NotFitting)
         → AnswersFraction (num_of x *ℤ den_of y +ℤ num_of y *ℤ den_of x) (den_of x *ℤ den_of y) answer → OutcomeIn fits (RatioAdd a b c d) r
-    unfolding Inside
+    unfolding OutcomeOfFitting
     sum_outcome answer is k = inr (given.0, asked answer given.1 given.2 (denominators given.1 given.2) (sum_of_exact_results given.1.exact given.2.exact k) is)
 
     pub product_outcome : {r : Result Answer Refusal} (answer : Result Ratio RatioError) → MatchResult answer (λ z. r ≡ Ok (Two (num_of z) (den_of z))) (λ _. r ≡ Err NotFitting)
         → AnswersFraction (num_of x *ℤ num_of y) (den_of x *ℤ den_of y) answer → OutcomeIn fits (RatioMul a b c d) r
-    unfolding Inside
+    unfolding OutcomeOfFitting
     product_outcome answer is k = inr (given.0, asked answer given.1 given.2 (denominators given.1 given.2) (product_of_exact_results given.1.exact given.2.exact k) is)
 
 -- ---- operands that were narrowed to x, y, z and w

@@ -10,14 +10,15 @@ use Rattle.std.proofs.lemmas.Str.Parse.{IsNumeralModel, not_in_digits, numerals_
 use Rattle.std.proofs.lemmas.Bool.Decides.{nat_tests}
 use Rattle.std.proofs.lemmas.Bool.{cases_Bool, cases_lt}
 use Rattle.intcalc_core.specs.RatioText.{unsigned_part, whole_of}
-use Rattle.intcalc_core.specs.Number.{is_number_word, spelled_number}
+use Rattle.intcalc_core.specs.IntegerWords.{is_integer_word}
+use Rattle.intcalc_core.specs.Number.{spelled_number}
 
 decimal_model : IsNumeralModel (λ ds. list_all is_ascii_digit ds ≡ true) (digits_value 10)
 decimal_model = numerals_by_value _ (search rules)
 
 -- ---- a number word is a numeral with an optional `-`
 
-numeral : (word : List ℕ) → is_number_word word ≡ true → IsNumeral 10 (unsigned_part word)
+numeral : (word : List ℕ) → is_integer_word word ≡ true → IsNumeral 10 (unsigned_part word)
 numeral word h = (grind (arith, nat_tests), decimal_model.to (unsigned_part word) (grind (arith, nat_tests)))
 
 -- without a sign, its digits are all of it
@@ -31,7 +32,7 @@ same_part word h = elim (cases_Bool (starts_with_minus word)) [
 ]
 
 -- so `parse` reads its value
-read_as : {E : Type 0} (word : List ℕ) (r : Result ℤ E) → ParsesSigned w128 10 word r → is_number_word word ≡ true → OkIff r (FitsSigned w128 (whole_of word)) (whole_of word)
+read_as : {E : Type 0} (word : List ℕ) (r : Result ℤ E) → ParsesSigned w128 10 word r → is_integer_word word ≡ true → OkIff r (FitsSigned w128 (whole_of word)) (whole_of word)
 read_as word (Ok n) h is = let same = rw (same_part word (numeral word is)) at h in (same.0.1, same.1)
 read_as word (Err e) h is = let same = rw (same_part word (numeral word is)) at h in λ fits. same (numeral word is, fits)
 
@@ -50,20 +51,20 @@ below (suc n) far = elim (cases_lt n (2 ^ 127)) [ inl small ↦ absurd (far (rec
 
 -- ---- what `read_number` returns
 
-pub read_ok : {E : Type 0} (word : List ℕ) (r : Result ℤ E) (n : ℤ) → ParsesSigned w128 10 word r → r ≡ Ok n → is_number_word word ≡ true → Some n ≡ spelled_number word
+pub read_ok : {E : Type 0} (word : List ℕ) (r : Result ℤ E) (n : ℤ) → ParsesSigned w128 10 word r → r ≡ Ok n → is_integer_word word ≡ true → Some n ≡ spelled_number word
 read_ok {E} word (Ok m) n h is d =
     let read = read_as {E = E} word (Ok m) h d in
     let same : n ≡ whole_of word = cc (is, read.1) in
     rw d (ap Some (same ∙ sym (inside (whole_of word) read.0)))
 read_ok word (Err e) n h is d = cc
 
-pub read_low : {E : Type 0} (word : List ℕ) (r : Result ℤ E) (e : E) → ParsesSigned w128 10 word r → r ≡ Err e → is_number_word word ≡ true → starts_with_minus word ≡ true → Some (negsuc (2 ^ 127 - 1)) ≡ spelled_number word
+pub read_low : {E : Type 0} (word : List ℕ) (r : Result ℤ E) (e : E) → ParsesSigned w128 10 word r → r ≡ Err e → is_integer_word word ≡ true → starts_with_minus word ≡ true → Some (negsuc (2 ^ 127 - 1)) ≡ spelled_number word
 read_low word (Ok n) e h is d minus = cc
 read_low {E} word (Err x) e h is d minus =
     let far = rw minus at (read_as {E = E} word (Err x) h d) in
     rw d (rw minus (ap Some (sym (below _ far))))
 
-pub read_high : {E : Type 0} (word : List ℕ) (r : Result ℤ E) (e : E) → ParsesSigned w128 10 word r → r ≡ Err e → is_number_word word ≡ true → starts_with_minus word ≡ false → Some (pos (2 ^ 127 - 1)) ≡ spelled_number word
+pub read_high : {E : Type 0} (word : List ℕ) (r : Result ℤ E) (e : E) → ParsesSigned w128 10 word r → r ≡ Err e → is_integer_word word ≡ true → starts_with_minus word ≡ false → Some (pos (2 ^ 127 - 1)) ≡ spelled_number word
 read_high word (Ok n) e h is d plain = cc
 read_high {E} word (Err x) e h is d plain =
     let far = rw plain at (read_as {E = E} word (Err x) h d) in

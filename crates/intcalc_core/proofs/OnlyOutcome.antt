@@ -16,7 +16,7 @@ use Rattle.intcalc_core.specs.declared.calls.Call.{Call}
 use Rattle.intcalc_core.specs.declared.calls.Call.TheVariants.{DivRem, DivModFloor, DivFloor, DivCeil, ModFloor, NextMultipleOf, PrevMultipleOf, IsMultipleOf, Gcd, Lcm, GcdLcm, ExtendedGcd, AverageFloor, AverageCeil, Sqrt, Cbrt, NthRoot, Binomial, RatioAdd, RatioMul}
 use Rattle.intcalc_core.specs.declared.calls.Kind.{Kind}
 use Rattle.intcalc_core.specs.declared.calls.Refusal.{Refusal}
-use Rattle.intcalc_core.specs.Outcome.{AnswersOne, AnswersTwo, AnswersThree, AnswersWhether, AreGcdAndLcm, FitsKind, Inside, NeedsFractions, AnswersExact, Outcome}
+use Rattle.intcalc_core.specs.Outcome.{AnswersOne, AnswersTwo, AnswersThree, AnswersWhether, AreGcdAndLcm, FitsKind, OutcomeOfFitting, NeedsFractions, AnswersExact, Outcome}
 use Rattle.ratio64.specs.Fraction.{IsExact}
 use Rattle.ratio64.proofs.Laws.{exact_result_is_only}
 
@@ -67,28 +67,28 @@ only_gcd_and_lcm a b g l h (i, m) k = rw (gcd_is_only a b g h.greatest i k.great
 only_fractions : {a b c d : ℤ} (m n : ℤ) {r s : Result Answer Refusal} → NeedsFractions a b c d (AnswersExact m n) r → NeedsFractions a b c d (AnswersExact m n) s → s ≡ r
 only_fractions m n = only_needs (only_needs (only_needs (only_needs (only_needs (only_two (IsExact m n) (exact_result_is_only m n))))))
 
-only_inside : (fits : ℤ → Type 0) (call : Call) (r s : Result Answer Refusal) → Inside fits call r → Inside fits call s → s ≡ r
-unfolding Inside
-only_inside fits (DivRem n d) r s = only_needs (only_needs (only_two (IsTruncated n d) (division_is_only.0 n d)))
-only_inside fits (DivModFloor n d) r s = only_needs (only_needs (only_two (IsFloored n d) (division_is_only.1 n d)))
-only_inside fits (DivFloor n d) r s = only_needs (only_needs (only_one (IsQuotient IsFloored n d) (only_quotient division_is_only.1 n d)))
-only_inside fits (DivCeil n d) r s = only_needs (only_needs (only_one (IsQuotient IsCeiled n d) (only_quotient division_is_only.2 n d)))
-only_inside fits (ModFloor n d) r s = only_needs (only_one (IsRemainder IsFloored n d) (only_remainder division_is_only.1 n d))
-only_inside fits (NextMultipleOf n d) r s = only_needs (only_needs (only_one (IsMultiple IsCeiled n d) (only_multiple division_is_only.2 n d)))
-only_inside fits (PrevMultipleOf n d) r s = only_needs (only_needs (only_one (IsMultiple IsFloored n d) (only_multiple division_is_only.1 n d)))
-only_inside fits (IsMultipleOf n d) r s = only_whether
-only_inside fits (Gcd a b) r s = only_needs (only_one (IsGreatestCommonDivisor a b) (gcd_is_only a b))
-only_inside fits (Lcm a b) r s = only_needs (only_one (IsLeastCommonMultiple a b) (lcm_is_only a b))
-only_inside fits (GcdLcm a b) r s = only_needs (only_needs (only_two (AreGcdAndLcm a b) (only_gcd_and_lcm a b)))
-only_inside fits (ExtendedGcd a b) r s = only_needs (only_needs only_bezout)
-only_inside fits (AverageFloor a b) r s = only_one (IsAverageFloor a b) (average_floor_is_only a b)
-only_inside fits (AverageCeil a b) r s = only_one (IsAverageCeil a b) (average_ceil_is_only a b)
-only_inside fits (Sqrt x) r s = only_needs (only_one (IsRoot x 2) (root_is_only x 2))
-only_inside fits (Cbrt x) r s = only_one (IsRoot x 3) (root_is_only x 3)
-only_inside fits (NthRoot x n) r s = only_needs (only_needs (only_one (IsRoot x (unsigned_abs n)) (root_is_only x (unsigned_abs n))))
-only_inside fits (Binomial n k) r s = only_needs (only_needs (only_one (λ c. c ≡ coefficient_of n k) (λ _ h _ k. k ∙ sym h)))
-only_inside fits (RatioAdd a b c d) r s = only_fractions (a *ℤ d +ℤ c *ℤ b) (b *ℤ d)
-only_inside fits (RatioMul a b c d) r s = only_fractions (a *ℤ c) (b *ℤ d)
+only_of_fitting : (fits : ℤ → Type 0) (call : Call) (r s : Result Answer Refusal) → OutcomeOfFitting fits call r → OutcomeOfFitting fits call s → s ≡ r
+unfolding OutcomeOfFitting
+only_of_fitting fits (DivRem n d) r s = only_needs (only_needs (only_two (IsTruncated n d) (division_is_only.0 n d)))
+only_of_fitting fits (DivModFloor n d) r s = only_needs (only_needs (only_two (IsFloored n d) (division_is_only.1 n d)))
+only_of_fitting fits (DivFloor n d) r s = only_needs (only_needs (only_one (IsQuotient IsFloored n d) (only_quotient division_is_only.1 n d)))
+only_of_fitting fits (DivCeil n d) r s = only_needs (only_needs (only_one (IsQuotient IsCeiled n d) (only_quotient division_is_only.2 n d)))
+only_of_fitting fits (ModFloor n d) r s = only_needs (only_one (IsRemainder IsFloored n d) (only_remainder division_is_only.1 n d))
+only_of_fitting fits (NextMultipleOf n d) r s = only_needs (only_needs (only_one (IsMultiple IsCeiled n d) (only_multiple division_is_only.2 n d)))
+only_of_fitting fits (PrevMultipleOf n d) r s = only_needs (only_needs (only_one (IsMultiple IsFloored n d) (only_multiple division_is_only.1 n d)))
+only_of_fitting fits (IsMultipleOf n d) r s = only_whether
+only_of_fitting fits (Gcd a b) r s = only_needs (only_one (IsGreatestCommonDivisor a b) (gcd_is_only a b))
+only_of_fitting fits (Lcm a b) r s = only_needs (only_one (IsLeastCommonMultiple a b) (lcm_is_only a b))
+only_of_fitting fits (GcdLcm a b) r s = only_needs (only_needs (only_two (AreGcdAndLcm a b) (only_gcd_and_lcm a b)))
+only_of_fitting fits (ExtendedGcd a b) r s = only_needs (only_needs only_bezout)
+only_of_fitting fits (AverageFloor a b) r s = only_one (IsAverageFloor a b) (average_floor_is_only a b)
+only_of_fitting fits (AverageCeil a b) r s = only_one (IsAverageCeil a b) (average_ceil_is_only a b)
+only_of_fitting fits (Sqrt x) r s = only_needs (only_one (IsRoot x 2) (root_is_only x 2))
+only_of_fitting fits (Cbrt x) r s = only_one (IsRoot x 3) (root_is_only x 3)
+only_of_fitting fits (NthRoot x n) r s = only_needs (only_needs (only_one (IsRoot x (unsigned_abs n)) (root_is_only x (unsigned_abs n))))
+only_of_fitting fits (Binomial n k) r s = only_needs (only_needs (only_one (λ c. c ≡ coefficient_of n k) (λ _ h _ k. k ∙ sym h)))
+only_of_fitting fits (RatioAdd a b c d) r s = only_fractions (a *ℤ d +ℤ c *ℤ b) (b *ℤ d)
+only_of_fitting fits (RatioMul a b c d) r s = only_fractions (a *ℤ c) (b *ℤ d)
 
 pub only_outcome : (kind : Kind) (call : Call) (r : Result Answer Refusal) → Outcome kind call r → IsOnly (Outcome kind call) r
-only_outcome kind call r outcome s = only_needs (only_needs (only_inside (FitsKind kind) call r s)) outcome
+only_outcome kind call r outcome s = only_needs (only_needs (only_of_fitting (FitsKind kind) call r s)) outcome

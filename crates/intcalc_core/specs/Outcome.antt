@@ -1,5 +1,5 @@
 -- The result of each call at each kind, and the order of the refusals.
-use Rattle.std.specs.Prelude.{◌≡◌, ◌≢◌, ◌⊎◌, ◌↔◌, ◌%◌, ◌≤ℤ◌, ◌+ℤ◌, ◌*ℤ◌, ℤ, pos, unsigned_abs, Bool, IsTrue, List, [], ◌∷◌, ⊤, Result, Ok, Err, MatchResult, FitsSigned}
+use Rattle.std.specs.Prelude.{◌≡◌, ◌≢◌, ◌⊎◌, ◌↔◌, ◌%◌, ◌≤ℤ◌, ◌+ℤ◌, ◌*ℤ◌, ℤ, pos, unsigned_abs, Bool, IsTrue, List, [], ◌∷◌, ⊤, Result, Ok, Err, FitsSigned}
 use Rattle.std.specs.Int.{w8, w64, FitsUnsignedBits}
 use Rattle.num_integer.specs.Averages.{IsAverageFloor, IsAverageCeil}
 use Rattle.num_integer.specs.Bezout.{HasPair, IsBezoutAnswer}
@@ -26,12 +26,6 @@ FitsKind I8 = λ n. FitsSigned w8 n
 FitsKind U8 = FitsUnsignedBits 8
 FitsKind I64 = λ n. FitsSigned w64 n
 FitsKind U64 = FitsUnsignedBits 64
-
--- A conversion returns the value that means a number if the type has one, and otherwise fails.
--- Examples: to `i8`: 127; -128; not 128.
-abbrev pub Narrows : {T E : Type 0} → (T → ℤ) → (ℤ → Type 0) → (ℤ → Result T E → Type 0) → Type 0
-Narrows {T} {E} value fits gives = (n : ℤ) (r : Result T E) → gives n r
-    → MatchResult r (λ x. (value x ≡ n) × fits n) (λ _. ¬ (fits n))
 
 -- The result is what the rest says if the condition holds, and otherwise the refusal.
 -- Examples: that 0 is not 0, `ZeroDivisor`: `ZeroDivisor`; that 3 is not 0: the rest.
@@ -113,50 +107,50 @@ NeedsFractions a b c d rest = NeedsDivisor b (NeedsDivisor d (NeedsInsideI64 a b
 
 -- The result of a call whose operands fit: the first refusal whose condition holds, and otherwise the answer.
 -- Examples: `DivFloor` 7 by 0: `ZeroDivisor`; in `i8` -128 by -1: `NotFitting`; 7 by 2: 3.
-unfoldable pub Inside : (ℤ → Type 0) → Call → Result Answer Refusal → Type 0
-Inside fits (DivRem n d) =
+unfoldable pub OutcomeOfFitting : (ℤ → Type 0) → Call → Result Answer Refusal → Type 0
+OutcomeOfFitting fits (DivRem n d) =
     NeedsDivisor d (NeedsFitting fits (IsQuotient IsTruncated n d) (AnswersTwo (IsTruncated n d)))
-Inside fits (DivModFloor n d) =
+OutcomeOfFitting fits (DivModFloor n d) =
     NeedsDivisor d (NeedsFitting fits (IsQuotient IsFloored n d) (AnswersTwo (IsFloored n d)))
-Inside fits (DivFloor n d) =
+OutcomeOfFitting fits (DivFloor n d) =
     NeedsDivisor d (NeedsFitting fits (IsQuotient IsFloored n d) (AnswersOne (IsQuotient IsFloored n d)))
-Inside fits (DivCeil n d) =
+OutcomeOfFitting fits (DivCeil n d) =
     NeedsDivisor d (NeedsFitting fits (IsQuotient IsCeiled n d) (AnswersOne (IsQuotient IsCeiled n d)))
-Inside fits (ModFloor n d) =
+OutcomeOfFitting fits (ModFloor n d) =
     NeedsDivisor d (AnswersOne (IsRemainder IsFloored n d))
-Inside fits (NextMultipleOf n d) =
+OutcomeOfFitting fits (NextMultipleOf n d) =
     NeedsDivisor d (NeedsFitting fits (IsMultiple IsCeiled n d) (AnswersOne (IsMultiple IsCeiled n d)))
-Inside fits (PrevMultipleOf n d) =
+OutcomeOfFitting fits (PrevMultipleOf n d) =
     NeedsDivisor d (NeedsFitting fits (IsMultiple IsFloored n d) (AnswersOne (IsMultiple IsFloored n d)))
-Inside fits (IsMultipleOf n d) =
+OutcomeOfFitting fits (IsMultipleOf n d) =
     AnswersWhether (Divides d n)
-Inside fits (Gcd a b) =
+OutcomeOfFitting fits (Gcd a b) =
     NeedsFitting fits (IsGreatestCommonDivisor a b) (AnswersOne (IsGreatestCommonDivisor a b))
-Inside fits (Lcm a b) =
+OutcomeOfFitting fits (Lcm a b) =
     NeedsFitting fits (IsLeastCommonMultiple a b) (AnswersOne (IsLeastCommonMultiple a b))
-Inside fits (GcdLcm a b) =
+OutcomeOfFitting fits (GcdLcm a b) =
     NeedsFitting fits (IsGreatestCommonDivisor a b)
     (NeedsFitting fits (IsLeastCommonMultiple a b) (AnswersTwo (AreGcdAndLcm a b)))
-Inside fits (ExtendedGcd a b) =
+OutcomeOfFitting fits (ExtendedGcd a b) =
     NeedsFitting fits (IsGreatestCommonDivisor a b)
     (Needs (HasPair fits a b) NoPair (AnswersThree (IsBezoutAnswer a b)))
-Inside fits (AverageFloor a b) =
+OutcomeOfFitting fits (AverageFloor a b) =
     AnswersOne (IsAverageFloor a b)
-Inside fits (AverageCeil a b) =
+OutcomeOfFitting fits (AverageCeil a b) =
     AnswersOne (IsAverageCeil a b)
-Inside fits (Sqrt x) =
+OutcomeOfFitting fits (Sqrt x) =
     Needs (HasRoot x (pos 2)) NegativeRoot (AnswersOne (IsRoot x 2))
-Inside fits (Cbrt x) =
+OutcomeOfFitting fits (Cbrt x) =
     AnswersOne (IsRoot x 3)
-Inside fits (NthRoot x n) =
+OutcomeOfFitting fits (NthRoot x n) =
     Needs (n ≢ pos 0) ZeroDegree
     (Needs (HasRoot x n) NegativeRoot (AnswersOne (IsRoot x (unsigned_abs n))))
-Inside fits (Binomial n k) =
+OutcomeOfFitting fits (Binomial n k) =
     Needs (AreCounts n k) NegativeCount
     (Needs (fits (coefficient_of n k)) NotFitting (AnswersOne (λ c. c ≡ coefficient_of n k)))
-Inside fits (RatioAdd a b c d) =
+OutcomeOfFitting fits (RatioAdd a b c d) =
     NeedsFractions a b c d (AnswersExact (a *ℤ d +ℤ c *ℤ b) (b *ℤ d))
-Inside fits (RatioMul a b c d) =
+OutcomeOfFitting fits (RatioMul a b c d) =
     NeedsFractions a b c d (AnswersExact (a *ℤ c) (b *ℤ d))
 
 -- Each of the numbers fits.
@@ -183,10 +177,10 @@ OperandsFit fits (RatioAdd a b c d) = PartsFit a b c d
 OperandsFit fits (RatioMul a b c d) = PartsFit a b c d
 OperandsFit fits call = AllFit fits (operands_of call)
 
--- The result of a call at a type: `OutOfType` if an operand does not fit, and otherwise what `Inside` says.
+-- The result of a call at a type: `OutOfType` if an operand does not fit, and otherwise what `OutcomeOfFitting` says.
 -- Examples: in `i8`, `DivFloor` 128 by 0: `OutOfType`; 7 by 0: `ZeroDivisor`; 7 by 2: 3.
 abbrev pub OutcomeIn : (ℤ → Type 0) → Call → Result Answer Refusal → Type 0
-OutcomeIn fits call = Needs (OperandsFit fits call) OutOfType (Inside fits call)
+OutcomeIn fits call = Needs (OperandsFit fits call) OutOfType (OutcomeOfFitting fits call)
 
 -- The call is made at the kind: sums and products of fractions only at `i64`, and every other call at each kind.
 -- Examples: `i64` and `ratio_add`; `u8` and `gcd`; not `u8` and `ratio_add`.

@@ -1,11 +1,12 @@
 //! The outcome of a call at a kind.
 
 ghost use Rattle.std.specs.Prelude.{◌↔◌, IsTrue};
-ghost use Rattle.intcalc_core.specs.Outcome.{IsMadeAt, Narrows, Outcome, OutcomeIn};
+ghost use Rattle.num_integer.specs.Narrowing.{Narrows};
+ghost use Rattle.intcalc_core.specs.Outcome.{IsMadeAt, Outcome, OutcomeIn};
 
+mod calls_on_integers;
 mod fractions;
 mod operand;
-mod rows;
 
 use crate::calls::{Answer, Call, Kind, Refusal};
 use num_integer::{Average, Roots};
@@ -47,24 +48,24 @@ fn evaluate_at<T: Average + Roots + Operand + TryFrom<i128, Error = TryFromIntEr
     ensures { OutcomeIn T.fits call result }
 {
     match call {
-        Call::DivRem(n, d) => rows::div_rem::<T>(narrow_both(n, d)?),
-        Call::DivModFloor(n, d) => rows::div_mod_floor::<T>(narrow_both(n, d)?),
-        Call::DivFloor(n, d) => rows::div_floor::<T>(narrow_both(n, d)?),
-        Call::DivCeil(n, d) => rows::div_ceil::<T>(narrow_both(n, d)?),
-        Call::ModFloor(n, d) => rows::mod_floor::<T>(narrow_both(n, d)?),
-        Call::NextMultipleOf(n, d) => rows::next_multiple_of::<T>(narrow_both(n, d)?),
-        Call::PrevMultipleOf(n, d) => rows::prev_multiple_of::<T>(narrow_both(n, d)?),
-        Call::IsMultipleOf(n, d) => rows::is_multiple_of::<T>(narrow_both(n, d)?),
-        Call::Gcd(a, b) => rows::gcd::<T>(narrow_both(a, b)?),
-        Call::Lcm(a, b) => rows::lcm::<T>(narrow_both(a, b)?),
-        Call::GcdLcm(a, b) => rows::gcd_lcm::<T>(narrow_both(a, b)?),
-        Call::ExtendedGcd(a, b) => rows::extended_gcd::<T>(narrow_both(a, b)?),
-        Call::AverageFloor(a, b) => rows::average_floor::<T>(narrow_both(a, b)?),
-        Call::AverageCeil(a, b) => rows::average_ceil::<T>(narrow_both(a, b)?),
-        Call::Sqrt(x) => rows::sqrt::<T>(narrow(x)?),
-        Call::Cbrt(x) => rows::cbrt::<T>(narrow(x)?),
-        Call::NthRoot(x, n) => rows::nth_root::<T>(narrow(x)?, narrow(n)?),
-        Call::Binomial(n, k) => rows::binomial::<T>(narrow_both(n, k)?),
+        Call::DivRem(n, d) => calls_on_integers::div_rem::<T>(narrow_both(n, d)?),
+        Call::DivModFloor(n, d) => calls_on_integers::div_mod_floor::<T>(narrow_both(n, d)?),
+        Call::DivFloor(n, d) => calls_on_integers::div_floor::<T>(narrow_both(n, d)?),
+        Call::DivCeil(n, d) => calls_on_integers::div_ceil::<T>(narrow_both(n, d)?),
+        Call::ModFloor(n, d) => calls_on_integers::mod_floor::<T>(narrow_both(n, d)?),
+        Call::NextMultipleOf(n, d) => calls_on_integers::next_multiple_of::<T>(narrow_both(n, d)?),
+        Call::PrevMultipleOf(n, d) => calls_on_integers::prev_multiple_of::<T>(narrow_both(n, d)?),
+        Call::IsMultipleOf(n, d) => calls_on_integers::is_multiple_of::<T>(narrow_both(n, d)?),
+        Call::Gcd(a, b) => calls_on_integers::gcd::<T>(narrow_both(a, b)?),
+        Call::Lcm(a, b) => calls_on_integers::lcm::<T>(narrow_both(a, b)?),
+        Call::GcdLcm(a, b) => calls_on_integers::gcd_lcm::<T>(narrow_both(a, b)?),
+        Call::ExtendedGcd(a, b) => calls_on_integers::extended_gcd::<T>(narrow_both(a, b)?),
+        Call::AverageFloor(a, b) => calls_on_integers::average_floor::<T>(narrow_both(a, b)?),
+        Call::AverageCeil(a, b) => calls_on_integers::average_ceil::<T>(narrow_both(a, b)?),
+        Call::Sqrt(x) => calls_on_integers::sqrt::<T>(narrow(x)?),
+        Call::Cbrt(x) => calls_on_integers::cbrt::<T>(narrow(x)?),
+        Call::NthRoot(x, n) => calls_on_integers::nth_root::<T>(narrow(x)?, narrow(n)?),
+        Call::Binomial(n, k) => calls_on_integers::binomial::<T>(narrow_both(n, k)?),
         Call::RatioAdd(a, b, c, d) => fractions::ratio_add::<T>(a, b, c, d),
         Call::RatioMul(a, b, c, d) => fractions::ratio_mul::<T>(a, b, c, d),
     }

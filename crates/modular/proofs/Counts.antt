@@ -36,7 +36,7 @@ one_number_more {t = t} at_start within rest = record {
   counted = omega (arith, ints, rest.counted);
 }
 
--- between the next congruent number and the next one after the range there are so many as there are steps
+-- the count is the number of steps from the first congruent number to the first one after the range
 count_of_steps : {to first step u : ℤ} (n : ℕ) {from t : ℤ} → pos 0 <ℤ step → IsNextCongruent from first step t → IsNextCongruent (to +ℤ pos 1) first step u → u ≡ t +ℤ step *ℤ pos n
     → IsCountOfCongruent from to first step (pos n)
 count_of_steps {to} {u = u} zero {from} {t} up at_start at_end is = record {

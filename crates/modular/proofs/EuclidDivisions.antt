@@ -13,7 +13,7 @@ sign_changed : (negative : Bool) → sign (not negative) ≡ neg_ℤ (sign negat
 sign_changed true = refl
 sign_changed false = refl
 
--- modulo m the current remainder is its coefficient times a, with the sign s, and the previous one is so with the other sign
+-- modulo m the current remainder is its coefficient times a, with the sign s, and the previous remainder likewise, with the opposite sign
 pub record EuclidDivision (m a previous current previous_size size s : ℤ) : Type 0 where
   pub previous_from_zero : pos 0 ≤ℤ previous
   pub current_from_zero : pos 0 ≤ℤ current

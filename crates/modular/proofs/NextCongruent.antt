@@ -2,30 +2,30 @@
 use Rattle.modular.proofs.Common.{◌≡◌, ◌≤ℤ◌, ◌<ℤ◌, ◌+ℤ◌, ◌-ℤ◌, ℤ, pos, neg_ℤ, Option, Some, None, MatchOption, arith, subst, sym, by_lt_z, AnswersWhere, FitsWith, expand, linear, sizes, small_multiple_is_zero, MatchWhere, AreCongruent, IsNextCongruent, IsPreviousCongruent, IsResidue}
 use Rattle.modular.proofs.Congruences.{congruent-sym, congruent-trans, congruent_by}
 
--- of two congruent numbers, one that is less than a step further is not the larger
-not_larger : {step from t u : ℤ} → AreCongruent step t u → from ≤ℤ u → t <ℤ (from +ℤ step) → t ≤ℤ u
-not_larger {step} {from} {t} {u} h u_from t_below = by_lt_z u t
+-- of two congruent numbers, one that is less than the modulus further is not the larger
+not_larger : {modulus from t u : ℤ} → AreCongruent modulus t u → from ≤ℤ u → t <ℤ (from +ℤ modulus) → t ≤ℤ u
+not_larger {modulus} {from} {t} {u} h u_from t_below = by_lt_z u t
     (λ less. let none = small_multiple_is_zero h.divides (omega (arith, sizes)) in absurd (omega (arith, linear)))
     (λ fine. fine)
 
--- a number less than a step further is the next one
-pub next_within_step : {from first step t : ℤ} → AreCongruent step t first → from ≤ℤ t → t <ℤ (from +ℤ step) → IsNextCongruent from first step t
+-- a number less than the modulus further is the next one
+pub next_within_step : {from residue modulus t : ℤ} → AreCongruent modulus t residue → from ≤ℤ t → t <ℤ (from +ℤ modulus) → IsNextCongruent from residue modulus t
 next_within_step near t_from t_below = record { from_there = t_from; holds = near; least = λ u u_from h. not_larger (congruent-trans near (congruent-sym h)) u_from t_below }
 
 -- it comes after the residue of the difference
-pub next_congruent_is : {from first step w : ℤ} → IsResidue step (first -ℤ from) w → IsNextCongruent from first step (from +ℤ w)
-next_congruent_is {from} {first} {step} {w} wait =
-    let near : AreCongruent step (from +ℤ w) first = congruent_by (neg_ℤ wait.congruent.divides.factor) (simp expand (omega (arith, linear, wait.congruent.divides.product))) in
+pub next_congruent_is : {from residue modulus w : ℤ} → IsResidue modulus (residue -ℤ from) w → IsNextCongruent from residue modulus (from +ℤ w)
+next_congruent_is {from} {residue} {modulus} {w} wait =
+    let near : AreCongruent modulus (from +ℤ w) residue = congruent_by (neg_ℤ wait.congruent.divides.factor) (simp expand (omega (arith, linear, wait.congruent.divides.product))) in
     next_within_step near (omega (arith, linear)) (omega (arith, linear))
 
 -- the previous one comes before the residue of the other difference
-pub previous_congruent_is : {to first step w : ℤ} → IsResidue step (to -ℤ first) w → IsPreviousCongruent to first step (to -ℤ w)
-previous_congruent_is {to} {first} {step} {w} wait =
-    let near : AreCongruent step (to -ℤ w) first = congruent_by wait.congruent.divides.factor (omega (arith, linear, wait.congruent.divides.product)) in
+pub previous_congruent_is : {to residue modulus w : ℤ} → IsResidue modulus (to -ℤ residue) w → IsPreviousCongruent to residue modulus (to -ℤ w)
+previous_congruent_is {to} {residue} {modulus} {w} wait =
+    let near : AreCongruent modulus (to -ℤ w) residue = congruent_by wait.congruent.divides.factor (omega (arith, linear, wait.congruent.divides.product)) in
     record {
       to_there = omega (arith, linear);
       holds = near;
-      greatest = λ u u_to h. not_larger {from = to -ℤ step +ℤ pos 1} (congruent-trans h (congruent-sym near)) (omega (arith, linear)) (omega (arith, linear));
+      greatest = λ u u_to h. not_larger {from = to -ℤ modulus +ℤ pos 1} (congruent-trans h (congruent-sym near)) (omega (arith, linear)) (omega (arith, linear));
     }
 
 -- a number with the property fits the type or is beyond it

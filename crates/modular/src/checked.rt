@@ -146,50 +146,50 @@ pub fn solutions<T: Modular>(a: T, b: T, m: T) -> Option<(T, T)>
     }
 }
 
-/// Returns [`next_congruent`](crate::next_congruent), or `None` if `step` is not positive or the number does not fit.
+/// Returns [`next_congruent`](crate::next_congruent), or `None` if `modulus` is not positive or the number does not fit.
 /// `next_congruent(10, 1, 4)` is `Some(13)`, and `next_congruent(10, 1, 0)` is `None`.
-pub fn next_congruent<T: Fits>(from: T, first: T, step: T) -> Option<T>
-    requires in_range { T.fits (T.value from) × T.fits (T.value first) × T.fits (T.value step) }
-    ensures { MatchWhere (pos 0 <ℤ T.value step) result
-        ((t : ℤ) × IsNextCongruent (T.value from) (T.value first) (T.value step) t × ¬ (T.fits t))
-        (FitsWith T.fits T.value (IsNextCongruent (T.value from) (T.value first) (T.value step))) }
+pub fn next_congruent<T: Fits>(from: T, residue: T, modulus: T) -> Option<T>
+    requires in_range { T.fits (T.value from) × T.fits (T.value residue) × T.fits (T.value modulus) }
+    ensures { MatchWhere (pos 0 <ℤ T.value modulus) result
+        ((t : ℤ) × IsNextCongruent (T.value from) (T.value residue) (T.value modulus) t × ¬ (T.fits t))
+        (FitsWith T.fits T.value (IsNextCongruent (T.value from) (T.value residue) (T.value modulus))) }
 {
-    if is_positive(step) {
-        crate::next_congruent(from, first, step)
+    if is_positive(modulus) {
+        crate::next_congruent(from, residue, modulus)
     } else {
         None
     }
 }
 
-/// Returns [`previous_congruent`](crate::previous_congruent), or `None` if `step` is not positive or the number does not
+/// Returns [`previous_congruent`](crate::previous_congruent), or `None` if `modulus` is not positive or the number does not
 /// fit. `previous_congruent(10, 1, 4)` is `Some(9)`, and `previous_congruent(10, 1, 0)` is `None`.
-pub fn previous_congruent<T: Fits>(to: T, first: T, step: T) -> Option<T>
-    requires in_range { T.fits (T.value to) × T.fits (T.value first) × T.fits (T.value step) }
-    ensures { MatchWhere (pos 0 <ℤ T.value step) result
-        ((t : ℤ) × IsPreviousCongruent (T.value to) (T.value first) (T.value step) t
+pub fn previous_congruent<T: Fits>(to: T, residue: T, modulus: T) -> Option<T>
+    requires in_range { T.fits (T.value to) × T.fits (T.value residue) × T.fits (T.value modulus) }
+    ensures { MatchWhere (pos 0 <ℤ T.value modulus) result
+        ((t : ℤ) × IsPreviousCongruent (T.value to) (T.value residue) (T.value modulus) t
         × ¬ (T.fits t))
-        (FitsWith T.fits T.value (IsPreviousCongruent (T.value to) (T.value first) (T.value step))) }
+        (FitsWith T.fits T.value (IsPreviousCongruent (T.value to) (T.value residue) (T.value modulus))) }
 {
-    if is_positive(step) {
-        crate::previous_congruent(to, first, step)
+    if is_positive(modulus) {
+        crate::previous_congruent(to, residue, modulus)
     } else {
         None
     }
 }
 
-/// Returns [`count_congruent`](crate::count_congruent), or `None` if `step` is not positive or the count does not fit.
+/// Returns [`count_congruent`](crate::count_congruent), or `None` if `modulus` is not positive or the count does not fit.
 /// `count_congruent(1, 10, 1, 4)` is `Some(3)`, and `count_congruent(1, 10, 1, 0)` is `None`.
-pub fn count_congruent<T: Fits>(from: T, to: T, first: T, step: T) -> Option<T>
-    requires in_range { T.fits (T.value from) × T.fits (T.value to) × T.fits (T.value first)
-        × T.fits (T.value step) }
-    ensures { MatchWhere (pos 0 <ℤ T.value step) result
-        ((n : ℤ) × IsCountOfCongruent (T.value from) (T.value to) (T.value first) (T.value step) n
+pub fn count_congruent<T: Fits>(from: T, to: T, residue: T, modulus: T) -> Option<T>
+    requires in_range { T.fits (T.value from) × T.fits (T.value to) × T.fits (T.value residue)
+        × T.fits (T.value modulus) }
+    ensures { MatchWhere (pos 0 <ℤ T.value modulus) result
+        ((n : ℤ) × IsCountOfCongruent (T.value from) (T.value to) (T.value residue) (T.value modulus) n
         × ¬ (T.fits n))
-        (FitsWith T.fits T.value (IsCountOfCongruent (T.value from) (T.value to) (T.value first)
-        (T.value step))) }
+        (FitsWith T.fits T.value (IsCountOfCongruent (T.value from) (T.value to) (T.value residue)
+        (T.value modulus))) }
 {
-    if is_positive(step) {
-        crate::count_congruent(from, to, first, step)
+    if is_positive(modulus) {
+        crate::count_congruent(from, to, residue, modulus)
     } else {
         None
     }

@@ -42,7 +42,7 @@ pub trait Form: Copy {
         requires { Between Self.low Self.high number }
         ensures { Self.meaning result ≡ number };
 
-    /// The number, stored as the result of a call on the two.
+    /// Stores a result computed from `self` and `other`.
     fn answer(&self, _other: &Self, number: i64) -> Self
         requires { Between Self.low Self.high number }
         ensures { Self.meaning result ≡ number }

@@ -62,8 +62,8 @@ small_or_least (negsuc n) fits = let low = fits.sfits in grind (arith, ints)
 -- ---- parts of 128 bits, and of 64 bits
 
 -- a narrowed number is the number itself
-pub narrowed_value : {n m : ℤ} → unsigned_abs m < 2 ^ 127 → (n ≡ to_z w128 (of_z w128 m)) × FitsSigned w64 (to_z w128 (of_z w128 m)) → (to_z w64 (of_z w64 n) ≡ m) × FitsSigned w64 n
-narrowed_value {n} {m} below (is, fits) =
+pub narrowed_value : {n m : ℤ} → unsigned_abs m < 2 ^ 127 → FitsSigned w64 (to_z w128 (of_z w128 m)) × (n ≡ to_z w128 (of_z w128 m)) → (to_z w64 (of_z w64 n) ≡ m) × FitsSigned w64 n
+narrowed_value {n} {m} below (fits, is) =
     let same : n ≡ m = is ∙ read m below in
     let own : FitsSigned w64 m = rw (read m below) at fits in
     (rw same (to_z-of_z w64 m own), rw same own)

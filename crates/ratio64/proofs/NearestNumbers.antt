@@ -126,10 +126,10 @@ only_rounded_even n d r up x s y = let least = rounded_even_apart up x y in let 
 -- ---- an integer that is narrowed to 64 bits
 
 -- the result of the only number with a property
-pub narrowed_answer : {P : ℤ → Type 0} {z : ℤ} (r : Option ℤ) → P z → IsOnly P z → MatchOption r (¬ (FitsSigned w64 z)) (λ q. (q ≡ z) × FitsSigned w64 z)
+pub narrowed_answer : {P : ℤ → Type 0} {z : ℤ} (r : Option ℤ) → P z → IsOnly P z → MatchOption r (¬ (FitsSigned w64 z)) (λ q. FitsSigned w64 z × (q ≡ z))
     → AnswersWhere (EachFits (FitsSigned w64) P) P r
 narrowed_answer None own only none = λ each. none (each _ own)
-narrowed_answer (Some q) own only is = (λ y h. subst (FitsSigned w64) (sym (only y h)) is.1, rw is.0 own)
+narrowed_answer (Some q) own only is = (λ y h. subst (FitsSigned w64) (sym (only y h)) is.0, rw is.1 own)
 
 -- a kind of division has one quotient
 pub quotient_is_only : {Kind : ℤ → ℤ → ℤ → ℤ → Type 0} {n d q : ℤ} → ((n d q r : ℤ) → Kind n d q r → IsOnly (λ (p, s). Kind n d p s) (q, r)) → IsQuotient Kind n d q → IsOnly (IsQuotient Kind n d) q
@@ -137,5 +137,5 @@ quotient_is_only only h p k = ap (λ (t : ℤ × ℤ). t.0) (only _ _ _ _ h.divi
 
 -- and of the quotient of a kind
 pub narrowed_quotient : {Kind : ℤ → ℤ → ℤ → ℤ → Type 0} {n d q : ℤ} (r : Option ℤ) → ((n d q r : ℤ) → Kind n d q r → IsOnly (λ (p, s). Kind n d p s) (q, r)) → IsQuotient Kind n d q
-    → MatchOption r (¬ (FitsSigned w64 q)) (λ p. (p ≡ q) × FitsSigned w64 q) → AnswersWhere (EachFits (FitsSigned w64) (IsQuotient Kind n d)) (IsQuotient Kind n d) r
+    → MatchOption r (¬ (FitsSigned w64 q)) (λ p. FitsSigned w64 q × (p ≡ q)) → AnswersWhere (EachFits (FitsSigned w64) (IsQuotient Kind n d)) (IsQuotient Kind n d) r
 narrowed_quotient r only own is = narrowed_answer r own (quotient_is_only only own) is

@@ -1,5 +1,6 @@
 pub mod Decimal
 pub mod Fraction
+pub mod IntegerWords
 pub mod Laws
 pub mod Limiting
 pub mod RatioError
@@ -8,6 +9,7 @@ pub mod RatioText
 pub mod Rounding
 -- what private functions cite
 pub mod Neighbours
+pub mod Times
 -- lemmas that the invariant and the order of `Ratio` cite
 pub mod ReducedPairs
 pub mod FractionOrder

@@ -4,6 +4,7 @@
 mod decimal;
 mod error;
 mod fraction;
+pub mod integer_words;
 mod neighbours;
 mod order;
 mod parse;

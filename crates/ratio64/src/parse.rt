@@ -1,11 +1,10 @@
 //! Reads a fraction from a string.
 
-ghost use Rattle.std.specs.Prelude.{◌≡◌, ◌≢◌, ◌≤◌, ◌<◌, ◌^◌, ◌↔◌, IsTrue, MatchResult, Err, unsigned_abs};
-ghost use Rattle.std.specs.Char.{is_ascii_digit};
-ghost use Rattle.std.specs.List.{list_all};
+ghost use Rattle.std.specs.Prelude.{◌≡◌, ◌≢◌, ◌≤◌, ◌<◌, ◌^◌, MatchResult, Err, unsigned_abs};
 ghost use Rattle.std.specs.Str.Parse.{IsNumeral};
 ghost use Rattle.ratio64.specs.RatioText.{AnswersSpelled, unsigned_part, whole_of};
 
+use crate::integer_words::is_integer;
 use crate::{Ratio, RatioError};
 use std::error::Error;
 use std::fmt;
@@ -97,29 +96,6 @@ fn fraction_of(num: &str, den: &str) -> Result<Ratio, ParseRatioError>
     ensures spelled { result ≢ Err ParseRatioError.NotAFraction }
 {
     Ok(Ratio::reduced(integer(num)?, integer(den)?)?)
-}
-
-/// Returns whether the string is an optional `-`, then one or more digits, and nothing else.
-fn is_integer(text: &str) -> bool
-    ensures { IsTrue result ↔ IsNumeral 10 (unsigned_part text.now) }
-{
-    let digits = without_minus(text.as_bytes());
-    !digits.is_empty() && has_only_digits(digits)
-}
-
-fn without_minus(text: &[u8]) -> &[u8]
-    ensures { result.now ≡ unsigned_part text.now }
-{
-    match text {
-        [b'-', digits @ ..] => digits,
-        _ => text,
-    }
-}
-
-fn has_only_digits(text: &[u8]) -> bool
-    ensures { result ≡ list_all is_ascii_digit text.now }
-{
-    text.iter().all(u8::is_ascii_digit)
 }
 
 /// 10^38, the smallest number of 39 digits.

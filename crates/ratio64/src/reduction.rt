@@ -1,10 +1,10 @@
 //! Parts of fractions in `i128`: products, and lowest terms.
 
-ghost use Rattle.std.specs.Prelude.{◌≡◌, ◌<◌, ◌≤◌, ◌^◌, ◌<ℤ◌, ◌+ℤ◌, ◌-ℤ◌, ◌*ℤ◌, ℤ, pos, unsigned_abs, FitsSigned, MatchOption, MatchResult};
-ghost use Rattle.std.specs.Int.{w64};
+ghost use Rattle.std.specs.Prelude.{◌≡◌, ◌<◌, ◌≤◌, ◌^◌, ◌<ℤ◌, ◌+ℤ◌, ◌-ℤ◌, ◌*ℤ◌, ℤ, pos, unsigned_abs, MatchResult};
 ghost use Rattle.ratio64.specs.Fraction.{AreEqual, IsFraction, IsExact, IsOutsideI64};
 
 use crate::RatioError;
+use num_integer::narrowing::narrowed;
 use num_integer::operators::{is_below, is_equal, is_negative, is_zero, negated, one, quotient};
 use num_integer::{Integer, gcd};
 
@@ -47,7 +47,7 @@ pub(crate) fn lowest_terms(num: i128, den: i128) -> Result<(i64, i64), RatioErro
     ensures { MatchResult result (λ (n, d). IsExact num den n d)
         (λ e. (e ≡ RatioError.NotFitting) × IsOutsideI64 num den) }
 {
-    match (narrowed(num), narrowed(den)) {
+    match (narrowed::<i64>(num), narrowed::<i64>(den)) {
         (Some(num), Some(den)) if num != i64::MIN && den != i64::MIN => Ok(reduced_terms(num, den)),
         _ => {
             let (num, den) = reduced_terms(num, den);
@@ -56,13 +56,6 @@ pub(crate) fn lowest_terms(num: i128, den: i128) -> Result<(i64, i64), RatioErro
             Ok((num, den))
         }
     }
-}
-
-/// Returns the number in 64 bits, or `None` if it does not fit.
-pub(crate) fn narrowed(number: i128) -> Option<i64>
-    ensures { MatchOption result (¬ (FitsSigned w64 number)) (λ n. (n ≡ number) × FitsSigned w64 number) }
-{
-    i64::try_from(number).ok()
 }
 
 /// Returns both parts divided by their greatest common divisor, with a positive denominator. Two

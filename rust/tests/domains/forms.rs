@@ -31,7 +31,6 @@ const EVEN_ROOT: &str = "attempt to take an even root of a negative number";
 const DEGREE: &str = "attempt to take a root of degree 0";
 const MODULUS: &str = "the modulus is not positive";
 const ONE_MODULUS: &str = "a modulus is not positive";
-const STEP: &str = "the step is not positive";
 const PERIOD: &str = "the period is not positive";
 const PAGE_SIZE: &str = "the page size is not positive";
 const ALIGNMENT: &str = "the alignment is not positive";
@@ -291,16 +290,14 @@ fn moduli() {
             modular::next_common_solution(0, 1, -2, 1, 3);
             modular::next_common_solution(0, 1, 2, 1, -3);
             RollingHash::new(10, 0, 2);
-        }
-        ONE_MODULUS {
-            modular::next_common_solution_of(0, &[(1, 2), (1, -3)]);
-            modular::next_common_solution_of(0u8, &[(1, 0)]);
-        }
-        STEP {
             modular::next_congruent(10, 1, -4);
             modular::previous_congruent(10, 1, -4);
             modular::count_congruent(1, 10, 1, -4);
             modular::count_congruent(10, 1, 1, 0);
+        }
+        ONE_MODULUS {
+            modular::next_common_solution_of(0, &[(1, 2), (1, -3)]);
+            modular::next_common_solution_of(0u8, &[(1, 0)]);
         }
     }
 }

@@ -15,8 +15,8 @@ use num_integer::sign_magnitude::{number_of, parts_of, parts_of_product};
 use num_integer::{Fits, NativeInteger, checked};
 
 /// Returns [`gcd_of`](crate::lists::gcd_of), the greatest common divisor of the numbers, or `None` if it does
-/// not fit. `gcd_of(&[12, 18, 8])` is `Some(2)`, and `gcd_of(&[i8::MIN, 0])` is `None`. The only one that may
-/// not fit is that of a list in which each number is 0 or the smallest of the type.
+/// not fit. `gcd_of(&[12, 18, 8])` is `Some(2)`, and `gcd_of(&[i8::MIN, 0])` is `None`. It fits unless each
+/// number is 0 or the smallest of the type.
 pub fn gcd_of<T: Fits>(numbers: &[T]) -> Option<T>
     requires in_range { All (λ x. T.fits (T.value x)) numbers.now }
     ensures { AnswersWhere
@@ -32,8 +32,8 @@ pub fn gcd_of<T: Fits>(numbers: &[T]) -> Option<T>
     }
 }
 
-/// Returns a number whose magnitude is the greatest common divisor. That of the first numbers may not fit, even
-/// if that of all of them does, so the loop keeps it up to its sign. It ends if the divisor is 1.
+/// Returns a number whose magnitude is the greatest common divisor. The gcd of a prefix may not fit even if the
+/// gcd of the list does, so the loop keeps it up to its sign. It ends if the divisor is 1.
 #[tactic(auto, using(crate::proofs::ListDivisors::gcd_of_none))]
 fn signed_gcd_of<T: Fits>(numbers: &[T]) -> T
     requires { All (λ x. T.fits (T.value x)) numbers.now }

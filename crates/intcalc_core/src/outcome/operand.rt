@@ -4,18 +4,20 @@ ghost use Rattle.std.specs.Prelude.{◌≡◌, ◌↔◌, ◌≤ℤ◌, pos, IsT
 ghost use Rattle.intcalc_core.specs.declared.calls.Answer.TheVariants as answers;
 ghost use Rattle.intcalc_core.specs.declared.calls.Refusal.TheVariants as refusals;
 ghost use Rattle.num_integer.specs.RootOf.{IsWithin64Bits};
-ghost use Rattle.intcalc_core.specs.Outcome.{Narrows};
+ghost use Rattle.num_integer.specs.Narrowing.{Narrows};
 
 use crate::calls::{Answer, Refusal};
+use num_integer::narrowing::narrowed;
 use num_integer::{Fits, Integer, Roots};
+use num_traits::AsPrimitive;
 use std::num::TryFromIntError;
 
 /// The type of a kind. Its numbers have at most 64 bits, so that `i128` has each of them.
-pub(crate) trait Operand: Fits {
+pub(crate) trait Operand: Fits + AsPrimitive<i128> {
     ghost within_law: { IsWithin64Bits Self.low Self.high };
 }
 
-impl<T: Roots + Fits> Operand for T {
+impl<T: Roots + Fits + AsPrimitive<i128>> Operand for T {
     ghost within_law = { T.Roots.width_law };
 }
 
@@ -27,7 +29,7 @@ pub(crate) fn narrow<T: Integer + TryFrom<i128, Error = TryFromIntError>>(
     ensures { MatchResult result (λ x. (T.value x ≡ n) × T.fits n)
         (λ refusal. (refusal ≡ refusals.OutOfType) × ¬ (T.fits n)) }
 {
-    T::try_from(n).or(Err(Refusal::OutOfType))
+    narrowed(n).ok_or(Refusal::OutOfType)
 }
 
 /// Returns the values that mean `a` and `b`, or `OutOfType` if the type has no such value of one of them.
@@ -48,9 +50,7 @@ pub(crate) fn widen<T: Operand>(x: T) -> i128
     requires { T.fits (T.value x) }
     ensures { result ≡ T.value x }
 {
-    let (negative, magnitude) = x.parts();
-    let magnitude = magnitude as i128;
-    if negative { -magnitude } else { magnitude }
+    x.as_()
 }
 
 /// Returns the answer of two numbers.

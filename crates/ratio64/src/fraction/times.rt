@@ -7,11 +7,13 @@ ghost use Rattle.num_integer.specs.Division.{IsCeiled, IsFloored, IsQuotient};
 ghost use Rattle.num_integer.specs.Range.{EachFits};
 ghost use Rattle.ratio64.specs.Ratio.{AnswersFraction, num_of, den_of};
 ghost use Rattle.ratio64.specs.Rounding.{AnswersInParts, IsRounded, IsRoundedEven};
+ghost use Rattle.ratio64.specs.Times.{AreTimes};
 
 use crate::fraction::rounding::{nearest, nearest_even};
-use crate::reduction::{narrowed, product};
+use crate::reduction::product;
 use crate::{Ratio, RatioError};
 use num_integer::guards::check;
+use num_integer::narrowing::narrowed;
 use num_integer::{div_ceil, div_floor};
 
 impl Ratio {
@@ -193,10 +195,7 @@ impl Ratio {
 
     /// Returns the parts of the fraction times `n`, which are not in lowest terms.
     fn times(&self, n: i64) -> (i128, i128)
-        ensures num { result.0 ≡ num_of self.now *ℤ n }
-        ensures den { result.1 ≡ den_of self.now }
-        ensures num_below { unsigned_abs result.0 < 2 ^ 127 }
-        ensures den_below { unsigned_abs result.1 < 2 ^ 127 }
+        ensures { AreTimes (num_of self.now) (den_of self.now) n result.0 result.1 }
     {
         (product(self.num, n), i128::from(self.den))
     }

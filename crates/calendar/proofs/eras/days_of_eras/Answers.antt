@@ -1,4 +1,5 @@
 use Rattle.calendar.proofs.Common.{◌<◌, ◌^◌, ◌+ℤ◌, ◌*ℤ◌, ℤ, pos, unsigned_abs, FitsSigned, w128, arith, ints, to_z-of_z}
+use Rattle.calendar.proofs.FoundOrBeyond.{some_narrowed}
 use Rattle.calendar.proofs.eras.days_of_eras.Goals as goal
 
 -- the days and their parts fit 128 bits
@@ -11,4 +12,4 @@ returns-in-None c =
     let eras_fit = c.ranges.eras in
     let days_fit = c.ranges.days in
     let (eras, days, product, sum) = fitting c.args.eras c.args.days c.requires.eras_small c.requires.days_small in
-    simp (c.from.ensures, c.from-in-None.ensures, c.from-in-None-2.ensures, to_z-of_z) at c.at_64_bits.ensures
+    some_narrowed _ _ c.narrowed.result (simp (c.from.ensures, c.from-in-None.ensures, c.from-in-None-2.ensures, to_z-of_z) at c.narrowed.ensures)

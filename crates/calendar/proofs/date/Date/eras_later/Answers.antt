@@ -20,19 +20,19 @@ overflow_add-from c =
     let (year, more, years, sum) = wide c.args.self.now.year c.args.eras own (search rules) in
     simp (c.from.ensures, c.from-2.ensures, c.from-3.ensures, to_z-of_z) sum
 
-pub returns-in_err-at_64_bits : goal.returns-in_err-at_64_bits
-returns-in_err-at_64_bits c =
+pub returns-in_err-narrowed : goal.returns-in_err-narrowed
+returns-in_err-narrowed c =
     let own : FitsSigned w64 c.args.self.now.year = search rules in
     let eras = c.ranges.eras in
     let (year, more, years, sum) = wide c.args.self.now.year c.args.eras own (search rules) in
-    rw c.from_residual.ensures (simp (c.from.ensures, c.from-2.ensures, c.from-3.ensures, to_z-of_z) at c.in_err-at_64_bits.ensures)
+    rw c.from_residual.ensures (simp (c.from.ensures, c.from-2.ensures, c.from-3.ensures, to_z-of_z) at c.in_err-narrowed.ensures)
 
 pub invariant_of-result : goal.invariant_of-result
 invariant_of-result c =
     let own : FitsSigned w64 c.args.self.now.year = search rules in
     let eras = c.ranges.eras in
     let (year, more, years, sum) = wide c.args.self.now.year c.args.eras own (search rules) in
-    let (fits, is) = simp (c.from.ensures, c.from-2.ensures, c.from-3.ensures, to_z-of_z) at c.in_ok-at_64_bits.ensures in
+    let (fits, is) = simp (c.from.ensures, c.from-2.ensures, c.from-3.ensures, to_z-of_z) at c.in_ok-narrowed.ensures in
     record { valid = rw is (simp to_z-of_z (date_later c.args.eras c.args.self.now.valid)) }
 
 pub returns : goal.returns
@@ -40,5 +40,5 @@ returns c =
     let own : FitsSigned w64 c.args.self.now.year = search rules in
     let eras = c.ranges.eras in
     let (year, more, years, sum) = wide c.args.self.now.year c.args.eras own (search rules) in
-    let (fits, is) = simp (c.from.ensures, c.from-2.ensures, c.from-3.ensures, to_z-of_z) at c.in_ok-at_64_bits.ensures in
+    let (fits, is) = simp (c.from.ensures, c.from-2.ensures, c.from-3.ensures, to_z-of_z) at c.in_ok-narrowed.ensures in
     record { year_is = rw is (simp to_z-of_z refl); month_is = refl; day_is = refl }

@@ -6,4 +6,4 @@ use Rattle.calendar.proofs.date.Date.months_between.Goals as goal
 pub returns : goal.returns
 returns c =
     let fits : FitsSigned w128 c.whole_months.result = search rules in
-    found_or_beyond (IsMonthsBetween c.args.self.now c.args.to.now) c.at_64_bits.result (simp to_z-of_z at c.at_64_bits.ensures) c.whole_months.ensures
+    found_or_beyond (IsMonthsBetween c.args.self.now c.args.to.now) c.narrowed.result (simp to_z-of_z at c.narrowed.ensures) c.whole_months.ensures

@@ -9,4 +9,4 @@ returns c =
     let months : FitsSigned w128 c.whole_months.result = search rules in
     let fits = c.div_floor.ensures.in_range in
     let years : IsQuotient IsFloored c.whole_months.result (pos 12) c.div_floor.result = simp to_z-of_z at c.div_floor.ensures.floored in
-    found_or_beyond (IsYearsBetween c.args.self.now c.args.to.now) c.at_64_bits.result (simp to_z-of_z at c.at_64_bits.ensures) (whole_years c.whole_months.ensures years)
+    found_or_beyond (IsYearsBetween c.args.self.now c.args.to.now) c.narrowed.result (simp to_z-of_z at c.narrowed.ensures) (whole_years c.whole_months.ensures years)

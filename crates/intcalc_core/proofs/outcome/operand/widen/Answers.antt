@@ -1,14 +1,12 @@
-use Rattle.std.proofs.Common.{arith}
-use Rattle.std.proofs.lemmas.Int.{ints}
+use Rattle.std.specs.Prelude.{FitsSigned}
+use Rattle.std.specs.Int.{w128}
+use Rattle.std.proofs.Common.{arith, ◌∙◌}
+use Rattle.std.proofs.lemmas.Int.{fits_signed_from_abs, to_z-of_z}
 use Rattle.intcalc_core.proofs.OperandLemmas.{magnitude_below}
 use Rattle.intcalc_core.proofs.outcome.operand.widen.Goals as goal
 
-pub overflow_cast-magnitude : goal.overflow_cast-magnitude
-overflow_cast-magnitude g c =
+pub returns : goal.returns
+returns g c =
     let small = magnitude_below _ g.met.T.Integer.range_law g.met.T.Operand.within_law c.requires in
-    omega (arith, small, c.parts-negative.ensures.magnitude)
-
-pub overflow_sub-result : goal.overflow_sub-result
-overflow_sub-result g c =
-    let small = magnitude_below _ g.met.T.Integer.range_law g.met.T.Operand.within_law c.requires in
-    omega (arith, ints, small, c.parts-negative.ensures.magnitude)
+    let fits : FitsSigned w128 (g.T.Number.value c.args.x) = fits_signed_from_abs w128 _ (omega (arith, small)) in
+    rw (to_z-of_z w128 _ fits) at (c.as_.ensures.value g.met.T.Integer.exact_law tt)

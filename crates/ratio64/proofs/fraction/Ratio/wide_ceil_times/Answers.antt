@@ -1,35 +1,16 @@
-use Rattle.std.specs.Prelude.{◌≡◌, ◌*ℤ◌}
-use Rattle.std.specs.Int.{w64, w128}
-use Rattle.std.proofs.Common.{of_z, to_z, ◌∙◌}
-use Rattle.std.proofs.lemmas.Int.{fits_signed_from_abs, to_z-of_z}
-use Rattle.ratio64.proofs.NearestNumbers.{quotient_below, quotient_fits}
-use Rattle.ratio64.proofs.WideSums.{read}
-use Rattle.ratio64.specs.Ratio.{den_of, num_of}
-use Rattle.ratio64.specs.ReducedPairs.{positive_is_nonzero}
+use Rattle.std.proofs.Common.{refl}
+use Rattle.num_integer.specs.Division.{IsCeiled, IsQuotient}
+use Rattle.ratio64.proofs.RoundedProducts.{den_nonzero, wide_quotient_fits, wide_rounded}
 use Rattle.ratio64.proofs.fraction.Ratio.wide_ceil_times.Goals as goal
-use Rattle.ratio64.proofs.fraction.Ratio.wide_ceil_times.Goals.{After-times-num}
-
-num : (c : After-times-num) → to_z w128 (of_z w128 c.times-num.result.0) ≡ num_of c.args.self.now *ℤ c.args.n
-num c = read c.times-num.result.0 c.times-num.ensures.num_below ∙ rw (to_z-of_z w64 c.args.n c.ranges.n) at c.times-num.ensures.num
-
-den : (c : After-times-num) → to_z w128 (of_z w128 c.times-num.result.1) ≡ den_of c.args.self.now
-den c = read c.times-num.result.1 c.times-num.ensures.den_below ∙ c.times-num.ensures.den
 
 pub div_ceil-requires-clause-nonzero : goal.div_ceil-requires-clause-nonzero
-div_ceil-requires-clause-nonzero c = rw (den (goal.at.div_ceil-requires-clause-nonzero c).After-times-num) (positive_is_nonzero c.args.self.now.reduced.positive)
+div_ceil-requires-clause-nonzero c = den_nonzero c.times-num.ensures
 
 pub div_ceil-requires-clause-quotient_fits : goal.div_ceil-requires-clause-quotient_fits
-div_ceil-requires-clause-quotient_fits c =
-    let at = (goal.at.div_ceil-requires-clause-quotient_fits c).After-times-num in
-    rw (read c.times-num.result.0 c.times-num.ensures.num_below, den at) (λ q h. quotient_fits c.args.self.now.reduced.positive h.division.division w128 (fits_signed_from_abs w128 _ c.times-num.ensures.num_below))
+div_ceil-requires-clause-quotient_fits c = λ q h. wide_quotient_fits c.times-num.ensures q _ h.division.division
 
-pub returns-clause-ceiled : goal.returns-clause-ceiled
-returns-clause-ceiled c =
-    let at = (goal.at.returns-clause-ceiled c).After-times-num in
-    rw (to_z-of_z w128 c.div_ceil.result c.div_ceil.ensures.in_range) (rw (num at, den at) at c.div_ceil.ensures.ceiled)
-
-pub returns-clause-below : goal.returns-clause-below
-returns-clause-below c =
-    let at = (goal.at.returns-clause-below c).After-times-num in
-    let own = rw (read c.times-num.result.0 c.times-num.ensures.num_below, den at) at c.div_ceil.ensures.ceiled in
-    rw (to_z-of_z w128 c.div_ceil.result c.div_ceil.ensures.in_range) (quotient_below c.args.self.now.reduced.positive own.division.division c.times-num.ensures.num_below)
+pub returns : goal.returns
+returns c =
+    let own = c.div_ceil.ensures in
+    let is = wide_rounded c.times-num.ensures c.ranges.n refl (IsQuotient IsCeiled) c.div_ceil.result (λ m d up k. (k.remainder, k.division.division)) own.in_range own.ceiled in
+    record { ceiled = is.0; below = is.1 }

@@ -3,9 +3,9 @@ use Rattle.std.proofs.Common.{arith, rules}
 use Rattle.std.proofs.lemmas.Grind.{common_steps}
 use Rattle.ratio64.specs.RatioText.{unsigned_part}
 use Rattle.ratio64.proofs.ReadTexts.{tells_numeral}
-use Rattle.ratio64.proofs.parse.is_integer.Goals as goal
+use Rattle.ratio64.proofs.integer_words.is_integer.Goals as goal
 
-pub returns-then-not-is_empty : goal.returns-then-not-is_empty
-returns-then-not-is_empty c =
+pub returns-then-not-is_empty-clause-numeral : goal.returns-then-not-is_empty-clause-numeral
+returns-then-not-is_empty-clause-numeral c =
     let some : 0 < length (unsigned_part c.args.text.now) = grind (arith, common_steps) in
     search (rules, tells_numeral (unsigned_part c.args.text.now) some)

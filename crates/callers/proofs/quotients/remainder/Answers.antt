@@ -1,5 +1,5 @@
 use Rattle.num_integer.proofs.ForCallers.{remainder_is_natural}
-use Rattle.callers.proofs.plain.remainder.Goals as goal
+use Rattle.callers.proofs.quotients.remainder.Goals as goal
 
 pub returns : goal.returns
 returns c = remainder_is_natural c.requires c.mod_floor.ensures.floored

@@ -1,6 +1,6 @@
 use Rattle.std.proofs.Common.{rules}
 use Rattle.num_integer.proofs.ForCallers.{literal_lcm_fits}
-use Rattle.callers.proofs.plain.common_multiple_of_literals.Goals as goal
+use Rattle.callers.proofs.multiples.common_multiple_of_literals.Goals as goal
 
 pub lcm-requires-clause-lcm_fits : goal.lcm-requires-clause-lcm_fits
 lcm-requires-clause-lcm_fits c = search (rules, literal_lcm_fits)

@@ -1,10 +1,11 @@
-//! One function for each call on integers, as the table `Inside` lists them: it tests what the call
+//! One function for each call on integers, as the table `OutcomeOfFitting` lists them: it tests what the call
 //! needs, in the order of the table, and then makes the call of the library.
-#![tactic(auto, unfolding(crate::specs::Outcome::Inside))]
+#![tactic(auto, unfolding(crate::specs::Outcome::OutcomeOfFitting))]
 
-ghost use Rattle.std.specs.Prelude.{pos};
+ghost use Rattle.std.specs.Prelude.{◌≡◌, ◌≢◌, pos, MatchResult};
 ghost use Rattle.intcalc_core.specs.declared.calls.Call.TheVariants as calls;
-ghost use Rattle.intcalc_core.specs.Outcome.{Inside};
+ghost use Rattle.intcalc_core.specs.declared.calls.Refusal.TheVariants as refusals;
+ghost use Rattle.intcalc_core.specs.Outcome.{OutcomeOfFitting};
 
 use crate::calls::{Answer, Refusal};
 use crate::outcome::operand::{Operand, is_from_zero, three, two, widen};
@@ -13,12 +14,9 @@ use num_integer::{Average, Integer, Roots};
 
 pub(crate) fn div_rem<T: Operand>(pair: (T, T)) -> Result<Answer, Refusal>
     requires { T.fits (T.value pair.0) × T.fits (T.value pair.1) }
-    ensures { Inside T.fits (calls.DivRem (T.value pair.0) (T.value pair.1)) result }
+    ensures { OutcomeOfFitting T.fits (calls.DivRem (T.value pair.0) (T.value pair.1)) result }
 {
-    let (n, d) = pair;
-    if is_zero(d) {
-        return Err(Refusal::ZeroDivisor);
-    }
+    let (n, d) = with_divisor(pair)?;
     if !n.quotient_fits(&d) {
         return Err(Refusal::NotFitting);
     }
@@ -27,12 +25,9 @@ pub(crate) fn div_rem<T: Operand>(pair: (T, T)) -> Result<Answer, Refusal>
 
 pub(crate) fn div_mod_floor<T: Operand>(pair: (T, T)) -> Result<Answer, Refusal>
     requires { T.fits (T.value pair.0) × T.fits (T.value pair.1) }
-    ensures { Inside T.fits (calls.DivModFloor (T.value pair.0) (T.value pair.1)) result }
+    ensures { OutcomeOfFitting T.fits (calls.DivModFloor (T.value pair.0) (T.value pair.1)) result }
 {
-    let (n, d) = pair;
-    if is_zero(d) {
-        return Err(Refusal::ZeroDivisor);
-    }
+    let (n, d) = with_divisor(pair)?;
     if !n.quotient_fits(&d) {
         return Err(Refusal::NotFitting);
     }
@@ -41,12 +36,9 @@ pub(crate) fn div_mod_floor<T: Operand>(pair: (T, T)) -> Result<Answer, Refusal>
 
 pub(crate) fn div_floor<T: Operand>(pair: (T, T)) -> Result<Answer, Refusal>
     requires { T.fits (T.value pair.0) × T.fits (T.value pair.1) }
-    ensures { Inside T.fits (calls.DivFloor (T.value pair.0) (T.value pair.1)) result }
+    ensures { OutcomeOfFitting T.fits (calls.DivFloor (T.value pair.0) (T.value pair.1)) result }
 {
-    let (n, d) = pair;
-    if is_zero(d) {
-        return Err(Refusal::ZeroDivisor);
-    }
+    let (n, d) = with_divisor(pair)?;
     if !n.quotient_fits(&d) {
         return Err(Refusal::NotFitting);
     }
@@ -55,12 +47,9 @@ pub(crate) fn div_floor<T: Operand>(pair: (T, T)) -> Result<Answer, Refusal>
 
 pub(crate) fn div_ceil<T: Operand>(pair: (T, T)) -> Result<Answer, Refusal>
     requires { T.fits (T.value pair.0) × T.fits (T.value pair.1) }
-    ensures { Inside T.fits (calls.DivCeil (T.value pair.0) (T.value pair.1)) result }
+    ensures { OutcomeOfFitting T.fits (calls.DivCeil (T.value pair.0) (T.value pair.1)) result }
 {
-    let (n, d) = pair;
-    if is_zero(d) {
-        return Err(Refusal::ZeroDivisor);
-    }
+    let (n, d) = with_divisor(pair)?;
     if !n.quotient_fits(&d) {
         return Err(Refusal::NotFitting);
     }
@@ -69,23 +58,17 @@ pub(crate) fn div_ceil<T: Operand>(pair: (T, T)) -> Result<Answer, Refusal>
 
 pub(crate) fn mod_floor<T: Operand>(pair: (T, T)) -> Result<Answer, Refusal>
     requires { T.fits (T.value pair.0) × T.fits (T.value pair.1) }
-    ensures { Inside T.fits (calls.ModFloor (T.value pair.0) (T.value pair.1)) result }
+    ensures { OutcomeOfFitting T.fits (calls.ModFloor (T.value pair.0) (T.value pair.1)) result }
 {
-    let (n, d) = pair;
-    if is_zero(d) {
-        return Err(Refusal::ZeroDivisor);
-    }
+    let (n, d) = with_divisor(pair)?;
     Ok(Answer::One(widen(n.mod_floor(&d))))
 }
 
 pub(crate) fn next_multiple_of<T: Operand>(pair: (T, T)) -> Result<Answer, Refusal>
     requires { T.fits (T.value pair.0) × T.fits (T.value pair.1) }
-    ensures { Inside T.fits (calls.NextMultipleOf (T.value pair.0) (T.value pair.1)) result }
+    ensures { OutcomeOfFitting T.fits (calls.NextMultipleOf (T.value pair.0) (T.value pair.1)) result }
 {
-    let (n, d) = pair;
-    if is_zero(d) {
-        return Err(Refusal::ZeroDivisor);
-    }
+    let (n, d) = with_divisor(pair)?;
     if !n.next_multiple_fits(&d) {
         return Err(Refusal::NotFitting);
     }
@@ -94,12 +77,9 @@ pub(crate) fn next_multiple_of<T: Operand>(pair: (T, T)) -> Result<Answer, Refus
 
 pub(crate) fn prev_multiple_of<T: Operand>(pair: (T, T)) -> Result<Answer, Refusal>
     requires { T.fits (T.value pair.0) × T.fits (T.value pair.1) }
-    ensures { Inside T.fits (calls.PrevMultipleOf (T.value pair.0) (T.value pair.1)) result }
+    ensures { OutcomeOfFitting T.fits (calls.PrevMultipleOf (T.value pair.0) (T.value pair.1)) result }
 {
-    let (n, d) = pair;
-    if is_zero(d) {
-        return Err(Refusal::ZeroDivisor);
-    }
+    let (n, d) = with_divisor(pair)?;
     if !n.prev_multiple_fits(&d) {
         return Err(Refusal::NotFitting);
     }
@@ -108,7 +88,7 @@ pub(crate) fn prev_multiple_of<T: Operand>(pair: (T, T)) -> Result<Answer, Refus
 
 pub(crate) fn is_multiple_of<T: Integer>(pair: (T, T)) -> Result<Answer, Refusal>
     requires { T.fits (T.value pair.0) × T.fits (T.value pair.1) }
-    ensures { Inside T.fits (calls.IsMultipleOf (T.value pair.0) (T.value pair.1)) result }
+    ensures { OutcomeOfFitting T.fits (calls.IsMultipleOf (T.value pair.0) (T.value pair.1)) result }
 {
     let (n, d) = pair;
     Ok(Answer::Truth(n.is_multiple_of(&d)))
@@ -116,7 +96,7 @@ pub(crate) fn is_multiple_of<T: Integer>(pair: (T, T)) -> Result<Answer, Refusal
 
 pub(crate) fn gcd<T: Operand>(pair: (T, T)) -> Result<Answer, Refusal>
     requires { T.fits (T.value pair.0) × T.fits (T.value pair.1) }
-    ensures { Inside T.fits (calls.Gcd (T.value pair.0) (T.value pair.1)) result }
+    ensures { OutcomeOfFitting T.fits (calls.Gcd (T.value pair.0) (T.value pair.1)) result }
 {
     let (a, b) = pair;
     if !a.gcd_fits(&b) {
@@ -127,7 +107,7 @@ pub(crate) fn gcd<T: Operand>(pair: (T, T)) -> Result<Answer, Refusal>
 
 pub(crate) fn lcm<T: Operand>(pair: (T, T)) -> Result<Answer, Refusal>
     requires { T.fits (T.value pair.0) × T.fits (T.value pair.1) }
-    ensures { Inside T.fits (calls.Lcm (T.value pair.0) (T.value pair.1)) result }
+    ensures { OutcomeOfFitting T.fits (calls.Lcm (T.value pair.0) (T.value pair.1)) result }
 {
     let (a, b) = pair;
     if !a.lcm_fits(&b) {
@@ -138,7 +118,7 @@ pub(crate) fn lcm<T: Operand>(pair: (T, T)) -> Result<Answer, Refusal>
 
 pub(crate) fn gcd_lcm<T: Operand>(pair: (T, T)) -> Result<Answer, Refusal>
     requires { T.fits (T.value pair.0) × T.fits (T.value pair.1) }
-    ensures { Inside T.fits (calls.GcdLcm (T.value pair.0) (T.value pair.1)) result }
+    ensures { OutcomeOfFitting T.fits (calls.GcdLcm (T.value pair.0) (T.value pair.1)) result }
 {
     let (a, b) = pair;
     if !a.gcd_fits(&b) {
@@ -152,7 +132,7 @@ pub(crate) fn gcd_lcm<T: Operand>(pair: (T, T)) -> Result<Answer, Refusal>
 
 pub(crate) fn extended_gcd<T: Operand>(pair: (T, T)) -> Result<Answer, Refusal>
     requires { T.fits (T.value pair.0) × T.fits (T.value pair.1) }
-    ensures { Inside T.fits (calls.ExtendedGcd (T.value pair.0) (T.value pair.1)) result }
+    ensures { OutcomeOfFitting T.fits (calls.ExtendedGcd (T.value pair.0) (T.value pair.1)) result }
 {
     let (a, b) = pair;
     if !a.gcd_fits(&b) {
@@ -167,7 +147,7 @@ pub(crate) fn extended_gcd<T: Operand>(pair: (T, T)) -> Result<Answer, Refusal>
 
 pub(crate) fn average_floor<T: Average + Operand>(pair: (T, T)) -> Result<Answer, Refusal>
     requires { T.fits (T.value pair.0) × T.fits (T.value pair.1) }
-    ensures { Inside T.fits (calls.AverageFloor (T.value pair.0) (T.value pair.1)) result }
+    ensures { OutcomeOfFitting T.fits (calls.AverageFloor (T.value pair.0) (T.value pair.1)) result }
 {
     let (a, b) = pair;
     Ok(Answer::One(widen(a.average_floor(&b))))
@@ -175,7 +155,7 @@ pub(crate) fn average_floor<T: Average + Operand>(pair: (T, T)) -> Result<Answer
 
 pub(crate) fn average_ceil<T: Average + Operand>(pair: (T, T)) -> Result<Answer, Refusal>
     requires { T.fits (T.value pair.0) × T.fits (T.value pair.1) }
-    ensures { Inside T.fits (calls.AverageCeil (T.value pair.0) (T.value pair.1)) result }
+    ensures { OutcomeOfFitting T.fits (calls.AverageCeil (T.value pair.0) (T.value pair.1)) result }
 {
     let (a, b) = pair;
     Ok(Answer::One(widen(a.average_ceil(&b))))
@@ -183,7 +163,7 @@ pub(crate) fn average_ceil<T: Average + Operand>(pair: (T, T)) -> Result<Answer,
 
 pub(crate) fn sqrt<T: Roots + Operand>(x: T) -> Result<Answer, Refusal>
     requires in_range { T.fits (T.value x) }
-    ensures { Inside T.fits (calls.Sqrt (T.value x)) result }
+    ensures { OutcomeOfFitting T.fits (calls.Sqrt (T.value x)) result }
 {
     if !is_from_zero(x) {
         return Err(Refusal::NegativeRoot);
@@ -193,14 +173,14 @@ pub(crate) fn sqrt<T: Roots + Operand>(x: T) -> Result<Answer, Refusal>
 
 pub(crate) fn cbrt<T: Roots + Operand>(x: T) -> Result<Answer, Refusal>
     requires in_range { T.fits (T.value x) }
-    ensures { Inside T.fits (calls.Cbrt (T.value x)) result }
+    ensures { OutcomeOfFitting T.fits (calls.Cbrt (T.value x)) result }
 {
     Ok(Answer::One(widen(x.cbrt())))
 }
 
 pub(crate) fn nth_root<T: Roots + Operand>(x: T, n: u32) -> Result<Answer, Refusal>
     requires in_range { T.fits (T.value x) }
-    ensures { Inside T.fits (calls.NthRoot (T.value x) (pos n)) result }
+    ensures { OutcomeOfFitting T.fits (calls.NthRoot (T.value x) (pos n)) result }
 {
     if n == 0 {
         return Err(Refusal::ZeroDegree);
@@ -213,7 +193,7 @@ pub(crate) fn nth_root<T: Roots + Operand>(x: T, n: u32) -> Result<Answer, Refus
 
 pub(crate) fn binomial<T: Operand>(pair: (T, T)) -> Result<Answer, Refusal>
     requires { T.fits (T.value pair.0) × T.fits (T.value pair.1) }
-    ensures { Inside T.fits (calls.Binomial (T.value pair.0) (T.value pair.1)) result }
+    ensures { OutcomeOfFitting T.fits (calls.Binomial (T.value pair.0) (T.value pair.1)) result }
 {
     let (n, k) = pair;
     if !is_from_zero(n) || !is_from_zero(k) {
@@ -223,4 +203,17 @@ pub(crate) fn binomial<T: Operand>(pair: (T, T)) -> Result<Answer, Refusal>
         return Err(Refusal::NotFitting);
     }
     Ok(Answer::One(widen(num_integer::binomial(n, k))))
+}
+
+/// Returns the dividend and the divisor, or `ZeroDivisor` if the divisor is 0.
+fn with_divisor<T: Integer>(pair: (T, T)) -> Result<(T, T), Refusal>
+    requires { T.fits (T.value pair.0) × T.fits (T.value pair.1) }
+    ensures { MatchResult result (λ tested. (tested ≡ pair) × (T.value pair.1 ≢ pos 0))
+        (λ refusal. (refusal ≡ refusals.ZeroDivisor) × (T.value pair.1 ≡ pos 0)) }
+{
+    if is_zero(pair.1) {
+        Err(Refusal::ZeroDivisor)
+    } else {
+        Ok(pair)
+    }
 }

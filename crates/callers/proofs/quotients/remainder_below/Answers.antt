@@ -1,6 +1,6 @@
 use Rattle.std.proofs.lemmas.Int.{to_z-of_z}
 use Rattle.num_integer.proofs.ForCallers.{floored_remainder_range}
-use Rattle.callers.proofs.plain.remainder_below.Goals as goal
+use Rattle.callers.proofs.quotients.remainder_below.Goals as goal
 
 pub returns : goal.returns
 returns c =

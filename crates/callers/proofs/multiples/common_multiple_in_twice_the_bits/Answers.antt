@@ -3,7 +3,7 @@ use Rattle.std.specs.Int.{FitsUnsignedBits}
 use Rattle.std.proofs.Common.{arith, subst}
 use Rattle.std.proofs.lemmas.Int.{ints}
 use Rattle.num_integer.proofs.ForCallers.{lcm_at_most_product, product_at_most, sizes}
-use Rattle.callers.proofs.plain.common_multiple_in_twice_the_bits.Goals as goal
+use Rattle.callers.proofs.multiples.common_multiple_in_twice_the_bits.Goals as goal
 
 pub lcm-requires-clause-lcm_fits : goal.lcm-requires-clause-lcm_fits
 lcm-requires-clause-lcm_fits c = λ l h.
