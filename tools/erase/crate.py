@@ -201,7 +201,11 @@ def texts_of(library: RustLibrary) -> dict[str, str]:
     others = additions.modules()
     made['lib.rs'] = head_of_root(library, others, made['lib.rs'])
     made |= {place: made_from(f'rust/by_hand/src/{place}') + text for place, text in others.items()}
-    return made | {place: made_from(sources) + text for place, (sources, text) in documentation.pages(page, BY_HAND).items()}
+    for place, (sources, text) in documentation.pages(page, BY_HAND).items():
+        mark = made_from(sources)
+        # rustdoc takes the summary of a module from the first block of its page
+        made[place] = f'{text}\n<!-- {mark[3:-1]} -->\n' if place.endswith('.md') else mark + text
+    return made
 
 
 def formatted(out: Path) -> None:

@@ -163,17 +163,17 @@ class Contract:
     clauses: list[str]
     words: list[str]
 
-    def lines(self) -> list[str]:
+    def text(self) -> str:
         parts = [f'`{clause}`' for clause in self.clauses] + [f'Words: {", ".join(self.words)}'] * bool(self.words)
-        return [f'## {self.title}', *(line for part in parts for line in wrapped(f'- {part}', indent='  '))]
+        return f'\n## {self.title}\n\n' + ''.join(f'- {part}\n' for part in parts)
 
 
 class Page:
     """What the modules of definitions have: the words that are cited, of which those of the toolchain are explained by hand, and the
-    contracts by the public place of their items. `cited` has the crates whose words these link to."""
+    contracts by the public place of their items."""
 
     def __init__(self, folder: pathlib.Path) -> None:
-        self.specs, self.contracts, self.cited = Specs(folder, CRATES), dict[Place, list[Contract]](), set[str]()
+        self.specs, self.contracts = Specs(folder, CRATES), dict[Place, list[Contract]]()
 
 
 def says_more(text: str) -> bool:
@@ -204,7 +204,6 @@ def link_to_contract(eraser: Eraser, item: Item, owner: Item | None, place: Plac
         return []
     names = imports_of(eraser.source, eraser.module.items) | imports_of(eraser.source, owner.items if owner else item.items)
     words = eraser.page.specs.cite('\n'.join(texts), names)
-    eraser.page.cited |= {word.crate for word in words}
     path = '::'.join((*place, *([owner.name] if owner else []), item.name))
     title = f'`{item.of_trait}` for `{path}`' if item.kind == 'impl' else f'`{path}`'
     contract = Contract(title, texts, [f'[`{word.name}`]({word.crate}#{anchor(word.name)})' for word in words])
@@ -216,15 +215,19 @@ def link_to_contract(eraser: Eraser, item: Item, owner: Item | None, place: Plac
 # ---- the modules `definitions` and `definitions::contracts`
 
 def pages(page: Page, by_hand: pathlib.Path) -> dict[str, tuple[str, str]]:
-    """The files of the two modules: what each is made from, and its text. Call it after the comments have been made."""
-    words, head = ((by_hand / name).read_text().rstrip('\n').split('\n') for name in ('definitions.md', 'contracts.md'))
-    return {'definitions.rs': ('crates/*/specs and rust/by_hand/definitions.md', definitions(page, words)),
-            'definitions/contracts.rs': ('crates/*/src and rust/by_hand/contracts.md', contracts(page, head))}
-
-
-def inner(lines: Iterable[str], margin: str = '') -> str:
-    """The lines of a comment at the head of a module."""
-    return ''.join(f'{margin}//! {line}'.rstrip() + '\n' for line in lines)
+    """The file of the modules and the pages that are their documentation: what each is made from, and its text. Call it after the
+    comments have been made."""
+    words, head = ((by_hand / name).read_text() for name in ('definitions.md', 'contracts.md'))
+    explained = {part for code in re.findall('`([^`\n]*)`', words) for part in code.split()}
+    missing = sorted(name for name in page.specs.outside if name.strip('◌') not in explained)
+    if missing:
+        raise Unknown(f'rust/by_hand/definitions.md: no {", ".join(missing)}')
+    below = {'contracts': ('crates/*/src and rust/by_hand/contracts.md', head + contracts(page))}
+    below |= {crate: (f'crates/{crate}/specs', text) for crate in CRATES if (text := definitions(page, crate))}
+    modules = [f'\n#[doc = include_str!("definitions/{name}.md")]\npub mod {name} {{}}\n' for name in below]
+    return {'definitions.rs': ('crates/*/specs', ''.join(['#![doc = include_str!("definitions.md")]\n', *modules])),
+            'definitions.md': ('rust/by_hand/definitions.md', words),
+            **{f'definitions/{name}.md': made for name, made in below.items()}}
 
 
 def see_each_once(titles: list[str], where: str) -> None:
@@ -235,27 +238,17 @@ def see_each_once(titles: list[str], where: str) -> None:
         raise Unknown(f'{where}: one anchor for {", ".join(twice)}')
 
 
-def definitions(page: Page, head: list[str]) -> str:
-    """The module `definitions`, below a head by hand: each word that a contract cites."""
-    explained = {part for line in head for code in re.findall('`([^`]*)`', line.replace('\\|', '|')) for part in code.split()}
-    missing = sorted(name for name in page.specs.outside if name.strip('◌') not in explained)
-    if missing:
-        raise Unknown(f'rust/by_hand/definitions.md: no {", ".join(missing)}')
-    text = inner(head) + '\npub mod contracts;\n'
-    for crate in CRATES:
-        words = [word for word in page.specs.cited.values() if word.crate == crate]
-        if words:
-            see_each_once([word.name for word in words], f'crates/{crate}/specs')
-            words.sort(key=lambda word: (word.file, [*page.specs.read(word.crate, word.file)[0]].index(word.name)))
-            lines = [f'Words of {PAGES[crate]}.'] + [line for word in words for line in (
-                f'## `{word.name}`', *filter(None, [word.comment]), '```text', *word.text.split('\n'), '```')]
-            text += f'\npub mod {crate} {{\n{inner(lines, "    ")}}}\n'
-    return text
+def definitions(page: Page, crate: str) -> str:
+    """The page of the words of a crate that contracts cite, or an empty text."""
+    words = [word for word in page.specs.cited.values() if word.crate == crate]
+    see_each_once([word.name for word in words], f'crates/{crate}/specs')
+    words.sort(key=lambda word: (word.file, [*page.specs.read(word.crate, word.file)[0]].index(word.name)))
+    parts = [f'\n## `{word.name}`\n\n{word.comment}\n\n```text\n{word.text}\n```\n' for word in words]
+    return ''.join([f'Words of {PAGES[crate]}.\n', *parts]) if words else ''
 
 
-def contracts(page: Page, head: list[str]) -> str:
-    """The module `definitions::contracts`, below a head by hand: the contract of each public item."""
+def contracts(page: Page) -> str:
+    """The contract of each public item."""
     found = [contract for _, listed in sorted(page.contracts.items(), key=lambda row: row[0]) for contract in listed]
     see_each_once([contract.title for contract in found], 'crates/*/src')
-    lines = [*head, '', *(line for contract in found for line in contract.lines())]
-    return f'{inner(lines)}\nuse super::{{{", ".join(sorted(page.cited))}}};\n'
+    return ''.join(contract.text() for contract in found)

@@ -162,7 +162,7 @@ if has_packages "${originals[@]}"; then
     # tools/gate/check_bindings.sh calls them
     check 'the exports for C' strictly rust/c cargo build --release
     check 'the shared library that cargo makes of them' is_shared_library
-    check 'its documentation' strictly rust cargo doc --no-deps --all-features
+    check 'the documentation of the package' strictly unpacked cargo doc --no-deps --all-features
     check 'its links to contracts and to their words' tools/cellarcove check rust_docs --links "$CARGO_TARGET_DIR/doc/cellarcove"
     if has cargo-clippy; then
         check 'clippy' strictly rust cargo clippy --all-targets --all-features -- -D warnings
