@@ -4,8 +4,6 @@ item has a comment, and each `Result` its `# Errors`, rustc and clippy see.
 
     tools/cellarcove check rust_docs                 prints what lacks what, and a count; status 1 if anything does
     tools/cellarcove check rust_docs --links DOC     reads the pages that rustdoc wrote: each link to a title leads to that title"""
-from __future__ import annotations
-
 import pathlib
 import re
 from collections.abc import Iterator

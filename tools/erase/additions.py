@@ -5,8 +5,6 @@ place of that one, below its comment if it has none of its own. A trait or an im
 other methods, and its attributes, as does a struct or an enum by its name; an implementation also has the bounds by hand. Every other item
 follows the items of the file. Where it has all functions of the made file it is the whole file. A file with another path is a module of
 its own."""
-from __future__ import annotations
-
 from collections.abc import Iterable
 from pathlib import Path
 

@@ -1,6 +1,4 @@
 """The examples of the Rust crate, and its pages of contracts and of their words."""
-from __future__ import annotations
-
 import pathlib
 
 import pytest

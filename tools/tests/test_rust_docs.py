@@ -1,6 +1,4 @@
 """The check of the made comments and pages."""
-from __future__ import annotations
-
 import pathlib
 
 import pytest
