@@ -27,10 +27,10 @@ PARTS = {verb: {name: Part(**row) for name, row in rows.items()} for verb, rows 
 
 def run_part(verb: str, part: Part, words: list[str]) -> int:
     """The status of a part."""
-    name, _, function = part.runs.partition(':')
-    if not function:
-        command = [file for word in name.split() for file in (sorted(glob.glob(word, root_dir=ROOT)) if '*' in word else [word])]
+    if ' ' in part.runs:
+        command = [file for word in part.runs.split() for file in (sorted(glob.glob(word, root_dir=ROOT)) if '*' in word else [word])]
         return 0 if run(*command, *words) else 1
+    name, function = part.runs.split(':')
     module = importlib.import_module(name)
     if words == ['--help']:
         print(module.__doc__)

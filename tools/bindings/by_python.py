@@ -104,7 +104,7 @@ def is_bezout(bounds: Pair, x: int, y: int, status: int, values: Sequence[int] |
     return status == 0 and found == gcd == p * x + q * y and small
 
 
-def last(end: int, holds: Callable[[int], bool]) -> int:
+def last(end: int, holds: Callable[[int], Any]) -> int:
     """The last number below an end for which something holds that holds for 0, and for no number after one for which it does not."""
     first = 0
     while first + 1 < end:

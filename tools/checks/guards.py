@@ -26,7 +26,7 @@ RUST = ROOT / 'rust'
 TAKEN_OUT = Path(__file__).resolve().parent / 'taken_out.rs'
 TESTS = ('domains', 'guards', 'own_type')        # those of rust/tests that are tried, one after the other, until one fails
 MANY = re.compile(r'mod (?:small|slices|wide);\n')      # the parts of `domains` that try many numbers, which the copy has not
-SECONDS = 60                                    # that they may take
+SECONDS = '60'                                  # that they may take
 FEW = 8                                         # of so many guards of a kind, one is in the sample
 
 
@@ -117,14 +117,7 @@ def build(folder: Path) -> dict[str, str]:
 def fails(programs: dict[str, str], number: int) -> bool:
     """Whether a test fails without the guard of this number."""
     variables = os.environ | {'GUARD': str(number), 'RUST_BACKTRACE': '0'}
-    for name in TESTS:
-        try:
-            run = subprocess.run([programs[name], '--quiet'], env=variables, capture_output=True, timeout=SECONDS)
-        except subprocess.TimeoutExpired:
-            return True
-        if run.returncode:
-            return True
-    return False
+    return any(subprocess.run(['timeout', SECONDS, programs[name], '--quiet'], env=variables, capture_output=True).returncode for name in TESTS)
 
 
 def check(words: list[str]) -> bool:

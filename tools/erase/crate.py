@@ -81,7 +81,8 @@ class Eraser(Deletion):
         if [self.at(j) for j in names] == ['std', 'error', 'Error']:
             self.drop(k, last)
             return self.write(k, 'use crate::errors::Error;')
-        exports = ''.join(f'\npub(crate) use crate::{"::".join(path)};' for name, path in private.items() if not self.is_at_root(name))
+        at_root = {path[0] for crate, path in self.library.modules if path and crate in AT_ROOT - {self.crate}}
+        exports = ''.join(f'\npub(crate) use crate::{"::".join(path)};' for name, path in private.items() if name not in at_root)
         if all(name in gone for _, name in imports):
             self.drop_item(item.first, last)
             return self.write(last, exports)
@@ -97,10 +98,6 @@ class Eraser(Deletion):
         """Whether a path leads to a module that is private in Rust."""
         found = self.library.find(self.module, path)
         return found is not None and found[1] is None and not self.library.is_open(found[0])
-
-    def is_at_root(self, name: str) -> bool:
-        """Whether the root of the Rust crate has a module of this name from another crate."""
-        return any((crate, (name,)) in self.library.modules for crate in AT_ROOT - {self.crate})
 
     def struct(self, item: Item) -> None:
         """A struct without bounds, which its methods have. Where a public one has an invariant, no other crate may change its fields."""

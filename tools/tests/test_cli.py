@@ -11,8 +11,8 @@ PARTS = [part for parts in cli.PARTS.values() for name, part in parts.items() if
 
 @pytest.mark.parametrize('part', PARTS)
 def test_parts(part: cli.Part) -> None:
-    name, _, function = part.runs.partition(':')
-    if function:
+    if ' ' not in part.runs:
+        name, function = part.runs.split(':')
         assert callable(getattr(importlib.import_module(name), function))
 
 
