@@ -28,11 +28,8 @@ check() {
 }
 
 # counted NAME COMMAND..: the command succeeds. The line has the last one that it printed.
-counted() {
-    local status=0
-    "${@:2}" >"$work/log" 2>&1 || status=$?
-    judge "$1, $(tail -n 1 "$work/log")" "$status"
-}
+counted() { note=last_line check "$@"; }
+last_line() { tail -n 1 "$1"; }
 
 # has PROGRAM WHAT: the program is on the machine, or a line says that what needs it is skipped.
 has() {

@@ -4,7 +4,6 @@
 
 import array
 import ast
-import calendar
 import copy
 import ctypes
 import datetime
@@ -80,18 +79,6 @@ class Small(unittest.TestCase):
             self.assertEqual([cellarcove.choice_of_rank(rank, n, count) for rank in range(len(choices))], choices)
             with self.assertRaisesRegex(Refused, 'OUTSIDE'):
                 cellarcove.choice_of_rank(len(choices), n, count)
-
-    def test_weekdays_of_months(self):
-        for year, month in itertools.product((1900, 2000, 2026, 2028), range(1, 13)):
-            self.assertEqual(cellarcove.is_leap_year(year), calendar.isleap(year))
-            self.assertEqual(cellarcove.days_in_month(year, month), calendar.monthrange(year, month)[1])
-            dates = [date for date in calendar.Calendar().itermonthdates(year, month) if date.month == month]
-            for weekday in range(1, 8):
-                days = [date for date in dates if date.isoweekday() == weekday]
-                self.assertEqual(cellarcove.last_weekday_of_month(year, month, weekday).to_date(), days[-1])
-                self.assertEqual([cellarcove.nth_weekday_of_month(year, month, weekday, n + 1).to_date() for n in range(len(days))], days)
-                with self.assertRaisesRegex(Refused, 'NO_DATE'):
-                    cellarcove.nth_weekday_of_month(year, month, weekday, len(days) + 1)
 
 
 class Dates(unittest.TestCase):
