@@ -9,9 +9,10 @@ from tools.bindings.python import ALIASES, RENAMED
 
 HEAD = '''# Calls by language
 
-Each call of the libraries, and its name in Rattle, in plain Rust, in C, in C++, in Python and in JavaScript. A call of C begins with `cellarcove_` and has
-a form for each type in braces. `checked` has the calls of its crate too, where they return `None` if the plain one may not be made; they
-have no rows. If a cell is empty, the last one says what to use instead.
+A call of C begins with `cellarcove_` and has a form for each type in braces. `checked` has the calls of its crate too, which return `None`
+if the plain one's precondition doesn't hold; they have no rows. If a cell is empty, the last one says what to use instead.
+
+## By task
 
 '''
 CHECKED = re.compile(r'\bchecked::')
@@ -79,5 +80,9 @@ def cells(export: str, in_cpp: str = '', in_python: str = '', in_javascript: str
 
 
 def page() -> str:
-    table = [('Rattle', 'Rust', 'C', 'C++', 'Python', 'JavaScript', 'instead'), ('---',) * 7, *rows()]
-    return HEAD + ''.join(f'| {" | ".join(cells)} |\n' for cells in table)
+    names, made = ('Rattle', 'Rust', 'C', 'C++', 'Python', 'JavaScript', 'instead'), rows()
+    of = {row[1].strip('`').removeprefix('cellarcove::'): row for row in made}
+    tasks = [(task, *of[path.strip('`')]) for task, path in listed('tasks.txt', ' = ').items()]
+    tables = [('task', *names), ('---',) * 8, *tasks], [names, ('---',) * 7, *made]
+    finder, every = (''.join(f'| {" | ".join(cells)} |\n' for cells in table) for table in tables)
+    return f'{HEAD}{finder}\n## Every call\n\n{every}'
