@@ -104,8 +104,8 @@ test('arrays', () => {
   assert.deepEqual(gcd(x, 0).value[2], 7n);
 });
 
-test('the examples of the page hold', () => {
-  const page = readFileSync(new URL('../README.md', import.meta.url), 'utf8').split('```js\n')[1].split('```')[0];
+for (const name of ['README.md', 'docs/JAVASCRIPT.md', 'docs/COOKBOOK.md', 'bindings/js/README.md']) test(`the examples of ${name} hold`, () => {
+  const page = readFileSync(new URL(`../../../${name}`, import.meta.url), 'utf8').split('```js\n')[1].split('```')[0];
   for (const [, expression, said] of page.matchAll(/^(?!import)(.*); +\/\/ (.*)$/gm)) {
     let value;
     try {
