@@ -22,10 +22,6 @@ at() { (cd "$work/$1" && "${@:2}"); }
 # strictly FOLDER COMMAND..: the same. Each warning is an error.
 strictly() { RUSTFLAGS=-Dwarnings RUSTDOCFLAGS=-Dwarnings at "$@"; }
 
-# check_tests NAME COMMAND..: the command succeeds and runs tests. The line has their number.
-check_tests() { note=tests check "$@"; }
-tests() { awk '/^test result: ok/ { count += $4 } END { print count + 0, "tests"; exit !count }' "$1"; }
-
 # has COMMAND: the machine has the command.
 has() { command -v "$1" >/dev/null; }
 
