@@ -5,7 +5,7 @@ import {test} from 'node:test';
 import {inspect} from 'node:util';
 import {CALLS, camel, cellarcove, judge, rows} from './rows.js';
 
-const {Fraction, PlainDate, Refused, Status, VERSION, attempt: _, ...calls} = cellarcove;
+const {BUILT_BY, Fraction, PlainDate, Refused, Status, VERSION, attempt: _, ...calls} = cellarcove;
 const {checkedDifference, divModFloor, easter, fractionAdd, gcd, gcdOf, inverseModulo, isLeapYear, isoWeek, lcm, nthRoot, plusMonths, shares, tryLcm} = calls;
 const {choiceOfRank, daysBetween, daysInMonth, fractionCmp, isPerfectPower, powerModulo, tryFractionAdd, tryPlusMonths, weekday} = calls;
 const found = [];
@@ -119,4 +119,5 @@ for (const name of ['README.md', 'docs/JAVASCRIPT.md', 'docs/COOKBOOK.md', 'bind
 
 test('the version is that of the package', () => {
   assert.equal(VERSION, JSON.parse(readFileSync(new URL('../package.json', import.meta.url), 'utf8')).version);
+  assert.equal(BUILT_BY, process.execArgv.includes('--experimental-wasm-memory64') ? 'rattle' : 'cargo');
 });
