@@ -31,7 +31,7 @@ stop() { echo "release.sh: $*" >&2 && exit 1; }
 
 [ -z "$(git status --porcelain)" ] || stop 'the checkout has changes that are not committed'
 grep -q "^gate: commit $commit," out/passed 2>/dev/null || stop "\`.ci/run\` has not passed at $commit in this checkout"
-[ "$(grep -m 1 '^## ' CHANGELOG.md)" = "## $version" ] || stop "CHANGELOG.md does not begin with version $version, which rust/Cargo.toml has"
+[[ $(grep -m 1 "^## " CHANGELOG.md) = "## $version ("* ]] || stop "CHANGELOG.md does not begin with version $version, which rust/Cargo.toml has"
 
 # ---- the files
 
@@ -170,7 +170,7 @@ notes() {
     [ "$quick" = no ] || printf -- '- %s: left out\n' \
         'the second suite of seeded bugs, the first lines of both suites, each guard taken out, and most tests of the package for cargo'
     printf '\n## Changes\n'
-    sed -n "/^## $version\$/,/^## /p" "$work/one/clone/CHANGELOG.md" | sed '/^## /d'
+    sed -n "/^## $version (/,/^## /p" "$work/one/clone/CHANGELOG.md" | sed '/^## /d'
 }
 
 # tried NAME COMMAND..: a check whose line is for the notes too.
