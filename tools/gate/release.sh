@@ -35,6 +35,16 @@ grep -q "^gate: commit $commit," out/passed 2>/dev/null || stop "\`.ci/run\` has
 
 # ---- the files
 
+# with_address CLONE: if rust/Cargo.toml has the address of the repository, the other packages get it too.
+with_address() {
+    local address
+    address=$(sed -nE 's/^repository = "(.*)"$/\1/p' "$1/rust/Cargo.toml")
+    [ -n "$address" ] || return 0
+    printf '\n[project.urls]\nSource = "%s"\n' "$address" >>"$1/bindings/python/pyproject.toml"
+    sed -i "s|^  \"license\"|  \"repository\": \"$address\",\n&|" "$1/bindings/js/package.json"
+    sed -i "s|^license = .*|&\nrepository = \"$address\"|" "$1/rust/num-integer/Cargo.toml"
+}
+
 # clone FOLDER: a clean clone of the commit, with the static library that the gate has built.
 clone() {
     git clone -q . "$1" && git -C "$1" checkout -q "$commit" || return 1
@@ -42,7 +52,7 @@ clone() {
         is_current "$proved" cellarcove_c || { echo "$proved is older than its sources" && return 1; }
         mkdir -p "$1/crates/cellarcove_c/out" && cp "$proved" "$1/$proved"
     fi
-    (cd "$1" && bindings/build)
+    with_address "$1" && (cd "$1" && bindings/build)
 }
 
 # for_cargo CLONE FOLDER: the package of the crate, and that of num-integer. The packages that cargo finds are Debian's.
