@@ -178,7 +178,7 @@ notes() {
     printf '\nWhat was tried of these files:\n\n'
     sed 's/^/- /' "$work/said"
     [ "$quick" = no ] || printf -- '- %s: left out\n' \
-        'the second suite of seeded bugs, the first lines of both suites, each guard taken out, and most tests of the package for cargo'
+        'the second suite of mutants, the first lines of both suites, each guard taken out, and most tests of the package for cargo'
     printf '\n## Changes\n'
     sed -n "/^## $version (/,/^## /p" "$work/one/clone/CHANGELOG.md" | sed '/^## /d'
 }
@@ -207,8 +207,8 @@ tried 'the page is served, and calls are tried on it' tries_the_page
 tried 'the sources are those of the commit' tries_the_sources
 if [ "$quick" = no ]; then
     tried 'each guard of plain Rust that is taken out is missed by a test' tools/cellarcove check guards
-    tried 'the first line of each seeded bug is true' tools/cellarcove check wrong_lines
-    tried "the second suite of $(ls crates/*/must-fail-release/*.edit | wc -l) seeded bugs is rejected" tools/gate/check_must_fail_release.sh
+    tried 'the first line of each mutant is true' tools/cellarcove check wrong_lines
+    tried "the second suite of $(ls crates/*/must-fail-release/*.edit | wc -l) mutants is rejected" tools/gate/check_must_fail_release.sh
 fi
 if finish; then
     mkdir -p "$folder" && cp "$files"/* "$work/one/SHA256SUMS" "$folder" && notes >"$folder/NOTES.md" && ls -l "$folder"
