@@ -408,15 +408,14 @@ CELLARCOVE_PURE cellarcove_i64_answer cellarcove_gcd_of_i64(const int64_t *numbe
  *  null if numbers_len is 0. The status is always CELLARCOVE_ANSWER. */
 CELLARCOVE_PURE cellarcove_u64_answer cellarcove_gcd_of_u64(const uint64_t *numbers, size_t numbers_len);
 
-/** The least common multiple of the numbers, which is not negative. That of -4, 6 and 10 is 60, that of numbers of
- *  which one is 0 is 0, and that of no numbers is 1. numbers points to numbers_len numbers, aligned, which do not
- *  change during the call; it may be null if numbers_len is 0. CELLARCOVE_NOT_FITTING if the multiple does not
- *  fit. */
+/** The least common multiple of the numbers, which is not negative. That of -4, 6 and 10 is 60. It is 0 if one of
+ *  the numbers is 0, and 1 for no numbers. numbers points to numbers_len numbers, aligned, which do not change
+ *  during the call; it may be null if numbers_len is 0. CELLARCOVE_NOT_FITTING if the multiple does not fit. */
 CELLARCOVE_PURE cellarcove_i64_answer cellarcove_lcm_of_i64(const int64_t *numbers, size_t numbers_len);
 
-/** The least common multiple of the numbers. That of 4, 6 and 10 is 60, that of numbers of which one is 0 is 0,
- *  and that of no numbers is 1. numbers points to numbers_len numbers, aligned, which do not change during the
- *  call; it may be null if numbers_len is 0. CELLARCOVE_NOT_FITTING if the multiple does not fit. */
+/** The least common multiple of the numbers. That of 4, 6 and 10 is 60. It is 0 if one of the numbers is 0, and 1
+ *  for no numbers. numbers points to numbers_len numbers, aligned, which do not change during the call; it may be
+ *  null if numbers_len is 0. CELLARCOVE_NOT_FITTING if the multiple does not fit. */
 CELLARCOVE_PURE cellarcove_u64_answer cellarcove_lcm_of_u64(const uint64_t *numbers, size_t numbers_len);
 
 /* ---- Averages and roots ---- */
@@ -709,31 +708,34 @@ CELLARCOVE_CONST cellarcove_i64_solutions cellarcove_chinese_remainder_i64(int64
 CELLARCOVE_CONST cellarcove_u64_solutions cellarcove_chinese_remainder_u64(uint64_t a, uint64_t m, uint64_t b,
     uint64_t n);
 
-/** The smallest number from from on that is first modulo step. For 10, 1 and 4 it is 13. CELLARCOVE_BAD_MODULUS if
- *  step is not positive. CELLARCOVE_NOT_FITTING if the number does not fit. */
-CELLARCOVE_CONST cellarcove_i64_answer cellarcove_next_congruent_i64(int64_t from, int64_t first, int64_t step);
+/** The smallest number from from on that is residue modulo modulus. For 10, 1 and 4 it is 13.
+ *  CELLARCOVE_BAD_MODULUS if modulus is not positive. CELLARCOVE_NOT_FITTING if the number does not fit. */
+CELLARCOVE_CONST cellarcove_i64_answer cellarcove_next_congruent_i64(int64_t from, int64_t residue, int64_t modulus);
 
-/** The smallest number from from on that is first modulo step. For 10, 1 and 4 it is 13. CELLARCOVE_BAD_MODULUS if
- *  step is 0. CELLARCOVE_NOT_FITTING if the number does not fit. */
-CELLARCOVE_CONST cellarcove_u64_answer cellarcove_next_congruent_u64(uint64_t from, uint64_t first, uint64_t step);
+/** The smallest number from from on that is residue modulo modulus. For 10, 1 and 4 it is 13.
+ *  CELLARCOVE_BAD_MODULUS if modulus is 0. CELLARCOVE_NOT_FITTING if the number does not fit. */
+CELLARCOVE_CONST cellarcove_u64_answer cellarcove_next_congruent_u64(uint64_t from, uint64_t residue, uint64_t
+    modulus);
 
-/** The largest number up to to that is first modulo step. For 10, 1 and 4 it is 9. CELLARCOVE_BAD_MODULUS if step
- *  is not positive. CELLARCOVE_NOT_FITTING if the number does not fit. */
-CELLARCOVE_CONST cellarcove_i64_answer cellarcove_previous_congruent_i64(int64_t to, int64_t first, int64_t step);
+/** The largest number up to to that is residue modulo modulus. For 10, 1 and 4 it is 9. CELLARCOVE_BAD_MODULUS if
+ *  modulus is not positive. CELLARCOVE_NOT_FITTING if the number does not fit. */
+CELLARCOVE_CONST cellarcove_i64_answer cellarcove_previous_congruent_i64(int64_t to, int64_t residue, int64_t
+    modulus);
 
-/** The largest number up to to that is first modulo step. For 10, 1 and 4 it is 9. CELLARCOVE_BAD_MODULUS if step
- *  is 0. CELLARCOVE_NOT_FITTING if the number is negative. */
-CELLARCOVE_CONST cellarcove_u64_answer cellarcove_previous_congruent_u64(uint64_t to, uint64_t first, uint64_t step);
+/** The largest number up to to that is residue modulo modulus. For 10, 1 and 4 it is 9. CELLARCOVE_BAD_MODULUS if
+ *  modulus is 0. CELLARCOVE_NOT_FITTING if the number is negative. */
+CELLARCOVE_CONST cellarcove_u64_answer cellarcove_previous_congruent_u64(uint64_t to, uint64_t residue, uint64_t
+    modulus);
 
-/** How many numbers from from to to are first modulo step. For 1, 10, 1 and 4 it is 3. CELLARCOVE_BAD_MODULUS if
- *  step is not positive. CELLARCOVE_NOT_FITTING if the count does not fit. */
-CELLARCOVE_CONST cellarcove_i64_answer cellarcove_count_congruent_i64(int64_t from, int64_t to, int64_t first,
-    int64_t step);
+/** How many numbers from from to to are residue modulo modulus. For 1, 10, 1 and 4 it is 3. CELLARCOVE_BAD_MODULUS
+ *  if modulus is not positive. CELLARCOVE_NOT_FITTING if the count does not fit. */
+CELLARCOVE_CONST cellarcove_i64_answer cellarcove_count_congruent_i64(int64_t from, int64_t to, int64_t residue,
+    int64_t modulus);
 
-/** How many numbers from from to to are first modulo step. For 1, 10, 1 and 4 it is 3. CELLARCOVE_BAD_MODULUS if
- *  step is 0. CELLARCOVE_NOT_FITTING if the count does not fit. */
-CELLARCOVE_CONST cellarcove_u64_answer cellarcove_count_congruent_u64(uint64_t from, uint64_t to, uint64_t first,
-    uint64_t step);
+/** How many numbers from from to to are residue modulo modulus. For 1, 10, 1 and 4 it is 3. CELLARCOVE_BAD_MODULUS
+ *  if modulus is 0. CELLARCOVE_NOT_FITTING if the count does not fit. */
+CELLARCOVE_CONST cellarcove_u64_answer cellarcove_count_congruent_u64(uint64_t from, uint64_t to, uint64_t
+    residue, uint64_t modulus);
 
 /** The smallest number from from on that is a modulo m and b modulo n. The least common multiple of m and n need
  *  not fit. For 10, 1, 4, 3 and 6 it is 21. CELLARCOVE_BAD_MODULUS if m or n is not positive.

@@ -602,8 +602,8 @@ template <class Items0>
     return gcd_of(numbers.data(), numbers.size());
 }
 
-/// The least common multiple of the numbers, which is not negative. That of -4, 6 and 10 is 60, that of numbers of
-/// which one is 0 is 0, and that of no numbers is 1. status::not_fitting if the multiple does not fit.
+/// The least common multiple of the numbers, which is not negative. That of -4, 6 and 10 is 60. It is 0 if one of the
+/// numbers is 0, and 1 for no numbers. status::not_fitting if the multiple does not fit.
 [[nodiscard]] inline result<std::int64_t> lcm_of(const std::int64_t *numbers, detail::checked<std::size_t> numbers_length) {
     if (auto error = detail::error_of(numbers_length); error != status::answer) {
         return result<std::int64_t>(error);
@@ -612,8 +612,8 @@ template <class Items0>
     return r.status == CELLARCOVE_ANSWER ? result<std::int64_t>(r.value) : result<std::int64_t>(static_cast<status>(r.status));
 }
 
-/// The least common multiple of the numbers. That of 4, 6 and 10 is 60, that of numbers of which one is 0 is 0, and
-/// that of no numbers is 1. status::not_fitting if the multiple does not fit.
+/// The least common multiple of the numbers. That of 4, 6 and 10 is 60. It is 0 if one of the numbers is 0, and 1 for
+/// no numbers. status::not_fitting if the multiple does not fit.
 [[nodiscard]] inline result<std::uint64_t> lcm_of(const std::uint64_t *numbers, detail::checked<std::size_t> numbers_length) {
     if (auto error = detail::error_of(numbers_length); error != status::answer) {
         return result<std::uint64_t>(error);
@@ -1111,38 +1111,38 @@ template <class N0, class N1, class N2, class N3> [[nodiscard]] auto chinese_rem
     }
 }
 
-/// The smallest number from from on that is first modulo step. For 10, 1 and 4 it is 13. status::bad_modulus if step
-/// is not positive. status::not_fitting if the number does not fit.
-template <class N0, class N1, class N2> [[nodiscard]] auto next_congruent(N0 from, N1 first, N2 step) {
+/// The smallest number from from on that is residue modulo modulus. For 10, 1 and 4 it is 13. status::bad_modulus if
+/// modulus is not positive. status::not_fitting if the number does not fit.
+template <class N0, class N1, class N2> [[nodiscard]] auto next_congruent(N0 from, N1 residue, N2 modulus) {
     if constexpr (detail::is_signed<N0, N1, N2>()) {
-        auto r = cellarcove_next_congruent_i64(static_cast<std::int64_t>(from), static_cast<std::int64_t>(first), static_cast<std::int64_t>(step));
+        auto r = cellarcove_next_congruent_i64(static_cast<std::int64_t>(from), static_cast<std::int64_t>(residue), static_cast<std::int64_t>(modulus));
         return r.status == CELLARCOVE_ANSWER ? result<std::int64_t>(r.value) : result<std::int64_t>(static_cast<status>(r.status));
     } else {
-        auto r = cellarcove_next_congruent_u64(static_cast<std::uint64_t>(from), static_cast<std::uint64_t>(first), static_cast<std::uint64_t>(step));
+        auto r = cellarcove_next_congruent_u64(static_cast<std::uint64_t>(from), static_cast<std::uint64_t>(residue), static_cast<std::uint64_t>(modulus));
         return r.status == CELLARCOVE_ANSWER ? result<std::uint64_t>(r.value) : result<std::uint64_t>(static_cast<status>(r.status));
     }
 }
 
-/// The largest number up to to that is first modulo step. For 10, 1 and 4 it is 9. status::bad_modulus if step is not
-/// positive. status::not_fitting if the number does not fit.
-template <class N0, class N1, class N2> [[nodiscard]] auto previous_congruent(N0 to, N1 first, N2 step) {
+/// The largest number up to to that is residue modulo modulus. For 10, 1 and 4 it is 9. status::bad_modulus if
+/// modulus is not positive. status::not_fitting if the number does not fit.
+template <class N0, class N1, class N2> [[nodiscard]] auto previous_congruent(N0 to, N1 residue, N2 modulus) {
     if constexpr (detail::is_signed<N0, N1, N2>()) {
-        auto r = cellarcove_previous_congruent_i64(static_cast<std::int64_t>(to), static_cast<std::int64_t>(first), static_cast<std::int64_t>(step));
+        auto r = cellarcove_previous_congruent_i64(static_cast<std::int64_t>(to), static_cast<std::int64_t>(residue), static_cast<std::int64_t>(modulus));
         return r.status == CELLARCOVE_ANSWER ? result<std::int64_t>(r.value) : result<std::int64_t>(static_cast<status>(r.status));
     } else {
-        auto r = cellarcove_previous_congruent_u64(static_cast<std::uint64_t>(to), static_cast<std::uint64_t>(first), static_cast<std::uint64_t>(step));
+        auto r = cellarcove_previous_congruent_u64(static_cast<std::uint64_t>(to), static_cast<std::uint64_t>(residue), static_cast<std::uint64_t>(modulus));
         return r.status == CELLARCOVE_ANSWER ? result<std::uint64_t>(r.value) : result<std::uint64_t>(static_cast<status>(r.status));
     }
 }
 
-/// How many numbers from from to to are first modulo step. For 1, 10, 1 and 4 it is 3. status::bad_modulus if step is
-/// not positive. status::not_fitting if the count does not fit.
-template <class N0, class N1, class N2, class N3> [[nodiscard]] auto count_congruent(N0 from, N1 to, N2 first, N3 step) {
+/// How many numbers from from to to are residue modulo modulus. For 1, 10, 1 and 4 it is 3. status::bad_modulus if
+/// modulus is not positive. status::not_fitting if the count does not fit.
+template <class N0, class N1, class N2, class N3> [[nodiscard]] auto count_congruent(N0 from, N1 to, N2 residue, N3 modulus) {
     if constexpr (detail::is_signed<N0, N1, N2, N3>()) {
-        auto r = cellarcove_count_congruent_i64(static_cast<std::int64_t>(from), static_cast<std::int64_t>(to), static_cast<std::int64_t>(first), static_cast<std::int64_t>(step));
+        auto r = cellarcove_count_congruent_i64(static_cast<std::int64_t>(from), static_cast<std::int64_t>(to), static_cast<std::int64_t>(residue), static_cast<std::int64_t>(modulus));
         return r.status == CELLARCOVE_ANSWER ? result<std::int64_t>(r.value) : result<std::int64_t>(static_cast<status>(r.status));
     } else {
-        auto r = cellarcove_count_congruent_u64(static_cast<std::uint64_t>(from), static_cast<std::uint64_t>(to), static_cast<std::uint64_t>(first), static_cast<std::uint64_t>(step));
+        auto r = cellarcove_count_congruent_u64(static_cast<std::uint64_t>(from), static_cast<std::uint64_t>(to), static_cast<std::uint64_t>(residue), static_cast<std::uint64_t>(modulus));
         return r.status == CELLARCOVE_ANSWER ? result<std::uint64_t>(r.value) : result<std::uint64_t>(static_cast<status>(r.status));
     }
 }

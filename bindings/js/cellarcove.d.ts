@@ -193,8 +193,8 @@ export function tryReduced(x: Integer, y: Integer): Attempt<{first: bigint; seco
 export function gcdOf(numbers: Iterable<Integer>): bigint;
 export function tryGcdOf(numbers: Iterable<Integer>): Attempt<bigint>;
 
-/** The least common multiple of the numbers, which is not negative. That of -4, 6 and 10 is 60, that of numbers of which one is 0 is 0,
- *  and that of no numbers is 1. `NOT_FITTING` if the multiple does not fit. */
+/** The least common multiple of the numbers, which is not negative. That of -4, 6 and 10 is 60. It is 0 if one of the numbers is 0, and 1
+ *  for no numbers. `NOT_FITTING` if the multiple does not fit. */
 export function lcmOf(numbers: Iterable<Integer>): bigint;
 export function tryLcmOf(numbers: Iterable<Integer>): Attempt<bigint>;
 
@@ -394,23 +394,23 @@ export function chineseRemainder(a: Integer, m: Integer, b: Integer, n: Integer)
 export function chineseRemainder<T extends Integers>(a: Integer | T, m: Integer | T, b: Integer | T, n: Integer | T): {first: T; step: T; status: Uint8Array};
 export function tryChineseRemainder(a: Integer, m: Integer, b: Integer, n: Integer): Attempt<{first: bigint; step: bigint}>;
 
-/** The smallest number from `from` on that is `first` modulo `step`. For 10, 1 and 4 it is 13. `BAD_MODULUS` if `step` is not positive.
- *  `NOT_FITTING` if the number does not fit. */
-export function nextCongruent(from: Integer, first: Integer, step: Integer): bigint;
-export function nextCongruent<T extends Integers>(from: Integer | T, first: Integer | T, step: Integer | T): {value: T; status: Uint8Array};
-export function tryNextCongruent(from: Integer, first: Integer, step: Integer): Attempt<bigint>;
+/** The smallest number from `from` on that is `residue` modulo `modulus`. For 10, 1 and 4 it is 13. `BAD_MODULUS` if `modulus` is not
+ *  positive. `NOT_FITTING` if the number does not fit. */
+export function nextCongruent(from: Integer, residue: Integer, modulus: Integer): bigint;
+export function nextCongruent<T extends Integers>(from: Integer | T, residue: Integer | T, modulus: Integer | T): {value: T; status: Uint8Array};
+export function tryNextCongruent(from: Integer, residue: Integer, modulus: Integer): Attempt<bigint>;
 
-/** The largest number up to `to` that is `first` modulo `step`. For 10, 1 and 4 it is 9. `BAD_MODULUS` if `step` is not positive.
+/** The largest number up to `to` that is `residue` modulo `modulus`. For 10, 1 and 4 it is 9. `BAD_MODULUS` if `modulus` is not positive.
  *  `NOT_FITTING` if the number does not fit. */
-export function previousCongruent(to: Integer, first: Integer, step: Integer): bigint;
-export function previousCongruent<T extends Integers>(to: Integer | T, first: Integer | T, step: Integer | T): {value: T; status: Uint8Array};
-export function tryPreviousCongruent(to: Integer, first: Integer, step: Integer): Attempt<bigint>;
+export function previousCongruent(to: Integer, residue: Integer, modulus: Integer): bigint;
+export function previousCongruent<T extends Integers>(to: Integer | T, residue: Integer | T, modulus: Integer | T): {value: T; status: Uint8Array};
+export function tryPreviousCongruent(to: Integer, residue: Integer, modulus: Integer): Attempt<bigint>;
 
-/** How many numbers from `from` to `to` are `first` modulo `step`. For 1, 10, 1 and 4 it is 3. `BAD_MODULUS` if `step` is not positive.
- *  `NOT_FITTING` if the count does not fit. */
-export function countCongruent(from: Integer, to: Integer, first: Integer, step: Integer): bigint;
-export function countCongruent<T extends Integers>(from: Integer | T, to: Integer | T, first: Integer | T, step: Integer | T): {value: T; status: Uint8Array};
-export function tryCountCongruent(from: Integer, to: Integer, first: Integer, step: Integer): Attempt<bigint>;
+/** How many numbers from `from` to `to` are `residue` modulo `modulus`. For 1, 10, 1 and 4 it is 3. `BAD_MODULUS` if `modulus` is not
+ *  positive. `NOT_FITTING` if the count does not fit. */
+export function countCongruent(from: Integer, to: Integer, residue: Integer, modulus: Integer): bigint;
+export function countCongruent<T extends Integers>(from: Integer | T, to: Integer | T, residue: Integer | T, modulus: Integer | T): {value: T; status: Uint8Array};
+export function tryCountCongruent(from: Integer, to: Integer, residue: Integer, modulus: Integer): Attempt<bigint>;
 
 /** The smallest number from `from` on that is `a` modulo `m` and `b` modulo `n`. The least common multiple of `m` and `n` need not fit.
  *  For 10, 1, 4, 3 and 6 it is 21. `BAD_MODULUS` if `m` or `n` is not positive. `NO_SOLUTION` if there is no such number. `NOT_FITTING`

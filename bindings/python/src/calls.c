@@ -2449,8 +2449,8 @@ static void many_next_congruent_u64(Py_ssize_t count, char *const *in, const Py_
 
 static const form form_next_congruent_u64 = {"QQQ", "QB", true, one_next_congruent_u64, many_next_congruent_u64};
 
-static const call call_next_congruent = {"next_congruent", 3, {"start", "first", "step"}, "nnn",
-    (const bool[]){false, false, true}, (const bool[]){true, true, true}, NULL, &form_next_congruent_i64, &form_next_congruent_u64};
+static const call call_next_congruent = {"next_congruent", 3, {"start", "residue", "modulus"}, "nnn",
+    (const bool[]){false, false, false}, (const bool[]){true, true, true}, NULL, &form_next_congruent_i64, &form_next_congruent_u64};
 
 static PyObject *py_next_congruent(PyObject *module, PyObject *const *args, Py_ssize_t count, PyObject *names) {
     (void)module;
@@ -2495,8 +2495,8 @@ static void many_previous_congruent_u64(Py_ssize_t count, char *const *in, const
 
 static const form form_previous_congruent_u64 = {"QQQ", "QB", true, one_previous_congruent_u64, many_previous_congruent_u64};
 
-static const call call_previous_congruent = {"previous_congruent", 3, {"end", "first", "step"}, "nnn",
-    (const bool[]){false, false, true}, (const bool[]){true, true, true}, NULL, &form_previous_congruent_i64, &form_previous_congruent_u64};
+static const call call_previous_congruent = {"previous_congruent", 3, {"end", "residue", "modulus"}, "nnn",
+    (const bool[]){false, false, false}, (const bool[]){true, true, true}, NULL, &form_previous_congruent_i64, &form_previous_congruent_u64};
 
 static PyObject *py_previous_congruent(PyObject *module, PyObject *const *args, Py_ssize_t count, PyObject *names) {
     (void)module;
@@ -2541,8 +2541,8 @@ static void many_count_congruent_u64(Py_ssize_t count, char *const *in, const Py
 
 static const form form_count_congruent_u64 = {"QQQQ", "QB", true, one_count_congruent_u64, many_count_congruent_u64};
 
-static const call call_count_congruent = {"count_congruent", 4, {"start", "end", "first", "step"}, "nnnn",
-    (const bool[]){false, false, false, true}, (const bool[]){true, true, true, true}, NULL, &form_count_congruent_i64, &form_count_congruent_u64};
+static const call call_count_congruent = {"count_congruent", 4, {"start", "end", "residue", "modulus"}, "nnnn",
+    (const bool[]){false, false, false, false}, (const bool[]){true, true, true, true}, NULL, &form_count_congruent_i64, &form_count_congruent_u64};
 
 static PyObject *py_count_congruent(PyObject *module, PyObject *const *args, Py_ssize_t count, PyObject *names) {
     (void)module;
@@ -4320,7 +4320,8 @@ static PyMethodDef methods[] = {
     "lcm_of($module, numbers, /)\n"
     "--\n"
     "\n"
-    "The least common multiple of the numbers, which is not negative.\n"
+    "The least common multiple of the numbers, which is not negative. It is 0 if one of the\n"
+    "numbers is 0, and 1 for no numbers.\n"
     "\n"
     "Raises `NotFitting` if the multiple does not fit.\n"
     "\n"
@@ -4714,23 +4715,23 @@ static PyMethodDef methods[] = {
     ">>> chinese_remainder(1, 4, 3, 6)\n"
     "Solutions(first=9, step=12)\n"},
     {"next_congruent", (PyCFunction)(void (*)(void))py_next_congruent, METH_FASTCALL | METH_KEYWORDS,
-    "next_congruent($module, /, start, first, step, *, out=None)\n"
+    "next_congruent($module, /, start, residue, modulus, *, out=None)\n"
     "--\n"
     "\n"
-    "The smallest number from `start` on that is `first` modulo `step`.\n"
+    "The smallest number from `start` on that is `residue` modulo `modulus`.\n"
     "\n"
-    "Raises `Refused` with `BAD_MODULUS` if `step` is not positive. Raises `NotFitting` if\n"
+    "Raises `Refused` with `BAD_MODULUS` if `modulus` is not positive. Raises `NotFitting` if\n"
     "the number does not fit.\n"
     "\n"
     ">>> next_congruent(10, 1, 4)\n"
     "13\n"},
     {"previous_congruent", (PyCFunction)(void (*)(void))py_previous_congruent, METH_FASTCALL | METH_KEYWORDS,
-    "previous_congruent($module, /, end, first, step, *, out=None)\n"
+    "previous_congruent($module, /, end, residue, modulus, *, out=None)\n"
     "--\n"
     "\n"
-    "The largest number up to `end` that is `first` modulo `step`.\n"
+    "The largest number up to `end` that is `residue` modulo `modulus`.\n"
     "\n"
-    "Raises `Refused` with `BAD_MODULUS` if `step` is not positive. Raises `NotFitting` if\n"
+    "Raises `Refused` with `BAD_MODULUS` if `modulus` is not positive. Raises `NotFitting` if\n"
     "the number does not fit.\n"
     "\n"
     ">>> previous_congruent(2, 7, 28)\n"
@@ -4738,12 +4739,12 @@ static PyMethodDef methods[] = {
     ">>> previous_congruent(10, 1, 4)\n"
     "9\n"},
     {"count_congruent", (PyCFunction)(void (*)(void))py_count_congruent, METH_FASTCALL | METH_KEYWORDS,
-    "count_congruent($module, /, start, end, first, step, *, out=None)\n"
+    "count_congruent($module, /, start, end, residue, modulus, *, out=None)\n"
     "--\n"
     "\n"
-    "How many numbers from `start` to `end` are `first` modulo `step`.\n"
+    "How many numbers from `start` to `end` are `residue` modulo `modulus`.\n"
     "\n"
-    "Raises `Refused` with `BAD_MODULUS` if `step` is not positive. Raises `NotFitting` if\n"
+    "Raises `Refused` with `BAD_MODULUS` if `modulus` is not positive. Raises `NotFitting` if\n"
     "the count does not fit.\n"
     "\n"
     ">>> count_congruent(1, 10, 1, 4)\n"

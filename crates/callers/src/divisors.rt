@@ -65,10 +65,10 @@ pub fn common_divisor_with_positive(m: i64, n: i64) -> i64
 }
 
 /// Returns the greatest common divisor at an unsigned type, which always fits.
-pub fn natural_common_divisor(a: u64, b: u64) -> u64
-    ensures { IsGreatestCommonDivisor (pos a) (pos b) (pos result) }
+pub fn natural_common_divisor(x: u64, y: u64) -> u64
+    ensures { IsGreatestCommonDivisor (pos x) (pos y) (pos result) }
 {
-    a.gcd(&b)
+    x.gcd(&y)
 }
 
 /// Returns a Bezout pair of a number and a positive number. It always exists.

@@ -90,83 +90,101 @@ pub extern "C" fn cellarcove_chinese_remainder_u64(a: u64, m: u64, b: u64, n: u6
     }
 }
 
-/// Returns the smallest number from `from` on that is `first` modulo `step`. For 10, 1 and 4 it is
-/// 13.
+/// Returns the smallest number from `from` on that is `residue` modulo `modulus`. For 10, 1 and 4
+/// it is 13.
 ///
-/// `BAD_MODULUS` if `step` is not positive. `NOT_FITTING` if the number does not fit.
+/// `BAD_MODULUS` if `modulus` is not positive. `NOT_FITTING` if the number does not fit.
 #[unsafe(no_mangle)]
-pub extern "C" fn cellarcove_next_congruent_i64(from: i64, first: i64, step: i64) -> I64Answer {
+pub extern "C" fn cellarcove_next_congruent_i64(
+    from: i64,
+    residue: i64,
+    modulus: i64,
+) -> I64Answer {
     I64Answer::of(
-        checked::next_congruent(from, first, step),
-        reason_for_modulus(step > 0, NOT_FITTING),
+        checked::next_congruent(from, residue, modulus),
+        reason_for_modulus(modulus > 0, NOT_FITTING),
     )
 }
 
-/// Returns the smallest number from `from` on that is `first` modulo `step`. For 10, 1 and 4 it is
-/// 13.
+/// Returns the smallest number from `from` on that is `residue` modulo `modulus`. For 10, 1 and 4
+/// it is 13.
 ///
-/// `BAD_MODULUS` if `step` is 0. `NOT_FITTING` if the number does not fit.
+/// `BAD_MODULUS` if `modulus` is 0. `NOT_FITTING` if the number does not fit.
 #[unsafe(no_mangle)]
-pub extern "C" fn cellarcove_next_congruent_u64(from: u64, first: u64, step: u64) -> U64Answer {
+pub extern "C" fn cellarcove_next_congruent_u64(
+    from: u64,
+    residue: u64,
+    modulus: u64,
+) -> U64Answer {
     U64Answer::of(
-        checked::next_congruent(from, first, step),
-        reason_for_modulus(step > 0, NOT_FITTING),
+        checked::next_congruent(from, residue, modulus),
+        reason_for_modulus(modulus > 0, NOT_FITTING),
     )
 }
 
-/// Returns the largest number up to `to` that is `first` modulo `step`. For 10, 1 and 4 it is 9.
+/// Returns the largest number up to `to` that is `residue` modulo `modulus`. For 10, 1 and 4 it is
+/// 9.
 ///
-/// `BAD_MODULUS` if `step` is not positive. `NOT_FITTING` if the number does not fit.
+/// `BAD_MODULUS` if `modulus` is not positive. `NOT_FITTING` if the number does not fit.
 #[unsafe(no_mangle)]
-pub extern "C" fn cellarcove_previous_congruent_i64(to: i64, first: i64, step: i64) -> I64Answer {
+pub extern "C" fn cellarcove_previous_congruent_i64(
+    to: i64,
+    residue: i64,
+    modulus: i64,
+) -> I64Answer {
     I64Answer::of(
-        checked::previous_congruent(to, first, step),
-        reason_for_modulus(step > 0, NOT_FITTING),
+        checked::previous_congruent(to, residue, modulus),
+        reason_for_modulus(modulus > 0, NOT_FITTING),
     )
 }
 
-/// Returns the largest number up to `to` that is `first` modulo `step`. For 10, 1 and 4 it is 9.
+/// Returns the largest number up to `to` that is `residue` modulo `modulus`. For 10, 1 and 4 it is
+/// 9.
 ///
-/// `BAD_MODULUS` if `step` is 0. `NOT_FITTING` if the number is negative.
+/// `BAD_MODULUS` if `modulus` is 0. `NOT_FITTING` if the number is negative.
 #[unsafe(no_mangle)]
-pub extern "C" fn cellarcove_previous_congruent_u64(to: u64, first: u64, step: u64) -> U64Answer {
+pub extern "C" fn cellarcove_previous_congruent_u64(
+    to: u64,
+    residue: u64,
+    modulus: u64,
+) -> U64Answer {
     U64Answer::of(
-        checked::previous_congruent(to, first, step),
-        reason_for_modulus(step > 0, NOT_FITTING),
+        checked::previous_congruent(to, residue, modulus),
+        reason_for_modulus(modulus > 0, NOT_FITTING),
     )
 }
 
-/// Returns how many numbers from `from` to `to` are `first` modulo `step`. For 1, 10, 1 and 4 it is
-/// 3.
+/// Returns how many numbers from `from` to `to` are `residue` modulo `modulus`. For 1, 10, 1 and 4
+/// it is 3.
 ///
-/// `BAD_MODULUS` if `step` is not positive. `NOT_FITTING` if the count does not fit.
+/// `BAD_MODULUS` if `modulus` is not positive. `NOT_FITTING` if the count does not fit.
 #[unsafe(no_mangle)]
 pub extern "C" fn cellarcove_count_congruent_i64(
     from: i64,
     to: i64,
-    first: i64,
-    step: i64,
+    residue: i64,
+    modulus: i64,
 ) -> I64Answer {
     I64Answer::of(
-        checked::count_congruent(from, to, first, step),
-        reason_for_modulus(step > 0, NOT_FITTING),
+        checked::count_congruent(from, to, residue, modulus),
+        reason_for_modulus(modulus > 0, NOT_FITTING),
     )
 }
 
-/// Returns how many numbers from `from` to `to` are `first` modulo `step`. For 1, 10, 1 and 4 it is
-/// 3.
+/// Returns how many numbers from `from` to `to` are `residue` modulo `modulus`. For 1, 10, 1 and 4
+/// it is 3.
 ///
-/// `BAD_MODULUS` if `step` is 0. `NOT_FITTING` if the count does not fit.
+/// `BAD_MODULUS` if `modulus` is 0. `NOT_FITTING` if the count does not fit.
 #[unsafe(no_mangle)]
 pub extern "C" fn cellarcove_count_congruent_u64(
     from: u64,
     to: u64,
-    first: u64,
-    step: u64,
+    residue: u64,
+    modulus: u64,
 ) -> U64Answer {
     U64Answer::of(
-        checked::count_congruent(from, to, first, step),
-        reason_for_modulus(step > 0, NOT_FITTING),
+        checked::count_congruent(from, to, residue, modulus),
+        reason_for_modulus(modulus > 0, NOT_FITTING),
     )
 }
 

@@ -34,7 +34,7 @@ pub extern "C" fn cellarcove_gcd_of_u64(numbers: *const u64, numbers_len: usize)
 }
 
 /// Returns the least common multiple of the numbers, which is not negative. That of -4, 6 and 10 is
-/// 60, that of numbers of which one is 0 is 0, and that of no numbers is 1.
+/// 60. It is 0 if one of the numbers is 0, and 1 for no numbers.
 ///
 /// `NOT_FITTING` if the multiple does not fit.
 #[unsafe(no_mangle)]
@@ -49,8 +49,8 @@ pub extern "C" fn cellarcove_lcm_of_i64(numbers: *const i64, numbers_len: usize)
     I64Answer::of(checked::lcm_of(numbers), NOT_FITTING)
 }
 
-/// Returns the least common multiple of the numbers. That of 4, 6 and 10 is 60, that of numbers of
-/// which one is 0 is 0, and that of no numbers is 1.
+/// Returns the least common multiple of the numbers. That of 4, 6 and 10 is 60. It is 0 if one of
+/// the numbers is 0, and 1 for no numbers.
 ///
 /// `NOT_FITTING` if the multiple does not fit.
 #[unsafe(no_mangle)]

@@ -11,7 +11,8 @@ use crate::calendar::eras::{
     DAYS_PER_ERA, YEARS_PER_ERA,
 };
 use crate::calendar::months::{days_before_month, length_of_month, month_and_day_in_year};
-use crate::calendar::years::{at_64_bits, nearby_year};
+use crate::calendar::years::nearby_year;
+use crate::integer_core::narrowing::narrowed;
 
 /// The day of era 0 that is 1970-01-01, as [`Date::day_of_era`] counts days.
 const EPOCH_IN_ERA_0: i64 = 865566;
@@ -164,7 +165,7 @@ impl Date {
     #[cold]
     #[inline(never)]
     fn far_day_number(&self) -> Option<i64> {
-        at_64_bits(self.wide_day_number())
+        narrowed(self.wide_day_number())
     }
 
     /// Returns the next date, or `None` if it is in the year after `i64::MAX`.
@@ -343,7 +344,7 @@ impl Date {
     /// Returns the date `eras` times 400 years after this one, or `None` if its year does not fit.
     fn eras_later(&self, eras: i64) -> Option<Self> {
         Some(Self {
-            year: at_64_bits(i128::from(self.year) + i128::from(YEARS_PER_ERA) * i128::from(eras))?,
+            year: narrowed(i128::from(self.year) + i128::from(YEARS_PER_ERA) * i128::from(eras))?,
             month: self.month,
             day_of_month: self.day_of_month,
         })

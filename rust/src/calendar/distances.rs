@@ -3,8 +3,8 @@
 
 use crate::calendar::eras::days_of_eras;
 use crate::calendar::months::length_of_month;
-use crate::calendar::years::at_64_bits;
 use crate::calendar::Date;
+use crate::integer_core::narrowing::narrowed;
 use crate::integer_core::{div_floor, div_mod_floor};
 
 impl Date {
@@ -69,7 +69,7 @@ impl Date {
     /// [Contract](crate::definitions::contracts#calendardatemonths_between)
     #[must_use]
     pub fn months_between(&self, to: &Self) -> Option<i64> {
-        at_64_bits(whole_months(self, to))
+        narrowed(whole_months(self, to))
     }
 
     /// Returns the number of whole years from this date to `to`, which is negative if `to` is
@@ -91,7 +91,7 @@ impl Date {
     /// [Contract](crate::definitions::contracts#calendardateyears_between)
     #[must_use]
     pub fn years_between(&self, to: &Self) -> Option<i64> {
-        at_64_bits(div_floor(whole_months(self, to), 12))
+        narrowed(div_floor(whole_months(self, to), 12))
     }
 
     /// Returns the number of the month, counted from January of year 0.
@@ -179,5 +179,5 @@ fn ends_in_part_of_month(from: &Date, to: &Date) -> bool {
 /// the year does not fit.
 fn month_of(number: i128) -> Option<(i64, u8)> {
     let (year, month) = div_mod_floor(number, 12);
-    Some((at_64_bits(year)?, month as u8 + 1))
+    Some((narrowed(year)?, month as u8 + 1))
 }

@@ -5,7 +5,7 @@
 //! The formulas are those of C. Neri and L. Schneider, "Euclidean affine functions and their
 //! application to calendar algorithms" (2022), with a table for the days of the months.
 
-use crate::calendar::years::at_64_bits;
+use crate::integer_core::narrowing::narrowed;
 
 /// The years of an era.
 pub(crate) const YEARS_PER_ERA: i64 = 400;
@@ -71,7 +71,7 @@ const fn groups_and_rest(n: i64, size: i64) -> (i64, u32) {
 pub(crate) fn days_of_eras(eras: i64, days: i64) -> Option<i64> {
     match DAYS_PER_ERA.checked_mul(eras) {
         Some(whole) => whole.checked_add(days),
-        None => at_64_bits(i128::from(DAYS_PER_ERA) * i128::from(eras) + i128::from(days)),
+        None => narrowed(i128::from(DAYS_PER_ERA) * i128::from(eras) + i128::from(days)),
     }
 }
 

@@ -79,9 +79,3 @@ pub(crate) fn nearby_year(year: i64, days: i64) -> Option<(i64, u16)> {
         Some((after, (days - length_of(year)) as u16))
     }
 }
-
-/// Returns the number as an `i64`, or `None` if it does not fit.
-#[inline]
-pub(crate) fn at_64_bits(number: i128) -> Option<i64> {
-    i64::try_from(number).ok()
-}

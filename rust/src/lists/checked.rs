@@ -9,8 +9,7 @@ use crate::sign_magnitude::{number_of, parts_of, parts_of_product};
 use crate::{checked, Fits, NativeInteger};
 
 /// Returns [`gcd_of`](crate::lists::gcd_of), the greatest common divisor of the numbers, or `None`
-/// if it does not fit. The only one that may not fit is that of a list in which each number is 0 or
-/// the smallest of the type.
+/// if it does not fit. It fits unless each number is 0 or the smallest of the type.
 ///
 /// # Examples
 ///
@@ -32,9 +31,9 @@ pub fn gcd_of<T: Fits>(numbers: &[T]) -> Option<T> {
     }
 }
 
-/// Returns a number whose magnitude is the greatest common divisor. That of the first numbers may
-/// not fit, even if that of all of them does, so the loop keeps it up to its sign. It ends if the
-/// divisor is 1.
+/// Returns a number whose magnitude is the greatest common divisor. The gcd of a prefix may not fit
+/// even if the gcd of the list does, so the loop keeps it up to its sign. It ends if the divisor is
+/// 1.
 fn signed_gcd_of<T: Fits>(numbers: &[T]) -> T {
     let mut divisor = zero();
     for number in numbers {

@@ -201,8 +201,8 @@ pub fn solutions<T: Modular>(a: T, b: T, m: T) -> Option<(T, T)> {
     }
 }
 
-/// Returns [`next_congruent`](crate::modular::next_congruent), or `None` if `step` is not positive
-/// or the number does not fit.
+/// Returns [`next_congruent`](crate::modular::next_congruent), or `None` if `modulus` is not
+/// positive or the number does not fit.
 ///
 /// # Examples
 ///
@@ -215,16 +215,16 @@ pub fn solutions<T: Modular>(a: T, b: T, m: T) -> Option<(T, T)> {
 ///
 /// [Contract](crate::definitions::contracts#modularcheckednext_congruent)
 #[must_use]
-pub fn next_congruent<T: Fits>(from: T, first: T, step: T) -> Option<T> {
-    if is_positive(step) {
-        crate::modular::next_congruent(from, first, step)
+pub fn next_congruent<T: Fits>(from: T, residue: T, modulus: T) -> Option<T> {
+    if is_positive(modulus) {
+        crate::modular::next_congruent(from, residue, modulus)
     } else {
         None
     }
 }
 
-/// Returns [`previous_congruent`](crate::modular::previous_congruent), or `None` if `step` is not
-/// positive or the number does not fit.
+/// Returns [`previous_congruent`](crate::modular::previous_congruent), or `None` if `modulus` is
+/// not positive or the number does not fit.
 ///
 /// # Examples
 ///
@@ -237,15 +237,15 @@ pub fn next_congruent<T: Fits>(from: T, first: T, step: T) -> Option<T> {
 ///
 /// [Contract](crate::definitions::contracts#modularcheckedprevious_congruent)
 #[must_use]
-pub fn previous_congruent<T: Fits>(to: T, first: T, step: T) -> Option<T> {
-    if is_positive(step) {
-        crate::modular::previous_congruent(to, first, step)
+pub fn previous_congruent<T: Fits>(to: T, residue: T, modulus: T) -> Option<T> {
+    if is_positive(modulus) {
+        crate::modular::previous_congruent(to, residue, modulus)
     } else {
         None
     }
 }
 
-/// Returns [`count_congruent`](crate::modular::count_congruent), or `None` if `step` is not
+/// Returns [`count_congruent`](crate::modular::count_congruent), or `None` if `modulus` is not
 /// positive or the count does not fit.
 ///
 /// # Examples
@@ -259,9 +259,9 @@ pub fn previous_congruent<T: Fits>(to: T, first: T, step: T) -> Option<T> {
 ///
 /// [Contract](crate::definitions::contracts#modularcheckedcount_congruent)
 #[must_use]
-pub fn count_congruent<T: Fits>(from: T, to: T, first: T, step: T) -> Option<T> {
-    if is_positive(step) {
-        crate::modular::count_congruent(from, to, first, step)
+pub fn count_congruent<T: Fits>(from: T, to: T, residue: T, modulus: T) -> Option<T> {
+    if is_positive(modulus) {
+        crate::modular::count_congruent(from, to, residue, modulus)
     } else {
         None
     }

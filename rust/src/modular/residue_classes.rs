@@ -5,7 +5,7 @@
 use crate::guards::check;
 use crate::modular::inverses::gcd_modulo;
 use crate::modular::products::Modular;
-use crate::modular::residues::{are_congruent, difference_modulo, residue};
+use crate::modular::residues::{are_congruent, difference_modulo};
 use crate::operators::{is_below, quotient, successor, zero};
 use crate::{checked, Fits, Integer};
 
@@ -42,8 +42,8 @@ pub fn solutions<T: Modular>(a: T, b: T, m: T) -> Option<(T, T)> {
     Some((first, step))
 }
 
-/// Returns the smallest number from `from` on that is congruent to `first` modulo `step`, or `None`
-/// if it is too large for the type.
+/// Returns the smallest number from `from` on that is congruent to `residue` modulo `modulus`, or
+/// `None` if it is too large for the type.
 ///
 /// [`checked::next_congruent`](crate::modular::checked::next_congruent) returns `None` if the
 /// precondition does not hold.
@@ -59,18 +59,18 @@ pub fn solutions<T: Modular>(a: T, b: T, m: T) -> Option<(T, T)> {
 ///
 /// # Panics
 ///
-/// If the step is not positive.
+/// If the modulus is not positive.
 ///
 /// [Contract](crate::definitions::contracts#modularnext_congruent)
 #[track_caller]
 #[must_use]
-pub fn next_congruent<T: Fits>(from: T, first: T, step: T) -> Option<T> {
-    check(is_below(zero(), step), "the step is not positive");
-    checked::sum(from, difference_modulo(first, from, step))
+pub fn next_congruent<T: Fits>(from: T, residue: T, modulus: T) -> Option<T> {
+    check(is_below(zero(), modulus), "the modulus is not positive");
+    checked::sum(from, difference_modulo(residue, from, modulus))
 }
 
-/// Returns the largest number up to `to` that is congruent to `first` modulo `step`, or `None` if
-/// it is too small for the type.
+/// Returns the largest number up to `to` that is congruent to `residue` modulo `modulus`, or `None`
+/// if it is too small for the type.
 ///
 /// [`checked::previous_congruent`](crate::modular::checked::previous_congruent) returns `None` if
 /// the precondition does not hold.
@@ -86,18 +86,18 @@ pub fn next_congruent<T: Fits>(from: T, first: T, step: T) -> Option<T> {
 ///
 /// # Panics
 ///
-/// If the step is not positive.
+/// If the modulus is not positive.
 ///
 /// [Contract](crate::definitions::contracts#modularprevious_congruent)
 #[track_caller]
 #[must_use]
-pub fn previous_congruent<T: Fits>(to: T, first: T, step: T) -> Option<T> {
-    check(is_below(zero(), step), "the step is not positive");
-    checked::difference(to, difference_modulo(to, first, step))
+pub fn previous_congruent<T: Fits>(to: T, residue: T, modulus: T) -> Option<T> {
+    check(is_below(zero(), modulus), "the modulus is not positive");
+    checked::difference(to, difference_modulo(to, residue, modulus))
 }
 
-/// Returns how many numbers of `from..=to` are congruent to `first` modulo `step`, or `None` if the
-/// type cannot hold that count.
+/// Returns how many numbers of `from..=to` are congruent to `residue` modulo `modulus`, or `None`
+/// if the type cannot hold that count.
 ///
 /// [`checked::count_congruent`](crate::modular::checked::count_congruent) returns `None` if the
 /// precondition does not hold.
@@ -113,22 +113,22 @@ pub fn previous_congruent<T: Fits>(to: T, first: T, step: T) -> Option<T> {
 ///
 /// # Panics
 ///
-/// If the step is not positive.
+/// If the modulus is not positive.
 ///
 /// [Contract](crate::definitions::contracts#modularcount_congruent)
 #[track_caller]
 #[must_use]
-pub fn count_congruent<T: Fits>(from: T, to: T, first: T, step: T) -> Option<T> {
-    check(is_below(zero(), step), "the step is not positive");
+pub fn count_congruent<T: Fits>(from: T, to: T, residue: T, modulus: T) -> Option<T> {
+    check(is_below(zero(), modulus), "the modulus is not positive");
     if is_below(to, from) {
         return Some(zero());
     }
-    let start = residue(first, step);
+    let start = crate::modular::residue(residue, modulus);
     let before = checked::difference(
-        times_to_reach(to, start, step),
-        times_to_reach(from, start, step),
+        times_to_reach(to, start, modulus),
+        times_to_reach(from, start, modulus),
     );
-    if are_congruent(to, first, step) {
+    if are_congruent(to, residue, modulus) {
         checked::inc(before?)
     } else {
         before

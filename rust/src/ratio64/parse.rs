@@ -2,6 +2,7 @@
 //! Reads a fraction from a string.
 
 use crate::errors::Error;
+use crate::ratio64::integer_words::is_integer;
 use crate::ratio64::{Ratio, RatioError};
 use core::fmt;
 use core::str::FromStr;
@@ -113,23 +114,6 @@ impl FromStr for Ratio {
 /// Returns the fraction of two integers.
 fn fraction_of(num: &str, den: &str) -> Result<Ratio, ParseRatioError> {
     Ok(Ratio::reduced(integer(num)?, integer(den)?)?)
-}
-
-/// Returns whether the string is an optional `-`, then one or more digits, and nothing else.
-fn is_integer(text: &str) -> bool {
-    let digits = without_minus(text.as_bytes());
-    !digits.is_empty() && has_only_digits(digits)
-}
-
-fn without_minus(text: &[u8]) -> &[u8] {
-    match text {
-        [b'-', digits @ ..] => digits,
-        _ => text,
-    }
-}
-
-fn has_only_digits(text: &[u8]) -> bool {
-    text.iter().all(u8::is_ascii_digit)
 }
 
 /// 10^38, the smallest number of 39 digits.

@@ -2,8 +2,9 @@
 //! A fraction times an integer or another fraction, and a fraction rounded to a number of parts.
 
 use crate::guards::check;
+use crate::narrowing::narrowed;
 use crate::ratio64::fraction::rounding::{nearest, nearest_even};
-use crate::ratio64::reduction::{narrowed, product};
+use crate::ratio64::reduction::product;
 use crate::ratio64::{Ratio, RatioError};
 use crate::{div_ceil, div_floor};
 
