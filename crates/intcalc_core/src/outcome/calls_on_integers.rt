@@ -2,9 +2,8 @@
 //! needs, in the order of the table, and then makes the call of the library.
 #![tactic(auto, unfolding(crate::specs::Outcome::OutcomeOfFitting))]
 
-ghost use Rattle.std.specs.Prelude.{◌≡◌, ◌≢◌, pos, MatchResult};
+ghost use Rattle.std.specs.Prelude.{pos};
 ghost use Rattle.intcalc_core.specs.declared.calls.Call.TheVariants as calls;
-ghost use Rattle.intcalc_core.specs.declared.calls.Refusal.TheVariants as refusals;
 ghost use Rattle.intcalc_core.specs.Outcome.{OutcomeOfFitting};
 
 use crate::calls::{Answer, Refusal};
@@ -16,7 +15,10 @@ pub(crate) fn div_rem<T: Operand>(pair: (T, T)) -> Result<Answer, Refusal>
     requires { T.fits (T.value pair.0) × T.fits (T.value pair.1) }
     ensures { OutcomeOfFitting T.fits (calls.DivRem (T.value pair.0) (T.value pair.1)) result }
 {
-    let (n, d) = with_divisor(pair)?;
+    let (n, d) = pair;
+    if is_zero(d) {
+        return Err(Refusal::ZeroDivisor);
+    }
     if !n.quotient_fits(&d) {
         return Err(Refusal::NotFitting);
     }
@@ -27,7 +29,10 @@ pub(crate) fn div_mod_floor<T: Operand>(pair: (T, T)) -> Result<Answer, Refusal>
     requires { T.fits (T.value pair.0) × T.fits (T.value pair.1) }
     ensures { OutcomeOfFitting T.fits (calls.DivModFloor (T.value pair.0) (T.value pair.1)) result }
 {
-    let (n, d) = with_divisor(pair)?;
+    let (n, d) = pair;
+    if is_zero(d) {
+        return Err(Refusal::ZeroDivisor);
+    }
     if !n.quotient_fits(&d) {
         return Err(Refusal::NotFitting);
     }
@@ -38,7 +43,10 @@ pub(crate) fn div_floor<T: Operand>(pair: (T, T)) -> Result<Answer, Refusal>
     requires { T.fits (T.value pair.0) × T.fits (T.value pair.1) }
     ensures { OutcomeOfFitting T.fits (calls.DivFloor (T.value pair.0) (T.value pair.1)) result }
 {
-    let (n, d) = with_divisor(pair)?;
+    let (n, d) = pair;
+    if is_zero(d) {
+        return Err(Refusal::ZeroDivisor);
+    }
     if !n.quotient_fits(&d) {
         return Err(Refusal::NotFitting);
     }
@@ -49,7 +57,10 @@ pub(crate) fn div_ceil<T: Operand>(pair: (T, T)) -> Result<Answer, Refusal>
     requires { T.fits (T.value pair.0) × T.fits (T.value pair.1) }
     ensures { OutcomeOfFitting T.fits (calls.DivCeil (T.value pair.0) (T.value pair.1)) result }
 {
-    let (n, d) = with_divisor(pair)?;
+    let (n, d) = pair;
+    if is_zero(d) {
+        return Err(Refusal::ZeroDivisor);
+    }
     if !n.quotient_fits(&d) {
         return Err(Refusal::NotFitting);
     }
@@ -60,7 +71,10 @@ pub(crate) fn mod_floor<T: Operand>(pair: (T, T)) -> Result<Answer, Refusal>
     requires { T.fits (T.value pair.0) × T.fits (T.value pair.1) }
     ensures { OutcomeOfFitting T.fits (calls.ModFloor (T.value pair.0) (T.value pair.1)) result }
 {
-    let (n, d) = with_divisor(pair)?;
+    let (n, d) = pair;
+    if is_zero(d) {
+        return Err(Refusal::ZeroDivisor);
+    }
     Ok(Answer::One(widen(n.mod_floor(&d))))
 }
 
@@ -68,7 +82,10 @@ pub(crate) fn next_multiple_of<T: Operand>(pair: (T, T)) -> Result<Answer, Refus
     requires { T.fits (T.value pair.0) × T.fits (T.value pair.1) }
     ensures { OutcomeOfFitting T.fits (calls.NextMultipleOf (T.value pair.0) (T.value pair.1)) result }
 {
-    let (n, d) = with_divisor(pair)?;
+    let (n, d) = pair;
+    if is_zero(d) {
+        return Err(Refusal::ZeroDivisor);
+    }
     if !n.next_multiple_fits(&d) {
         return Err(Refusal::NotFitting);
     }
@@ -79,7 +96,10 @@ pub(crate) fn prev_multiple_of<T: Operand>(pair: (T, T)) -> Result<Answer, Refus
     requires { T.fits (T.value pair.0) × T.fits (T.value pair.1) }
     ensures { OutcomeOfFitting T.fits (calls.PrevMultipleOf (T.value pair.0) (T.value pair.1)) result }
 {
-    let (n, d) = with_divisor(pair)?;
+    let (n, d) = pair;
+    if is_zero(d) {
+        return Err(Refusal::ZeroDivisor);
+    }
     if !n.prev_multiple_fits(&d) {
         return Err(Refusal::NotFitting);
     }
@@ -203,17 +223,4 @@ pub(crate) fn binomial<T: Operand>(pair: (T, T)) -> Result<Answer, Refusal>
         return Err(Refusal::NotFitting);
     }
     Ok(Answer::One(widen(num_integer::binomial(n, k))))
-}
-
-/// Returns the dividend and the divisor, or `ZeroDivisor` if the divisor is 0.
-fn with_divisor<T: Integer>(pair: (T, T)) -> Result<(T, T), Refusal>
-    requires { T.fits (T.value pair.0) × T.fits (T.value pair.1) }
-    ensures { MatchResult result (λ tested. (tested ≡ pair) × (T.value pair.1 ≢ pos 0))
-        (λ refusal. (refusal ≡ refusals.ZeroDivisor) × (T.value pair.1 ≡ pos 0)) }
-{
-    if is_zero(pair.1) {
-        Err(Refusal::ZeroDivisor)
-    } else {
-        Ok(pair)
-    }
 }
