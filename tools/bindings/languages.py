@@ -67,4 +67,7 @@ def cells(export: str, in_cpp: str = '', in_python: str = '', in_javascript: str
 
 
 def page() -> str:
-    return filled('languages.md', rows='\n'.join(f'| {" | ".join(cells)} |' for cells in rows()))
+    made = rows()
+    of = {row[1].strip('`').removeprefix('cellarcove::'): row for row in made}
+    tasks = [(task, *of[path.strip('`')]) for task, path in listed('tasks.txt', ' = ').items()]
+    return filled('languages.md', **{part: '\n'.join(f'| {" | ".join(cells)} |' for cells in table) for part, table in (('tasks', tasks), ('rows', made))})

@@ -23,7 +23,7 @@ from tools.erase.source import Source
 
 Found = Iterator[tuple[str, bool]]      # places, each with whether it passed
 PAGES = ('README.md', 'docs/*.md', 'crates/*/CALLING.md', 'crates/*/README.md')
-LINKED = PAGES + ('CHANGELOG.md', 'CONTRIBUTING.md', 'bindings/*.md', 'bindings/js/*.md', 'bindings/python/*.md', 'compare/*.md', 'rust/*.md',
+LINKED = PAGES + ('CHANGELOG.md', 'CONTRIBUTING.md', 'bindings/js/*.md', 'bindings/python/*.md', 'compare/*.md', 'rust/*.md',
                   'rust/num-integer/*.md', 'docs/reference/*.md')
 SESSIONS = ('README.md', 'docs/INTCALC.md')
 BLOCK = re.compile(r'^ *```(rust|antt|crates|console)\n(.*?)(?:^ *```$|\Z)', re.M | re.S)

@@ -85,7 +85,7 @@ cpp_with() {
     check "C++ with $1" runs test.cpp "$1" -std=c++17 -Wconversion -O1 -x c++
     check "what does not compile in C++ with $1" rejects_conversions "$1"
     check "an older C++ with $1" rejects_older_cpp "$1"
-    check "the example of the page in C++ with $1" page_holds bindings/README.md cpp "$1" -std=c++17
+    check "the example of the page in C++ with $1" page_holds docs/C.md cpp "$1" -std=c++17
     check "the header for C in C++ with $1" runs test.c "$1" -std=c++17 -O0 -x c++
 }
 
@@ -271,7 +271,7 @@ if builds_by_cargo; then
 fi
 if has cc C; then
     check 'a call in the place of another' other_call_is_found
-    for page in bindings/README.md docs/COOKBOOK.md; do
+    for page in README.md docs/C.md docs/COOKBOOK.md; do
         check "the example of $page" page_holds "$page" c cc -std=c11
     done
     check 'the installed library' installs

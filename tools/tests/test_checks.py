@@ -68,7 +68,7 @@ def test_slips_of_laws(root: Path, head: str, slip: str) -> None:
     assert any(line.startswith(f'{file}: ') and line.endswith(f' ensures `{law}`') for line in failed)
 
 
-# ---- trust: what docs/TESTING.md says of the axioms, and what a run printed
+# ---- trust: what docs/TRUST.md says of the axioms, and what a run printed
 
 SAID, LOG = (text for _, text in samples.cases('trust'))
 

@@ -26,8 +26,9 @@ import cellarcove
 from cellarcove import Date, DivisionByZero, NotFitting, Refused, Status
 
 HERE = pathlib.Path(__file__).resolve().parent
+ROOT = HERE.parents[2]
 # A source distribution has the first of these pages.
-PAGES = [page for page in (HERE.parent / 'README.md', HERE.parents[1] / 'README.md', HERE.parents[2] / 'docs/COOKBOOK.md') if page.exists()]
+PAGES = [HERE.parent / 'README.md', *(ROOT / name for name in ('README.md', 'docs/PYTHON.md', 'docs/COOKBOOK.md') if (ROOT / 'bindings').is_dir())]
 ROW_NAMES = {**vars(cellarcove), 'array': array.array, 'copy': copy, 'date': datetime.date, 'Fraction': Fraction, 'Decimal': Decimal,
              'SimpleNamespace': types.SimpleNamespace, 'addressof': ctypes.addressof, 'c_char': ctypes.c_char}
 random.seed(64)
