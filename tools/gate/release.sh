@@ -31,9 +31,19 @@ stop() { echo "release.sh: $*" >&2 && exit 1; }
 
 [ -z "$(git status --porcelain)" ] || stop 'the checkout has changes that are not committed'
 grep -q "^gate: commit $commit," out/passed 2>/dev/null || stop "\`.ci/run\` has not passed at $commit in this checkout"
-[ "$(grep -m 1 '^## ' CHANGELOG.md)" = "## $version" ] || stop "CHANGELOG.md does not begin with version $version, which rust/Cargo.toml has"
+[[ $(grep -m 1 "^## " CHANGELOG.md) = "## $version ("* ]] || stop "CHANGELOG.md does not begin with version $version, which rust/Cargo.toml has"
 
 # ---- the files
+
+# with_address CLONE: if rust/Cargo.toml has the address of the repository, the other packages get it too.
+with_address() {
+    local address
+    address=$(sed -nE 's/^repository = "(.*)"$/\1/p' "$1/rust/Cargo.toml")
+    [ -n "$address" ] || return 0
+    printf '\n[project.urls]\nSource = "%s"\n' "$address" >>"$1/bindings/python/pyproject.toml"
+    sed -i "s|^  \"license\"|  \"repository\": \"$address\",\n&|" "$1/bindings/js/package.json"
+    sed -i "s|^license = .*|&\nrepository = \"$address\"|" "$1/rust/num-integer/Cargo.toml"
+}
 
 # clone FOLDER: a clean clone of the commit, with the static library that the gate has built.
 clone() {
@@ -42,7 +52,7 @@ clone() {
         is_current "$proved" cellarcove_c || { echo "$proved is older than its sources" && return 1; }
         mkdir -p "$1/crates/cellarcove_c/out" && cp "$proved" "$1/$proved"
     fi
-    (cd "$1" && bindings/build)
+    with_address "$1" && (cd "$1" && bindings/build)
 }
 
 # for_cargo CLONE FOLDER: the package of the crate, and that of num-integer. The packages that cargo finds are Debian's.
@@ -168,9 +178,9 @@ notes() {
     printf '\nWhat was tried of these files:\n\n'
     sed 's/^/- /' "$work/said"
     [ "$quick" = no ] || printf -- '- %s: left out\n' \
-        'the second suite of seeded bugs, the first lines of both suites, each guard taken out, and most tests of the package for cargo'
+        'the second suite of mutants, the first lines of both suites, each guard taken out, and most tests of the package for cargo'
     printf '\n## Changes\n'
-    sed -n "/^## $version\$/,/^## /p" "$work/one/clone/CHANGELOG.md" | sed '/^## /d'
+    sed -n "/^## $version (/,/^## /p" "$work/one/clone/CHANGELOG.md" | sed '/^## /d'
 }
 
 # tried NAME COMMAND..: a check whose line is for the notes too.
@@ -197,8 +207,8 @@ tried 'the page is served, and calls are tried on it' tries_the_page
 tried 'the sources are those of the commit' tries_the_sources
 if [ "$quick" = no ]; then
     tried 'each guard of plain Rust that is taken out is missed by a test' tools/cellarcove check guards
-    tried 'the first line of each seeded bug is true' tools/cellarcove check wrong_lines
-    tried "the second suite of $(ls crates/*/must-fail-release/*.edit | wc -l) seeded bugs is rejected" tools/gate/check_must_fail_release.sh
+    tried 'the first line of each mutant is true' tools/cellarcove check wrong_lines
+    tried "the second suite of $(ls crates/*/must-fail-release/*.edit | wc -l) mutants is rejected" tools/gate/check_must_fail_release.sh
 fi
 if finish; then
     mkdir -p "$folder" && cp "$files"/* "$work/one/SHA256SUMS" "$folder" && notes >"$folder/NOTES.md" && ls -l "$folder"

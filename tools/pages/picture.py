@@ -6,10 +6,10 @@ from collections.abc import Iterator
 from tools import ROOT
 
 PLACES = {'what you mean': (0, 0), 'definitions': (1, 0), 'contracts': (2, 0), 'Rattle source': (3, 0), 'C++, Python': (0, 1), 'C': (1, 1),
-          "Rattle's code": (2, 1), 'Rust source': (3, 1), "rustc's code": (2, 2), 'WebAssembly': (3, 2), 'JavaScript': (2, 3)}
+          'compiled by Rattle': (2, 1), 'Rust source': (3, 1), 'compiled by rustc': (2, 2), 'WebAssembly': (3, 2), 'JavaScript': (2, 3)}
 COLOURS = {'proved': '#1a7f37', 'checked': '#0969da', 'tested': '#9a6700', 'trusted': '#cf222e'}
 ROW = re.compile(r'^\| ([^|]+) \| ([^|]+) \| \*\*(\w+)\*\*([^|]*) \|', re.M)
-WIDE, HIGH, ACROSS, DOWN = 136, 40, 216, 96         # of a box, and from one to the next
+WIDE, HIGH, ACROSS, DOWN = 144, 40, 224, 92         # of a box, and from one to the next
 HEAD = """<svg xmlns="http://www.w3.org/2000/svg" viewBox="0 0 {wide} {high}" font-family="sans-serif" font-size="14" text-anchor="middle">
 <title>From what you mean to what runs</title>
 <desc>The first table of TRUST.md has the same as text.</desc>
