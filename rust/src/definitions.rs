@@ -58,6 +58,7 @@
 //! - `IsSome r`, `IfSome r P`: r is `Some`; if it is, P holds of its value
 //! - `MatchOption r A P`: A if r is `None`, and P of the value if it is `Some`
 //! - `SomeIff r A v`: r is `Some` of v if A holds, and otherwise `None`
+//! - `MatchResult r P Q`: P of the value if `r` is `Ok`, and Q of the error if it is `Err`
 //! - `IfOk r P`, `IfErr r P`: if r is `Ok`, P holds of its value; if it is `Err`, of the error
 //! - `IsOk r`, `OnOk r A`, `OnErr r A`: r is `Ok`; if it is, A holds; if it is `Err`, A holds
 //! - `All P xs`, `AllWithin P xs i j`, `EachIndex xs P`: P holds of each item; of each from place i
@@ -77,11 +78,21 @@
 //!   empty string
 //! - `starts_with_minus t`, `IsNumeral 10 t`, `digits_value 10 t`: the string begins with `-`; it
 //!   is one or more digits; their number
+//! - `without_leading_sign t`, `signed_digits_value 10 t`: the string without a leading `+` or `-`;
+//!   the integer that the sign and the digits write
+//! - `on f compare`: two values are compared by what `f` gives of each
 
 pub mod contracts;
 
 pub mod integer_core {
     //! Words of ranges, division, divisors, Bezout pairs and the iterations of their loops.
+    //! ## `Between`
+    //! z is at least low and at most high. Examples: from 0 to 100: 0 and 100; from -7 to 7: -7;
+    //! not from 0 to 100: 101.
+    //! ```text
+    //! abbrev pub Between : ℤ → ℤ → ℤ → Type 0
+    //! Between low high z = (low ≤ℤ z) × (z ≤ℤ high)
+    //! ```
     //! ## `sign`
     //! The sign of a negative number is -1, and of any other 1. Examples: -5: -1; 0: 1; 5: 1.
     //! ```text
@@ -1553,6 +1564,33 @@ pub mod calendar {
     //! abbrev pub day_number : ℤ → ℕ → ℕ → ℤ
     //! day_number year month day = first_day year +ℤ pos (days_before_month year month + day) -ℤ
     //!     pos 1
+    //! ```
+}
+
+pub mod bounded_integers {
+    //! Words of bounded integers.
+    //! ## `IsBoundedRange`
+    //! A type of bounded integers may have this range: low is 0, -high or -high - 1, and above the
+    //! smallest `i64`; high is positive and fits an `i64`. Examples: 0 to 100; -7 to 7; -8 to 7;
+    //! not 1 to 12; not -7 to 100.
+    //! ```text
+    //! pub record IsBoundedRange (low high : ℤ) : Type 0 where
+    //!   pub low_end : (low ≡ pos 0) ⊎ ((low ≡ neg_ℤ high) ⊎ (low ≡ (neg_ℤ high -ℤ pos 1)))
+    //!   pub positive : pos 1 ≤ℤ high
+    //!   pub above : neg_ℤ (pos (2 ^ 63)) <ℤ low
+    //!   pub below : high <ℤ pos (2 ^ 63)
+    //! ```
+    //! ## `ReadsBounded`
+    //! The result is the integer that the string spells, or an error if the string is no integer
+    //! from low to high. It may begin with `+` or `-`. Examples, from 0 to 100: of `7`, `+7` and
+    //! `007`: 7; of `101`, `-1`, `seven` and the empty string: an error.
+    //! ```text
+    //! abbrev pub ReadsBounded : {T E : Type 0} → ℤ → ℤ → (T → ℤ) → List ℕ → Result T E → Type 0
+    //! ReadsBounded low high number text result = MatchResult result
+    //!         (λ x. IsNumeral 10 (without_leading_sign text) × (number x ≡ signed_digits_value 10
+    //!         text))
+    //!         (λ _. ¬ (IsNumeral 10 (without_leading_sign text) × Between low high
+    //!         (signed_digits_value 10 text)))
     //! ```
 }
 

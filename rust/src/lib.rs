@@ -13,6 +13,7 @@ extern crate std;
 pub use num_traits;
 
 mod bounded_coefficients;
+pub mod bounded_integers;
 pub mod calendar;
 pub mod checked;
 mod coefficients;

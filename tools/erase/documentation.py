@@ -27,11 +27,11 @@ FITS = r'[A-Z]\w*\.fits \([A-Z]\w*\.value [\w.]+\)'
 LIES = rf'(?:{FITS}|All \(λ x\. {FITS}\) [\w.]+|All \w+\.fits result)'
 ONLY_LIES = re.compile(rf'\w+ (?:\w+ )?\{{ {LIES}(?: × {LIES})* \}}')
 # The ghost members of an implementation that say what its calls return. The others are proofs.
-STATED = {'output', 'from_str_gives', 'from_gives', 'is_default', 'cmp', 'partial_cmp', 'next_gives'}
+STATED = {'output', 'from_str_gives', 'from_gives', 'is_default', 'try_from_gives', 'cmp', 'partial_cmp', 'next_gives'}
 # What the pages of the module `definitions` are about.
 PAGES = {'integer_core': 'ranges, division, divisors, Bezout pairs and the iterations of their loops',
          'integer_roots': 'averages, roots and the iterations of their loops', 'num_integer': 'coefficients and checked calls',
-         'modular': 'residues and congruences', 'ratio64': 'fractions', 'calendar': 'dates', 'applied': 'lists, rounding, shares, factorials, paging, schedules, ranking, alignment and hashing'}
+         'modular': 'residues and congruences', 'ratio64': 'fractions', 'calendar': 'dates', 'bounded_integers': 'bounded integers', 'applied': 'lists, rounding, shares, factorials, paging, schedules, ranking, alignment and hashing'}
 
 # The sections of a comment, in the order in which the Rust crate has them.
 SECTIONS = ('Examples', 'Panics', 'Errors')

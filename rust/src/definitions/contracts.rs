@@ -285,6 +285,38 @@
 //! - Words: [`RowFits`](num_integer#rowfits), [`row_of`](num_integer#row_of)
 //! ## `Iterator` for `IterBinomial`
 //! - `ghost next_gives = { YieldsFirstBy T.value (λ s. s) }`
+//! ## `bounded_integers::Range`
+//! - `ghost range_law: { IsBoundedRange LOW HIGH }`
+//! - Words: [`IsBoundedRange`](bounded_integers#isboundedrange)
+//! ## `bounded_integers::SignedRange`
+//! - `ghost sign_law: { Self.LOW ≡ neg_ℤ Self.HIGH }`
+//! ## `bounded_integers::Bounded`
+//! - `ghost in_range: { Between R.LOW R.HIGH number }`
+//! - Words: [`Between`](integer_core#between)
+//! ## `bounded_integers::Bounded::new`
+//! - `requires in_range { Between R.LOW R.HIGH number }`
+//! - `ensures { result.number ≡ number }`
+//! - Words: [`Between`](integer_core#between)
+//! ## `bounded_integers::Bounded::number`
+//! - `ensures value { result ≡ self.now.number }`
+//! - `ensures in_range { Between R.LOW R.HIGH result }`
+//! - Words: [`Between`](integer_core#between)
+//! ## `TryFrom` for `bounded_integers::Bounded`
+//! - `ghost try_from_gives = { λ number result. MatchResult result (λ x. x.number ≡ number) (λ _. ¬
+//!   (Between R.LOW R.HIGH number)) }`
+//! - Words: [`Between`](integer_core#between)
+//! ## `Ord` for `bounded_integers::Bounded`
+//! - `ghost cmp = { on (λ x. x.number) int_cmp }`
+//! ## `PartialOrd` for `bounded_integers::Bounded`
+//! - `ghost partial_cmp = { as_partial_cmp (on (λ x. x.number) int_cmp) }`
+//! ## `Display` for `bounded_integers::BoundedError`
+//! - `ghost output = { λ _. Some (codes "not an integer of the range") }`
+//! ## `Display` for `bounded_integers::Bounded`
+//! - `ghost output = { λ x. Some (signed_decimal x.number) }`
+//! ## `FromStr` for `bounded_integers::Bounded`
+//! - `ghost from_str_gives = { λ text result. ReadsBounded R.LOW R.HIGH (λ x. x.number) text result
+//!   }`
+//! - Words: [`ReadsBounded`](bounded_integers#readsbounded)
 //! ## `calendar::Date`
 //! - `pub ghost valid: { IsDate year month day_of_month }`
 //! - Words: [`IsDate`](calendar#isdate)
@@ -1485,4 +1517,6 @@
 //!   [`AreSharesByRemainder`](applied#aresharesbyremainder), [`IsOnly`](integer_core#isonly),
 //!   [`IsNearShare`](applied#isnearshare)
 
-use super::{applied, calendar, integer_core, integer_roots, modular, num_integer, ratio64};
+use super::{
+    applied, bounded_integers, calendar, integer_core, integer_roots, modular, num_integer, ratio64,
+};
