@@ -20,7 +20,7 @@ from collections.abc import Iterable, Sequence
 from dataclasses import dataclass, field
 from pathlib import Path
 
-from tools.erase.deletion import GHOST_TRAITS, Deletion
+from tools.erase.deletion import GHOST_NAMES, Deletion
 from tools.erase.library import Library
 from tools.erase.source import Item, Source, Unknown
 from tools import DEBIAN, REGISTRY, ROOT, dependencies, write
@@ -30,10 +30,10 @@ PRELUDE = Path(__file__).parent / 'prelude'
 JOBS = 2
 SECONDS = '300'                                 # for a build and the calls of a program
 # The clauses of its traits.
-OF_TRAITS = {'add_gives', 'cmp', 'from_gives', 'from_str_gives', 'is_default', 'output', 'partial_cmp', 'steps', 'sub_gives'}
+OF_TRAITS = {'add_gives', 'cmp', 'eq', 'from_gives', 'from_str_gives', 'is_default', 'mul_gives', 'neg_gives', 'output', 'partial_cmp', 'rem_gives', 'steps',
+             'sub_gives', 'try_from_gives'}
 TABLES = tomllib.loads((PRELUDE / 'preludes.toml').read_text())
 PACKAGE = '[package]\nname = "{name}"\nversion = "0.0.0"\nedition = "2021"\n[dependencies]\nnum-traits = "0.2"\n'
-GHOST = GHOST_TRAITS | {'Number'}                # imports of these, and implementations, go
 # What the library of Rattle has otherwise than that of Rust: imports of these are dropped, and prelude/intcalc.rs has them.
 OF_RATTLE = {'Args', 'Global'}
 
@@ -57,7 +57,7 @@ class Plain(Deletion):
         return ''.join(self.texts)
 
     def goes(self, item: Item) -> bool:
-        return super().goes(item) or item.of_trait in GHOST or (item.kind, item.name) == ('fn', 'main')
+        return super().goes(item) or (item.kind, item.name) == ('fn', 'main')
 
     def dress(self, item: Item, owner: Item | None) -> None:
         derived = [self.at(k) for first, last in item.attributes for k in range(first, last)]
@@ -67,10 +67,10 @@ class Plain(Deletion):
     def use(self, item: Item) -> None:
         """Drops the names that Rust does not have."""
         names = {name for _, name in self.source.imports(item)}
-        if names & OF_RATTLE or names <= GHOST:
+        if names & OF_RATTLE or names <= GHOST_NAMES:
             self.drop(item.first, item.last)
         for k in range(item.first, item.last):
-            if self.at(k) in GHOST:
+            if self.at(k) in GHOST_NAMES:
                 self.drop_from_list(k)
 
     def word(self, k: int) -> None:

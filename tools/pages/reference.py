@@ -20,7 +20,7 @@ from tools import ROOT
 CRATES = ROOT / 'crates'
 PAGES = ROOT / 'docs' / 'reference'
 TOOLCHAIN = ROOT / 'rust' / 'by_hand' / 'definitions.md'
-NAMES = ('theorems', 'theorems_by_subject', 'callers', 'integer_core', 'integer_roots', 'num_integer', 'modular', 'ratio64', 'calendar', 'applied', 'cellarcove_c')
+NAMES = ('theorems', 'theorems_by_subject', 'callers', 'integer_core', 'integer_roots', 'num_integer', 'modular', 'ratio64', 'calendar', 'bounded_integers', 'applied', 'cellarcove_c')
 # All public items of these are those of num_integer, on whose page they are.
 BELOW = {'integer_core': 'num_integer', 'integer_roots': 'num_integer'}
 BY_FILE = {'cellarcove_c', 'theorems', 'theorems_by_subject', 'callers'}   # nobody imports them: their public items are those of their files
