@@ -49,11 +49,11 @@ pub fn meet_again(a: u64, b: u64, c: u64) -> Option<u64>
 }
 
 /// Returns the largest step that both numbers are multiples of. It is at most 1439 if both are minutes of a day.
-pub fn common_step(a: u16, b: u16) -> u16
-    requires { (a ≤ 1439) × (b ≤ 1439) }
+pub fn common_step(x: u16, y: u16) -> u16
+    requires { (x ≤ 1439) × (y ≤ 1439) }
     ensures { result ≤ 1439 }
 {
-    a.gcd(&b)
+    x.gcd(&y)
 }
 
 /// Returns the greatest common divisor of a number and a positive number, which always fits.
@@ -65,10 +65,10 @@ pub fn common_divisor_with_positive(m: i64, n: i64) -> i64
 }
 
 /// Returns the greatest common divisor at an unsigned type, which always fits.
-pub fn natural_common_divisor(x: u64, y: u64) -> u64
-    ensures { IsGreatestCommonDivisor (pos x) (pos y) (pos result) }
+pub fn natural_common_divisor(a: u64, b: u64) -> u64
+    ensures { IsGreatestCommonDivisor (pos a) (pos b) (pos result) }
 {
-    x.gcd(&y)
+    a.gcd(&b)
 }
 
 /// Returns a Bezout pair of a number and a positive number. It always exists.
