@@ -104,21 +104,19 @@ def is_bezout(bounds: Pair, x: int, y: int, status: int, values: Sequence[int] |
     return status == 0 and found == gcd == p * x + q * y and small
 
 
+def last(end: int, holds: Callable[[int], Any]) -> int:
+    """The last number below an end for which something holds that holds for 0, and for no number after one for which it does not."""
+    first = 0
+    while first + 1 < end:
+        middle = (first + end) // 2
+        first, end = (middle, end) if holds(middle) else (first, middle)
+    return first
+
+
 def root(x: int, degree: int) -> int:
     """The root rounded toward 0."""
     let(degree > 0 and (x >= 0 or degree % 2 == 1))
-    if x < 0:
-        return -root(-x, degree)
-    if x < 2 or degree == 1:
-        return x
-    if x.bit_length() <= degree:
-        return 1
-    found = int(x ** (1 / degree))
-    while found**degree > x:
-        found -= 1
-    while (found + 1) ** degree <= x:
-        found += 1
-    return found
+    return -root(-x, degree) if x < 0 else last(2 << x.bit_length() // degree, lambda found: found**degree <= x)
 
 
 def is_power(x: int, degree: int) -> bool:
@@ -130,10 +128,7 @@ def is_power(x: int, degree: int) -> bool:
 
 def ilog(x: int, base: int) -> int:
     let(x >= 1 and base >= 2)
-    degree = 0
-    while base ** (degree + 1) <= x:
-        degree += 1
-    return degree
+    return last(x.bit_length(), lambda degree: base**degree <= x)
 
 
 def reduced(x: int, y: int) -> Pair:
@@ -169,16 +164,11 @@ def rank(choice: Sequence[int], n: int) -> int:
 def choice_of_rank(number: int, n: int, count: int) -> tuple[int, ...]:
     """The choice of this rank: its largest number is the largest of which so many choices lie below it, and so on."""
     let(coefficient(n, count) > number)
-    found: list[int] = []
-    bound = n
+    found = [n]
     for place in range(count, 0, -1):
-        low = 0
-        while low + 1 < bound:
-            middle = (low + bound) // 2
-            low, bound = (middle, bound) if coefficient(middle, place) <= number else (low, middle)
-        found.insert(0, low)
-        number, bound = number - coefficient(low, place), low
-    return tuple(found)
+        found.insert(0, last(found[0], lambda low: coefficient(low, place) <= number))
+        number -= coefficient(found[0], place)
+    return tuple(found[:-1])
 
 
 def shares(amount: int, weights: Sequence[int]) -> tuple[int, ...]:

@@ -3,8 +3,6 @@
 The functions by hand that panic have it, and a generic division panics too. A function that reaches one of these by calls gets it if its
 comment has the section `# Panics`, and if no other crate can call it and it stands between such a function and the panic. A function is
 found by its path, through imports, and a method by its name alone."""
-from __future__ import annotations
-
 import collections
 from dataclasses import dataclass
 from pathlib import Path

@@ -1,7 +1,5 @@
 """Deletes from a file of Rattle what its contracts are: `ghost` items, members and fields, clauses, `final`, tests, and the traits that
 are of contracts alone. A form that is not known is rejected by file and line."""
-from __future__ import annotations
-
 from collections.abc import Iterable
 
 from tools.erase.source import Item, Source

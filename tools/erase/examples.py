@@ -107,17 +107,12 @@ def assertion(call: str, answer: str) -> list[str]:
     return [line] if len(line) <= WIDTH - INDENT else ['assert_eq!(', f'    {call},', f'    {answer}', ');']
 
 
-def block(library: RustLibrary, pairs: list[tuple[str, str]], more: list[str], place: Place) -> list[str]:
-    """The lines of a section: an assertion of each pair, and more code."""
-    if not pairs and not more:
-        return []
-    head = imports(library, '\n'.join([*(f'{call}\n{answer}' for call, answer in pairs), *more]), place)
-    body = [line for pair in pairs for line in assertion(*pair)] + more
-    return ['# Examples', '', '```', *head, *([''] if head else []), *body, '```']
-
-
 def section(eraser: Eraser, item: Item, place: Place, lines: list[str]) -> list[str]:
-    """The lines of the section of an item at a public place, whose own section has these lines, a block of code."""
+    """The lines of the section of an item at a public place, whose own section has these lines, a block of code: an assertion of each
+    sentence, and that code."""
     if lines and (lines[0] != '```' or lines.index('```', 1) != len(lines) - 1):
         eraser.source.refuse(item.word, 'a section `# Examples` that is no block of code')
-    return block(eraser.library, sentences(eraser.source, item), lines[1:-1], place)
+    pairs, more = sentences(eraser.source, item), lines[1:-1]
+    head = imports(eraser.library, '\n'.join([*(f'{call}\n{answer}' for call, answer in pairs), *more]), place)
+    body = [line for pair in pairs for line in assertion(*pair)] + more
+    return ['# Examples', '', '```', *head, *[''] * bool(head), *body, '```'] if body else []

@@ -15,7 +15,7 @@ AT_ROOT = {ROOT, 'applied'}                     # the modules of these stand at 
 CRATES = {'integer_core': 'mod', 'integer_roots': 'mod', 'num_integer': '',
           'modular': 'pub mod', 'ratio64': 'pub mod', 'calendar': 'pub mod', 'bounded_integers': 'pub mod', 'applied': ''}
 # The public modules that are private in the Rust crate: others export what they have, or no caller there needs it.
-WITHIN = {('integer_core', 'counted'), ('integer_core', 'guards'), ('integer_core', 'padded'), ('integer_core', 'fitting'),
+WITHIN = {('integer_core', 'counted'), ('integer_core', 'guards'), ('integer_core', 'padded'), ('integer_core', 'fitting'), ('integer_core', 'narrowing'),
           ('integer_roots', 'counted'), ('num_integer', 'sign_magnitude'), ('applied', 'guards')}
 NOT_READ = {'tests', 'assertions'}               # modules that only tests have
 OUTSIDE = {'std', 'core', 'num_traits', 'crate', 'self', 'super'}

@@ -1,6 +1,4 @@
 """How tools/erase/additions.py puts what is by hand into a made file."""
-from __future__ import annotations
-
 from pathlib import Path
 
 import pytest

@@ -1,7 +1,5 @@
 """Which functions tools/erase/callers.py gives the attribute `#[track_caller]`: those of the crate tools/tests/golden/callers that have it,
 but for the one in guards.rs, which has it by hand."""
-from __future__ import annotations
-
 import re
 from pathlib import Path
 

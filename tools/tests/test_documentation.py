@@ -1,10 +1,9 @@
 """The examples of the Rust crate, and its pages of contracts and of their words."""
-from __future__ import annotations
-
 import pathlib
 
 import pytest
 
+from tools import write
 from tools.erase import documentation, examples
 from tools.erase.library import ROOT
 from tools.erase.source import Unknown
@@ -27,11 +26,10 @@ def test_contracts(tmp_path: pathlib.Path) -> None:
     rust, page = samples.erased(ROOT, {ROOT: golden['lib.rt'], f'{ROOT}/specs/Words.antt': golden['specs/Words.antt']})
     assert '/// Returns the half.\n///\n/// [Contract](crate::definitions::contracts#half)\n' in rust
     assert '/// A number with a half.\n///\n/// [Laws](crate::definitions::contracts#half)\n' in rust
-    for name, head in (('contracts', 'Contracts.'), ('definitions', 'Words: `ℕ`.')):
-        (tmp_path / f'{name}.md').write_text(head + '\n')
+    write(tmp_path, {'contracts.md': 'Contracts.\n', 'definitions.md': 'Words: `ℕ`.\n', f'definitions/{ROOT}.md': 'Words of coefficients and checked calls.\n'})
     with pytest.raises(Unknown, match='one anchor for `Half`, `half`'):
         documentation.pages(page, tmp_path)
-    page.contracts[()][1].title = '`Halved`'
+    page.contracts[()][1] = ('`Halved`', page.contracts[()][1][1])
     for name, (_, text) in documentation.pages(page, tmp_path).items():
         assert text == golden[name]
     (tmp_path / 'definitions.md').write_text('No words.\n')

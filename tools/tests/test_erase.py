@@ -2,8 +2,6 @@
 
 The pairs of tools/tests/golden are sources of Rattle, in files that the prover does not take for its own, and the Rust that is made
 of them. A file is named for its crate and for what it shows."""
-from __future__ import annotations
-
 from pathlib import Path
 
 import pytest

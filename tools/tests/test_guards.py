@@ -1,6 +1,4 @@
 """Which calls tools/checks/guards.py takes out, and what it writes for them."""
-from __future__ import annotations
-
 from pathlib import Path
 
 from tools import write

@@ -1,6 +1,4 @@
 """The check of the made comments and pages."""
-from __future__ import annotations
-
 import pathlib
 
 import pytest
@@ -17,9 +15,9 @@ def test_lacks(wanted: str, text: str) -> None:
 
 
 def test_wide_lines(tmp_path: pathlib.Path) -> None:
-    lines = ['// ' + 'x' * 98, '/// ' + 'x' * 96, '//! | ' + 'x' * 98, '    /// ' + 'x' * 93]
+    lines = ['// ' + 'x' * 98, '/// ' + 'x' * 96, '    /// ' + 'x' * 93]
     (tmp_path / 'lib.rs').write_text('\n'.join(lines))
-    assert list(rust_docs.wide_lines(tmp_path)) == ['lib.rs:4 has 101 columns']
+    assert list(rust_docs.wide_lines(tmp_path)) == ['lib.rs:3 has 101 columns']
 
 
 def test_dead_links(tmp_path: pathlib.Path) -> None:

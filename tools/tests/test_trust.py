@@ -1,4 +1,4 @@
-"""What docs/TESTING.md says of the axioms, and what a run printed."""
+"""What docs/TRUST.md says of the axioms, and what a run printed."""
 import pytest
 
 from tools.checks import trust

@@ -60,6 +60,23 @@ pub trait Range {
 
 /// A range from `-HIGH` to `HIGH`. Its type also has the operator `-` of one number, and `Signed`.
 ///
+/// # Examples
+///
+/// ```
+/// use cellarcove::bounded_integers::{Bounded, Range, SignedRange};
+///
+/// struct SmallRange;
+///
+/// impl Range for SmallRange {
+///     const LOW: i64 = -7;
+///     const HIGH: i64 = 7;
+/// }
+///
+/// impl SignedRange for SmallRange {}
+///
+/// assert_eq!(-Bounded::<SmallRange>::new(7), Bounded::new(-7));
+/// ```
+///
 /// [Laws](crate::definitions::contracts#bounded_integerssignedrange)
 pub trait SignedRange: Range {}
 
