@@ -178,5 +178,4 @@ class RustLibrary(Library):
 
     def place_of_type(self, module: Module, name: str) -> Place | None:
         """The public place of a type that the module's crate has."""
-        places = [place for (crate, _, found), place in self.public.items() if crate == module.crate and found == name]
-        return places[0] if places else None
+        return next((place for (crate, _, found), place in self.public.items() if crate == module.crate and found == name), None)
