@@ -1,6 +1,5 @@
 //! The traits of `num_integer` and `modular`.
 
-ghost use Rattle.std.specs.Prelude.{◌≡◌};
 ghost use Rattle.std.proofs.Common.{rules};
 ghost use Rattle.bounded_integers.specs.Ranges.{range_of};
 

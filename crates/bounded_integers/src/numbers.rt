@@ -1,6 +1,6 @@
 //! The traits of `num_traits`.
 
-ghost use Rattle.std.specs.Prelude.{◌≡◌, ◌≢◌, ⊤, pos, refl};
+ghost use Rattle.std.specs.Prelude.{◌≢◌, ⊤, pos, refl};
 ghost use Rattle.num_integer.specs.Between.{Between, between_law};
 ghost use Rattle.num_traits.specs.Ints.{signed-eq};
 ghost use Rattle.bounded_integers.specs.Ranges.{one_inside, positive_divisor_inside, sub_inside, zero_inside};

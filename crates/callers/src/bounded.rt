@@ -1,15 +1,15 @@
 //! Types of `bounded_integers`: minutes of a day, and amounts in cents.
 
-ghost use Rattle.std.specs.Prelude.{◌≡◌, ◌↔◌, ◌≢◌, ◌≤◌, ◌+ℤ◌, ◌-ℤ◌, ◌*ℤ◌, ◌<ℤ◌, ◌≤ℤ◌, IfSome, IsSome, IsTrue, MatchOption, MatchResult, int_div, negsuc, neg_ℤ, pos, refl};
+ghost use Rattle.std.specs.Prelude.{◌≡◌, ◌≢◌, ◌+ℤ◌, ◌-ℤ◌, ◌*ℤ◌, ◌<ℤ◌, IfSome, MatchOption, negsuc, neg_ℤ, pos, refl};
 ghost use Rattle.std.proofs.Common.{lit≤};
+ghost use Rattle.num_integer.specs.Averages.{IsAverageFloor};
 ghost use Rattle.num_integer.specs.Between.{Between};
 ghost use Rattle.num_integer.specs.Division.{IsCeiled, IsFloored, IsMultiple, IsQuotient};
 ghost use Rattle.num_integer.specs.Divisors.{IsGreatestCommonDivisor, IsLeastCommonMultiple};
 ghost use Rattle.num_integer.specs.Range.{EachFits};
 ghost use Rattle.bounded_integers.specs.Ranges.{natural_range, signed_range};
 
-use bounded_integers::{Bounded, BoundedError, Range, SignedRange};
-use modular::sum_modulo;
+use bounded_integers::{Bounded, Range, SignedRange};
 use num_integer::{Average, Integer, checked};
 
 /// The range of the minutes of a day.
@@ -78,7 +78,7 @@ pub fn common_step_of(a: Minutes, b: Minutes) -> Minutes
 
 /// Returns the minute in the middle, rounded down.
 pub fn middle(from: Minutes, end: Minutes) -> Minutes
-    ensures { IsQuotient IsFloored (from.number +ℤ end.number) (pos 2) result.number }
+    ensures { IsAverageFloor from.number end.number result.number }
 {
     from.average_floor(&end)
 }

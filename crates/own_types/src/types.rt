@@ -65,16 +65,27 @@ pub trait Tested: Average + Fits {
 pub trait BuiltIn: Average + Fits + FromPrimitive + GcdCounted {}
 
 impl BuiltIn for i8 {}
+
 impl BuiltIn for i16 {}
+
 impl BuiltIn for i32 {}
+
 impl BuiltIn for i64 {}
+
 impl BuiltIn for i128 {}
+
 impl BuiltIn for isize {}
+
 impl BuiltIn for u8 {}
+
 impl BuiltIn for u16 {}
+
 impl BuiltIn for u32 {}
+
 impl BuiltIn for u64 {}
+
 impl BuiltIn for u128 {}
+
 impl BuiltIn for usize {}
 
 impl<T: BuiltIn> Tested for T {

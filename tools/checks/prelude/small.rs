@@ -2,11 +2,11 @@
 #[derive(Debug)]
 struct SmallRange;
 
-impl Range for SmallRange {
+impl crate::Range for SmallRange {
     const LOW: i64 = -7;
     const HIGH: i64 = 7;
 }
 
-impl SignedRange for SmallRange {}
+impl crate::SignedRange for SmallRange {}
 
-type Small = Bounded<SmallRange>;
+type Small = crate::Bounded<SmallRange>;

@@ -1,0 +1,15 @@
+//! A copy that is written out, and a trait of contracts alone.
+
+use core::marker::PhantomData;
+use num_traits::Num;
+
+/// [Contract](crate::definitions::contracts#marked)
+pub struct Marked<T> {
+    mark: PhantomData<T>,
+}
+
+impl<T: Num> Clone for Marked<T> {
+    fn clone(&self) -> Self {
+        *self
+    }
+}
