@@ -22,5 +22,8 @@ pub mod ratio64 {}
 #[doc = include_str!("definitions/calendar.md")]
 pub mod calendar {}
 
+#[doc = include_str!("definitions/bounded_integers.md")]
+pub mod bounded_integers {}
+
 #[doc = include_str!("definitions/applied.md")]
 pub mod applied {}

@@ -12,6 +12,7 @@ extern crate std;
 
 pub use num_traits;
 
+pub mod bounded_integers;
 pub mod calendar;
 pub mod checked;
 mod coefficients;

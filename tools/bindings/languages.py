@@ -32,7 +32,7 @@ def in_rattle(path: str) -> str:
         file = next(file for file in sorted(ROOT.glob('crates/*/src/**/*.rt')) if 'checked' in str(file) and f'pub fn {others[0]}<' in file.read_text())
         crate, _, *modules = file.relative_to(ROOT / 'crates').with_suffix('').parts
         return '::'.join([crate, *modules[:modules.index('checked') + 1], *others])
-    if first in ('calendar', 'modular', 'ratio64'):
+    if first in ('bounded_integers', 'calendar', 'modular', 'ratio64'):
         return path
     return f'applied::{path}' if first.islower() and others and first != 'counted' else f'num_integer::{path}'
 

@@ -24,7 +24,7 @@ from tools.erase.source import Unknown
 
 RUST = ROOT / 'rust'
 TAKEN_OUT = Path(__file__).resolve().parent / 'taken_out.rs'
-TESTS = ('domains', 'guards', 'own_type')        # those of rust/tests that are tried, one after the other, until one fails
+TESTS = ('domains', 'guards', 'own_type', 'bounded_integers')        # those of rust/tests that are tried, one after the other, until one fails
 MANY = re.compile(r'mod (?:small|slices|wide);\n')      # the parts of `domains` that try many numbers, which the copy has not
 SECONDS = '60'                                  # that they may take
 FEW = 8                                         # of so many guards of a kind, one is in the sample

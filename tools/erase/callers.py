@@ -37,8 +37,7 @@ class Function:
 
     def says_so(self) -> bool:
         """Whether its comment says when it panics."""
-        source = self.module.source
-        return any(source.tokens[i].text == '/// # Panics' for i in source.docs(self.item))
+        return '# Panics' in self.module.source.doc(self.item)
 
 
 class Callers(Made):
@@ -87,10 +86,8 @@ class Callers(Made):
     def is_closed(self, function: Function) -> bool:
         """Whether no other crate can call a function."""
         module, owner, item = function.module, function.owner, function.item
-        top = owner if owner and owner.kind == 'trait' else None if owner else item
-        if top is not None:
-            return (self.name, module.path, top.name) not in self.public
-        assert owner is not None
+        if owner is None or owner.kind == 'trait':
+            return (self.name, module.path, (owner or item).name) not in self.public
         return not owner.of_trait and not (item.public and owner.name in self.types)
 
     def put(self) -> None:

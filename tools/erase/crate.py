@@ -17,7 +17,7 @@ from tools import ROOT as REPOSITORY, write
 from tools.erase import copies, documentation
 from tools.erase.additions import Additions
 from tools.erase.callers import Callers
-from tools.erase.deletion import GHOST_TRAITS, Deletion
+from tools.erase.deletion import GHOST_NAMES, Deletion
 from tools.erase.library import AT_ROOT, CRATES, ROOT, WITHIN, Module, RustLibrary
 from tools.erase.prose import within_columns
 from tools.erase.source import Item, Unknown
@@ -77,7 +77,7 @@ class Eraser(Deletion):
                 self.refuse(k, f'a path that begins with `{path[0]}`')
         names = [j for j in range(k + 1, last) if self.kind(j) == 'word']
         private = {name: path for path, name in imports if item.public and self.is_private(path)}
-        gone = GHOST_TRAITS | private.keys()
+        gone = GHOST_NAMES | private.keys()
         if [self.at(j) for j in names] == ['std', 'error', 'Error']:
             self.drop(k, last)
             return self.write(k, 'use crate::errors::Error;')

@@ -26,7 +26,7 @@ FITS = r'[A-Z]\w*\.fits \([A-Z]\w*\.value [\w.]+\)'
 LIES = rf'(?:{FITS}|All \(λ x\. {FITS}\) [\w.]+|All \w+\.fits result)'
 ONLY_LIES = re.compile(rf'\w+ (?:\w+ )?\{{ {LIES}(?: × {LIES})* \}}')
 # The ghost members of an implementation that say what its calls return. The others are proofs.
-STATED = {'output', 'from_str_gives', 'from_gives', 'is_default', 'cmp', 'partial_cmp', 'next_gives'}
+STATED = {'output', 'from_str_gives', 'from_gives', 'is_default', 'try_from_gives', 'cmp', 'partial_cmp', 'next_gives'}
 
 # The sections of a comment, in the order in which the Rust crate has them.
 SECTIONS = ('Examples', 'Panics', 'Errors')

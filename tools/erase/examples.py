@@ -2,6 +2,7 @@
 code of the section that the comment has, below the `use` lines of their names. `cargo test` runs them."""
 from __future__ import annotations
 
+import collections
 import functools
 import re
 from typing import TYPE_CHECKING
@@ -61,22 +62,21 @@ def without_examples(lines: list[str]) -> list[str]:
 @functools.cache
 def methods(library: RustLibrary) -> dict[str, set[tuple[Place, str]]]:
     """The public traits of the library that have a method, by its name, each with its public place."""
-    found: dict[str, set[tuple[Place, str]]] = {}
-    for module in library.modules.values():
-        for item in module.items:
-            place = library.place_of(module, item) if item.kind == 'trait' else None
-            if place is not None:
-                for inner in item.items:
-                    found.setdefault(inner.name, set()).add((place, item.name))
+    found = collections.defaultdict[str, set[tuple[Place, str]]](set)
+    traits = [(library.place_of(module, item), item) for module in library.modules.values() for item in module.items if item.kind == 'trait']
+    for place, item in traits:
+        if place is not None:
+            for inner in item.items:
+                found[inner.name].add((place, item.name))
     return found
 
 
 @functools.cache
 def places(library: RustLibrary) -> dict[str, set[Place]]:
     """The public places of each name."""
-    found: dict[str, set[Place]] = {}
+    found = collections.defaultdict[str, set[Place]](set)
     for (_, _, name), place in library.public.items():
-        found.setdefault(name, set()).add(place)
+        found[name].add(place)
     return found
 
 
