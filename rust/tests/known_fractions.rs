@@ -1,8 +1,8 @@
 //! Known values of the calls on fractions, most of them at the ends of `i64`, and the strings that are read as fractions.
 
 use cellarcove::ratio64::ParseRatioError::{self, NotAFraction, TooLong};
-use cellarcove::ratio64::RatioError::{self, NotFitting, ZeroDenominator};
 use cellarcove::ratio64::Ratio;
+use cellarcove::ratio64::RatioError::{self, NotFitting, ZeroDenominator};
 use std::fmt::Debug;
 
 /// Asserts that the check holds, and shows the row if it does not.
@@ -451,15 +451,18 @@ static READ: [(&str, Result<Parts, ParseRatioError>); 35] = [
     ("18446744073709551614/2", Ok((MAX, 1))),
     ("2/18446744073709551614", Ok((1, MAX))),
     ("-18446744073709551616/2", Ok((MIN, 1))),
-    ("9223372036854775808", Err(NotFitting)),
+    ("9223372036854775808", Err(ParseRatioError::NotFitting)),
     ("9223372036854775808/-1", Ok((MIN, 1))),
-    ("-9223372036854775809", Err(NotFitting)),
-    ("1/9223372036854775808", Err(NotFitting)),
-    ("1/-9223372036854775808", Err(NotFitting)),
-    ("18446744073709551616/2", Err(NotFitting)),
-    ("1/0", Err(ZeroDenominator)),
-    ("0/-0", Err(ZeroDenominator)),
-    ("99999999999999999999/00", Err(ZeroDenominator)),
+    ("-9223372036854775809", Err(ParseRatioError::NotFitting)),
+    ("1/9223372036854775808", Err(ParseRatioError::NotFitting)),
+    ("1/-9223372036854775808", Err(ParseRatioError::NotFitting)),
+    ("18446744073709551616/2", Err(ParseRatioError::NotFitting)),
+    ("1/0", Err(ParseRatioError::ZeroDenominator)),
+    ("0/-0", Err(ParseRatioError::ZeroDenominator)),
+    (
+        "99999999999999999999/00",
+        Err(ParseRatioError::ZeroDenominator),
+    ),
     (
         "99999999999999999999999999999999999999/99999999999999999999999999999999999999",
         Ok((1, 1)),
@@ -468,7 +471,10 @@ static READ: [(&str, Result<Parts, ParseRatioError>); 35] = [
         "-99999999999999999999999999999999999999/33333333333333333333333333333333333333",
         Ok((-3, 1)),
     ),
-    ("1/99999999999999999999999999999999999999", Err(NotFitting)),
+    (
+        "1/99999999999999999999999999999999999999",
+        Err(ParseRatioError::NotFitting),
+    ),
     ("0/99999999999999999999999999999999999999", Ok((0, 1))),
     (
         "00099999999999999999999999999999999999999/99999999999999999999999999999999999999",
@@ -530,4 +536,3 @@ fn texts_printed() {
         holds_at(ratio(given).to_string() == text, &("fmt", given));
     }
 }
-

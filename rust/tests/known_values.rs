@@ -92,10 +92,7 @@ fn places_in_a_sorted_list() {
     let mut items = [5i64, 3, i64::MIN, 3];
     items.sort_unstable();
     for (least, place) in [(i64::MIN, 0), (2, 1), (3, 1), (4, 3), (5, 3), (i64::MAX, 4)] {
-        holds_at(
-            lower_bound(&items, least) == place,
-            &("lower_bound", least),
-        );
+        holds_at(lower_bound(&items, least) == place, &("lower_bound", least));
     }
 }
 
@@ -230,8 +227,7 @@ fn each_rank() {
 }
 
 /// Fills the slice with the choice of a rank, which is the rank of that choice.
-fn fill(wanted: u64, n: u64, choice: &mut [u64])
-{
+fn fill(wanted: u64, n: u64, choice: &mut [u64]) {
     let k = choice.len() as u64;
     assert!(n.binomial_fits(&k) && wanted < binomial(n, k));
     choice_of_rank(wanted, n, choice);
