@@ -83,16 +83,9 @@ static USAGE: &[&str] = &[
     "i64 ratio_sub 1 2 1 3, i64 ratio_div 1 2 1 3",
 ];
 
-/// The words, and the words that have a space between each two.
-pub(super) fn words_of<'a>(
-    alloc: Global,
-    first: &[&'a str],
-    text: &'a str,
-) -> Result<Vec<&'a str>, AllocError> {
+/// The words, which have a space between each two.
+pub(super) fn words_of(alloc: Global, text: &str) -> Result<Vec<&str>, AllocError> {
     let mut words = Vec::new(alloc);
-    for word in first {
-        words.push(*word)?;
-    }
     for word in text.split(' ') {
         words.push(word)?;
     }
@@ -101,7 +94,7 @@ pub(super) fn words_of<'a>(
 
 /// Checks that the words ask for no call.
 fn check_usage(rt: &impl Abort, alloc: Global, text: &str) {
-    let words = words_of(alloc, &[], text).expect(rt, "memory is left");
+    let words = words_of(alloc, text).expect(rt, "memory is left");
     holds_at(rt, prints(alloc, &words, "usage"), &text);
 }
 

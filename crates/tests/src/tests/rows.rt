@@ -158,7 +158,9 @@ fn is_printed(alloc: Global, it: Type, (call, operands, text): Case) -> Option<b
     if Call::of_library(call).is_some() {
         return None;
     }
-    let words = words_of(alloc, &[kind_of(it)?, call], operands).ok()?;
+    let kind = kind_of(it)?;
+    let line = format!(in alloc; "{kind} {call} {operands}").ok()?;
+    let words = words_of(alloc, line.as_str()).ok()?;
     Some(prints(alloc, &words, text))
 }
 
