@@ -1,7 +1,5 @@
 //! Integers by sign and magnitude.
 
-use std::mem;
-
 /// Whether a number is negative, and its magnitude. 0 is not negative.
 pub type SignedMagnitude = (bool, u128);
 
@@ -21,13 +19,4 @@ pub fn to_i128((negative, magnitude): SignedMagnitude) -> Option<i128> {
     } else {
         i128::try_from(magnitude).ok()
     }
-}
-
-/// The greatest common divisor of two magnitudes, by remainders.
-pub fn euclidean_gcd(mut m: u128, mut n: u128) -> u128 {
-    while m != 0 {
-        mem::swap(&mut m, &mut n);
-        m %= n;
-    }
-    n
 }

@@ -1,4 +1,0 @@
-use Rattle.own_types.proofs.signed_magnitude.euclidean_gcd.Given as goal
-
-abbrev pub decreases-loop-m : goal.decreases-loop-m
-decreases-loop-m l = l.m

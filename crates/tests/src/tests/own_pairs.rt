@@ -1,0 +1,142 @@
+//! Each call on pairs of numbers of each own type, against the same call at `i64`: it returns the same, if each number of
+//! the result is in the type, and else the operands are outside its domain.
+
+use super::calls::Call;
+use super::ends::Ends;
+use super::results::{Numbers, result};
+use super::roots::{check_root, has_no_root};
+use super::rows::{returns, returns_as_tested};
+use own_types::signed_magnitude::{SignedMagnitude, signed_magnitude_of};
+use own_types::types::Type;
+use own_types::types::Type::{I64, Marked, OneBit, Percent, Small, TwoBits};
+use std::alloc::Global;
+use std::process::Abort;
+
+/// The calls on one number and on two.
+static CALLS: [Call; 28] = [
+    Call::Parts,
+    Call::IsEven,
+    Call::IsOdd,
+    Call::Inc,
+    Call::Dec,
+    Call::Negated,
+    Call::Sum,
+    Call::Difference,
+    Call::Product,
+    Call::AverageFloor,
+    Call::AverageCeil,
+    Call::ModFloor,
+    Call::DivRem,
+    Call::Operators,
+    Call::DivModFloor,
+    Call::DivFloor,
+    Call::DivCeil,
+    Call::NextMultipleOf,
+    Call::PrevMultipleOf,
+    Call::IsMultipleOf,
+    Call::Divides,
+    Call::Gcd,
+    Call::Lcm,
+    Call::GcdLcm,
+    Call::Binomial,
+    Call::CountedBinomial,
+    Call::Multinomial,
+    Call::CountedBezout,
+];
+
+impl Ends {
+    /// The numbers, if each lies between the ends.
+    fn all(self, [a, b, c, d]: Numbers) -> Option<Numbers> {
+        if self.has(a) && self.has(b) && self.has(c) && self.has(d) {
+            Some([a, b, c, d])
+        } else {
+            None
+        }
+    }
+
+    /// The result of the call at the type with these ends.
+    fn expected(self, alloc: Global, call: Call, operands: &[SignedMagnitude]) -> Option<Numbers> {
+        self.all(result(alloc, I64, call, operands)?)
+    }
+}
+
+/// Checks each of the calls on two numbers of a type.
+fn check_calls(
+    rt: &impl Abort,
+    alloc: Global,
+    (it, ends): (Type, Ends),
+    operands: &[SignedMagnitude],
+) {
+    for call in &CALLS {
+        let expected = ends.expected(alloc, *call, operands);
+        returns_as_tested(rt, alloc, (it, *call), operands, expected);
+    }
+}
+
+/// Checks the pairs of a first number and each number from the lower to the higher end.
+fn check_pairs(rt: &impl Abort, alloc: Global, (it, low, high): (Type, u8, u8), a: i128) {
+    let ends = Ends(u128::from(low), u128::from(high));
+    let a = signed_magnitude_of(a);
+    for b in -i128::from(low)..=i128::from(high) {
+        check_calls(rt, alloc, (it, ends), &[a, signed_magnitude_of(b)]);
+    }
+}
+
+/// The small types, the magnitude of the smallest number, and the largest number.
+static SMALL_TYPES: [(Type, u8, u8); 5] = [
+    (Percent, 0, 100),
+    (Small, 7, 7),
+    (Type::Negated, 7, 7),
+    (OneBit, 0, 1),
+    (TwoBits, 0, 3),
+];
+
+#[test]
+fn pairs_of_small_types(rt: HostRuntime) {
+    for &(it, low, high) in &SMALL_TYPES {
+        for a in -i128::from(low)..=i128::from(high) {
+            check_pairs(&rt, rt.alloc(), (it, low, high), a);
+        }
+    }
+}
+
+/// Ends of the type beside a byte, their neighbours, and numbers between.
+static FIRST_NUMBERS: [i128; 15] = [-100, -99, -60, -50, -7, -2, -1, 0, 1, 2, 3, 10, 50, 99, 100];
+
+#[test]
+fn pairs_beside_a_byte(rt: HostRuntime) {
+    for &a in &FIRST_NUMBERS {
+        check_pairs(&rt, rt.alloc(), (Marked, 100, 100), a);
+    }
+}
+
+#[test]
+fn pairs_with_a_multiple(rt: HostRuntime) {
+    for (it, high) in [(Small, 7u8), (Type::Negated, 7), (Marked, 100)] {
+        let ends = Ends(u128::from(high), u128::from(high));
+        for a in -i128::from(high)..=i128::from(high) {
+            for b in -i128::from(high)..=i128::from(high) {
+                let operands = [signed_magnitude_of(a), signed_magnitude_of(b)];
+                let expected = ends.expected(rt.alloc(), Call::BezoutAndMultiple, &operands);
+                returns(
+                    &rt,
+                    rt.alloc(),
+                    (it, Call::BezoutAndMultiple),
+                    &operands,
+                    expected,
+                );
+            }
+        }
+    }
+}
+
+#[test]
+fn roots_of_each_percent(rt: HostRuntime) {
+    for x in 0..=100u8 {
+        let number = signed_magnitude_of(i128::from(x));
+        has_no_root(&rt, rt.alloc(), Percent, number, 0);
+        for degree in 1..=8 {
+            check_root(&rt, rt.alloc(), Percent, i128::from(x), degree);
+        }
+    }
+}

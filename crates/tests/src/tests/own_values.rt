@@ -1,0 +1,87 @@
+//! Values of the own types, and the bytes that count the operations of a call.
+
+use super::rows::holds_at;
+use num_integer::counted::{binomial_counted, extended_gcd_counted};
+use num_integer::{ExtendedGcd, Fits, Integer, binomial, checked};
+use num_traits::{Num, Signed};
+use own_types::{Marked, Negated, Percent, Small};
+
+#[test]
+fn texts(rt: HostRuntime) {
+    assert!(rt; Percent::from_str_radix("7", 10).is_err());
+    assert!(rt; Small::from_str_radix("7", 10).is_err());
+}
+
+#[test]
+fn signs_of_small_numbers(rt: HostRuntime) {
+    let (smallest, seven) = (Small::new(-7), Small::new(7));
+    assert!(rt; smallest.abs() == seven && smallest.abs() == -smallest);
+    assert!(rt; smallest.signum().number() == -1 && smallest.is_negative() && seven.is_positive());
+    assert!(rt; seven.abs_sub(&Small::new(3)).number() == 4);
+}
+
+/// The stored numbers of `Negated` are in reverse order.
+#[test]
+fn numbers_stored_negated(rt: HostRuntime) {
+    let (smallest, largest) = (Negated::new(-7), Negated::new(7));
+    assert!(rt; smallest < largest && smallest.abs() == largest);
+}
+
+/// Two values of one number are equal, whatever their bytes are.
+#[test]
+fn numbers_beside_a_byte(rt: HostRuntime) {
+    let (plain, marked) = (Marked::new(5), Marked::new(5).with_mark(9));
+    assert!(rt; plain.mark() == 0 && marked.mark() == 9);
+    assert!(rt; plain == marked && !(plain < marked) && !(marked < plain));
+    assert!(rt; plain.is_multiple_of(&marked) && marked.is_multiple_of(&plain));
+    assert!(rt; (plain + marked).mark() == 10);
+    let common = checked::gcd(marked, plain).expect(&rt, "the divisor fits");
+    assert!(rt; common == plain && common.mark() == 10);
+}
+
+/// The results of the three calls for a Bezout pair, and the iterations.
+fn pairs<T: Fits>(a: T, b: T) -> Option<([ExtendedGcd<T>; 3], u32)>
+    requires a_in_range { T.fits (T.value a) }
+    requires b_in_range { T.fits (T.value b) }
+{
+    let pair = checked::extended_gcd(a, b)?;
+    let (counted, iterations) = extended_gcd_counted(a, b);
+    Some(([pair, a.extended_gcd(&b), counted], iterations))
+}
+
+/// The results of the three calls for a coefficient, and the iterations.
+fn coefficients<T: Fits>(n: T, k: T) -> Option<([T; 3], u32)>
+    requires n_in_range { T.fits (T.value n) }
+    requires k_in_range { T.fits (T.value k) }
+{
+    let coefficient = checked::binomial(n, k)?;
+    let (counted, iterations) = binomial_counted(n, k);
+    Some(([coefficient, binomial(n, k), counted], iterations))
+}
+
+/// An implementation that makes more iterations than it counts, or that subtracts in place of a division, leaves a larger byte.
+#[test]
+fn bytes_tell_the_work(rt: HostRuntime) {
+    let found = pairs(Marked::new(99), Marked::new(2));
+    let (pairs, iterations) = found.expect(&rt, "the pair fits");
+    holds_at(&rt, iterations == 1, &iterations);
+    for ExtendedGcd { gcd, x, y } in pairs {
+        let mark = gcd.mark().max(x.mark()).max(y.mark());
+        let numbers = (gcd.number(), x.number(), y.number(), mark);
+        holds_at(
+            &rt,
+            (gcd.number(), x.number(), y.number()) == (1, 1, -49) && mark <= 16,
+            &numbers,
+        );
+    }
+    let found = coefficients(Marked::new(100), Marked::new(99));
+    let (coefficients, iterations) = found.expect(&rt, "the coefficient fits");
+    holds_at(&rt, iterations == 1, &iterations);
+    for it in coefficients {
+        holds_at(
+            &rt,
+            it.number() == 100 && it.mark() <= 16,
+            &(it.number(), it.mark()),
+        );
+    }
+}
