@@ -1,6 +1,6 @@
 """Compares the laws of each `crates/*/specs/Laws.antt` with the clauses that the gate proves. Each law of a library stands in an
 `ensures` of a public function of crates/theorems/src/laws.rt. Those of cellarcove_c, on which no crate can stand, stand in its
-own src/laws.rt. Both crates are in crates.txt.
+own src/laws_of_exports.rt. Both crates are in crates.txt.
 
 A law is a definition that is `Type N` itself. One with arguments is a word: it stands in a clause too, or a law cites it. A
 name counts where the file imports it from that `Laws`, or writes it after the word by which it imports the whole file, as
@@ -17,7 +17,7 @@ IS_LAW = re.compile(r'\S+ : Type \d+$')
 WHOLE_FILE = re.compile(r'use Rattle\.(\w+)\.specs\.Laws as (\w+)')
 # The file whose clauses have the laws, and that of a crate on which no other can stand.
 THEOREMS = ('theorems', 'laws.rt')
-OWN = {'cellarcove_c': ('cellarcove_c', 'laws.rt')}
+OWN = {'cellarcove_c': ('cellarcove_c', 'laws_of_exports.rt')}
 
 
 def named(text: str, imports: dict[str, tuple[str, str]], files: dict[str, str]) -> Iterator[tuple[str, str]]:

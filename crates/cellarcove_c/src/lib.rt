@@ -14,7 +14,7 @@ mod decimals;
 mod division;
 mod divisors;
 mod fractions;
-mod laws;
+mod laws_of_exports;
 mod layout;
 mod lists;
 mod modulo;

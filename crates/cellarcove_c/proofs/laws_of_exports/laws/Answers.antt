@@ -1,5 +1,5 @@
 use Rattle.cellarcove_c.proofs.Laws as law
-use Rattle.cellarcove_c.proofs.laws.laws.Goals as goal
+use Rattle.cellarcove_c.proofs.laws_of_exports.laws.Goals as goal
 
 pub returns : goal.returns
 returns c = record {
