@@ -15,7 +15,7 @@ async function load() {
 export const exports = (await WebAssembly.instantiate(await load())).instance.exports;
 
 /** Who made the WebAssembly: cargo, or Rattle of the proved sources, with addresses of 64 bits. */
-export const BUILT_BY = exports.__heap_base ? 'cargo' : 'rattle';
+export const BUILT_BY = exports.cellarcove_built_by ? 'cargo' : 'rattle';
 
 export const Status = Object.freeze(Object.fromEntries(STATUSES.map(([name], number) => [name, number])));
 
@@ -123,7 +123,7 @@ function layout(kind) {
 }
 
 // A call has the memory behind the program's own: a place for a struct of the result, one for each parameter, and room for lists.
-const PLACE = 64, RESULT = up(exports.__heap_base?.value ?? exports.memory.buffer.byteLength, PLACE), ROOM = RESULT + 16 * PLACE;
+const PLACE = 64, RESULT = up(Number(exports.__heap_base?.value ?? exports.memory.buffer.byteLength), PLACE), ROOM = RESULT + 16 * PLACE;
 let view = new DataView(exports.memory.buffer);
 
 /** An address or a length, as the module takes it. */

@@ -21,10 +21,6 @@ at() { (cd "$work/$1" && "${@:2}"); }
 # strictly FOLDER COMMAND..: the same. Each warning is an error.
 strictly() { RUSTFLAGS=-Dwarnings RUSTDOCFLAGS=-Dwarnings at "$@"; }
 
-# check_tests NAME COMMAND..: the command succeeds and runs tests. The line has their number.
-check_tests() { note=tests check "$@"; }
-tests() { awk '/^test result: ok/ { count += $4 } END { print count + 0, "tests"; exit !count }' "$1"; }
-
 # has_packages NAME..: the sources of these crates are in the registry. If not, a line says so, which is a failure in the gate.
 has_packages() {
     local name
