@@ -16,7 +16,7 @@
 #include <stddef.h>
 #include <stdint.h>
 
-#define CELLARCOVE_VERSION "0.3.0"
+#define CELLARCOVE_VERSION "0.4.0"
 
 #if defined(__GNUC__)
 #define CELLARCOVE_CONST __attribute__((const, warn_unused_result))
