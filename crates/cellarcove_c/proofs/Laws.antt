@@ -1,25 +1,34 @@
 -- The laws of specs/Laws.antt, a lemma each.
-use Rattle.std.specs.Prelude.{◌≡◌, ◌↔◌, ◌<◌, ◌≤◌, ◌+◌, ◌*◌, ◌<ℤ◌, ◌≤ℤ◌, ◌+ℤ◌, ◌-ℤ◌, ℕ, ℤ, zero, suc, pos, negsuc, Bool, List, true, false, FitsSigned, IfSome, IsTrue, MatchOption, Option, Some, None, Ok, Err}
+use Rattle.std.specs.Prelude.{◌≡◌, ◌≢◌, ◌⊎◌, ◌↔◌, ◌<◌, ◌≤◌, ◌+◌, ◌*◌, ◌<ℤ◌, ◌≤ℤ◌, ◌+ℤ◌, ◌-ℤ◌, ℕ, ℤ, zero, suc, pos, negsuc, Bool, List, true, false, length, FitsSigned, IfSome, IsTrue, MatchOption, MatchResult, Option, Some, None, Ok, Err, Result}
 use Rattle.std.specs.Int.{w64}
 use Rattle.std.specs.declared.cmp.Ordering.TheVariants.{Equal, Greater, Less}
 use Rattle.std.proofs.Common.{◌∙◌, ap, arith, inl, inr, mul-le-mul_right, refl, subst, sym}
 use Rattle.std.proofs.lemmas.Bool.{cases_lt, iff_false}
 use Rattle.std.proofs.lemmas.Int.{by_lt_z, ints}
-use Rattle.num_integer.proofs.ForCallers.{Divides-difference, linear, sizes, small_multiple_is_zero, zero_or_not}
-use Rattle.num_integer.proofs.Laws.{root_is_only}
-use Rattle.num_integer.specs.Divisors.{Divides}
+use Rattle.num_integer.proofs.ForCallers.{Divides-difference, least_is_only, linear, sizes, small_multiple_is_zero, zero_or_not}
+use Rattle.num_integer.proofs.Laws.{remainder_is_only, root_is_only}
+use Rattle.num_integer.specs.Division.{IsRemainder, IsTruncated}
+use Rattle.num_integer.specs.Divisors.{Divides, IsLeastCommonMultiple}
+use Rattle.num_integer.specs.Least.{IsLeastFrom}
+use Rattle.modular.proofs.Laws.{residue_class_is_only}
+use Rattle.modular.specs.CommonSolutions.{MatchCommonSolution}
+use Rattle.modular.specs.Congruences.{IsResidueClass, SolvesBothCongruences, SolvesEach}
 use Rattle.calendar.specs.Dates.{HasParts, IsMonthsBetween, IsYearsBetween}
 use Rattle.calendar.specs.declared.date.Date.{Date}
 use Rattle.calendar.specs.declared.weekday.Weekday.{Weekday}
 use Rattle.calendar.proofs.ForCallers.{same_month}
 use Rattle.calendar.proofs.Laws.{date_of_parts_is_only, iso_number_is_only, text_is_only}
 use Rattle.calendar.proofs.Laws.{months_between_is_only as whole_months_are_only, years_between_is_only as whole_years_are_only}
+use Rattle.cellarcove_c.specs.Congruences.{IsBeyond, IsClassOfBoth, IsNever, IsNextOfSeveral, IsReasonOfCongruences, IsReasonOfSeveral}
 use Rattle.cellarcove_c.specs.DateTexts.{HasText, ReadsDate}
 use Rattle.cellarcove_c.specs.Decimals.{HasDigits}
-use Rattle.cellarcove_c.specs.Statuses.{StatusIsOneOf, bad_modulus}
+use Rattle.cellarcove_c.specs.Statuses.{StatusIsOneOf, bad_modulus, common_solution_of, no_solution, not_fitting, outside}
 use Rattle.cellarcove_c.specs.declared.dates.Date.{Date as Parts}
-use Rattle.cellarcove_c.specs.Laws.{AnswersIsOnly, AnswersModuloIsOnly, DayOfIsoNumberIsOnly, FewestPagesIsOnly, InDigitsIsOnly, InPartsIsOnly, MonthsBetweenIsOnly, MonthsLaterIsOnly, OfIsoNumberIsOnly, OnBothIsOnly, OrderNumberIsOnly, PaddingIsOnly, PowerIsOnly, ReadDateIsOnly, ReasonIsOnly, RootWithRestIsOnly, StandsForIsOnly, StandsForNumberIsOnly, StandsForReadIsOnly, YearsBetweenIsOnly}
+use Rattle.cellarcove_c.specs.declared.fractions.FractionAnswer.{FractionAnswer}
+use Rattle.cellarcove_c.specs.Laws.{AnswersIsOnly, AnswersModuloIsOnly, ClassOfBothIsOnly, DayOfIsoNumberIsOnly, FewestPagesIsOnly, FractIsOnly, InDigitsIsOnly, InPartsIsOnly, MonthsBetweenIsOnly, MonthsLaterIsOnly, NextOfSeveralIsOnly, OfIsoNumberIsOnly, OnBothIsOnly, OrderNumberIsOnly, PaddingIsOnly, PowerIsOnly, ReadDateIsOnly, ReasonIsOnly, RootWithRestIsOnly, StandsForIsOnly, StandsForNumberIsOnly, StandsForReadIsOnly, YearsBetweenIsOnly}
 use Rattle.ratio64.proofs.Laws.{answer_is_only, rounded_even_is_only}
+use Rattle.ratio64.specs.Ratio.{den_of, num_of}
+use Rattle.ratio64.specs.RatioError.{number_of}
 use Rattle.ratio64.specs.declared.error.RatioError.{RatioError}
 use Rattle.ratio64.specs.declared.fraction.Ratio.{Ratio}
 
@@ -67,6 +76,95 @@ answers_modulo_is_only modulus reason without Is zeros (suc s) (suc t) a b only 
     let first = h.refusal (λ same. absurd (omega (arith, same))) in
     let second = k.refusal (λ same. absurd (omega (arith, same))) in
     (same_reason {modulus = modulus} {reason = reason} h.modulus_is_bad k.modulus_is_bad first.1 second.1, first.0 ∙ sym second.0)
+
+-- ---- congruences
+
+same_pair : {A B : Type 0} (c d : A × B) → c.0 ≡ d.0 → c.1 ≡ d.1 → c ≡ d
+same_pair (a, b) (x, y) first second = rw (first, second) refl
+
+module _ {X : Type 0} (value : X → ℤ) (fits : ℤ → Type 0) {a m b n : ℤ} {zeros : X × X} where
+  -- a reason of one result is the status of each other
+  reason_of_both : {s t : ℕ} {c d : X × X} → IsClassOfBoth value fits a m b n zeros s c → IsClassOfBoth value fits a m b n zeros t d → IsReasonOfCongruences t → s ≡ t
+  reason_of_both h k (inl bad) = h.modulus_is_bad.1 (k.modulus_is_bad.0 bad) ∙ sym bad
+  reason_of_both h k (inr (inl far)) = h.step_is_beyond.1 (k.step_is_beyond.0 far) ∙ sym far
+  reason_of_both h k (inr (inr none)) = h.is_never.1 (k.is_never.0 none) ∙ sym none
+
+  -- a class with the status 0 is that of the numbers that solve both
+  class_of : {c : X × X} → ((z : ℤ) → fits z ⊎ (¬ (fits z))) → IsClassOfBoth value fits a m b n zeros 0 c → IsResidueClass (SolvesBothCongruences a m b n) (value c.0) (value c.1)
+  class_of decided h =
+      let first = positive_of m (λ low. absurd (omega (arith, h.modulus_is_bad.1 (inl low)))) in
+      let second = positive_of n (λ low. absurd (omega (arith, h.modulus_is_bad.1 (inr low)))) in
+      h.answer first second (λ z least. elim (decided z) [
+        | inl near ↦ near
+        | inr far ↦
+            let beyond : ¬ ((l : ℤ) → IsLeastCommonMultiple m n l → fits l) = λ each. far (each z least) in
+            let never : IsNever (SolvesBothCongruences a m b n) = λ x solves. absurd (omega (arith, h.step_is_beyond.1 (first, second, beyond, (x, solves)))) in
+            absurd (omega (arith, h.is_never.1 (first, second, never)))
+      ])
+
+pub class_of_both_is_only : {X : Type 0} (value : X → ℤ) (fits : ℤ → Type 0) → ClassOfBothIsOnly value fits
+class_of_both_is_only value fits a m b n zeros zero zero c d injective decided h k =
+    let same = residue_class_is_only (SolvesBothCongruences a m b n) (value d.0) (value d.1) (class_of value fits decided k) (value c.0, value c.1) (class_of value fits decided h) in
+    (refl, same_pair c d (injective c.0 d.0 (ap (λ (p : ℤ × ℤ). p.0) same)) (injective c.1 d.1 (ap (λ (p : ℤ × ℤ). p.1) same)))
+class_of_both_is_only value fits a m b n zeros zero (suc t) c d injective decided h k =
+    absurd (omega (arith, reason_of_both value fits h k (k.refusal (λ same. absurd (omega (arith, same)))).1))
+class_of_both_is_only value fits a m b n zeros (suc s) zero c d injective decided h k =
+    absurd (omega (arith, reason_of_both value fits k h (h.refusal (λ same. absurd (omega (arith, same)))).1))
+class_of_both_is_only value fits a m b n zeros (suc s) (suc t) c d injective decided h k =
+    let first = h.refusal (λ same. absurd (omega (arith, same))) in
+    let second = k.refusal (λ same. absurd (omega (arith, same))) in
+    (reason_of_both value fits h k second.1, first.0 ∙ sym second.0)
+
+module _ {X : Type 0} (value : X → ℤ) (fits : ℤ → Type 0) {from : ℤ} {pairs : List (X × X)} {zero_value : X} where
+  -- a status that says neither that there are too many congruences nor that a modulus is not positive
+  solved : {s : ℕ} {x : X} → IsNextOfSeveral value fits from pairs zero_value s x → s ≢ outside → s ≢ bad_modulus
+      → MatchCommonSolution (common_solution_of s x) (IsNever (SolvesEach value pairs)) (IsBeyond fits (IsLeastFrom from (SolvesEach value pairs))) (λ t. IsLeastFrom from (SolvesEach value pairs) (value t))
+  solved h other another =
+      let few : length pairs ≤ 64 = elim (cases_lt 64 (length pairs)) [
+        | inl more ↦ absurd (other (h.too_many.1 more))
+        | inr few ↦ few
+      ] in
+      h.answer few (λ i d within. positive_of _ (λ low. another (h.modulus_is_bad.1 (few, λ all. absurd (omega (arith, linear, all i d within, low))))))
+
+  least_of : {x : X} → IsNextOfSeveral value fits from pairs zero_value 0 x → IsLeastFrom from (SolvesEach value pairs) (value x)
+  least_of h = solved h (λ same. absurd (omega (arith, same))) (λ same. absurd (omega (arith, same)))
+
+  beyond_of : {s : ℕ} {x : X} → IsNextOfSeveral value fits from pairs zero_value s x → s ≡ not_fitting → IsBeyond fits (IsLeastFrom from (SolvesEach value pairs))
+  beyond_of h far = rw far at (solved h (λ same. absurd (omega (arith, far, same))) (λ same. absurd (omega (arith, far, same))))
+
+  never_of : {s : ℕ} {x : X} → IsNextOfSeveral value fits from pairs zero_value s x → s ≡ no_solution → IsNever (SolvesEach value pairs)
+  never_of h none = rw none at (solved h (λ same. absurd (omega (arith, none, same))) (λ same. absurd (omega (arith, none, same))))
+
+  -- two reasons are the same
+  same_reason_of_several : {s t : ℕ} {x y : X} → IsNextOfSeveral value fits from pairs zero_value s x → IsNextOfSeveral value fits from pairs zero_value t y
+      → IsReasonOfSeveral s → IsReasonOfSeveral t → s ≡ t
+  same_reason_of_several h k (inl more) other = more ∙ sym (k.too_many.1 (h.too_many.0 more))
+  same_reason_of_several h k (inr (inl bad)) other = bad ∙ sym (k.modulus_is_bad.1 (h.modulus_is_bad.0 bad))
+  same_reason_of_several h k (inr (inr p)) (inl more) = h.too_many.1 (k.too_many.0 more) ∙ sym more
+  same_reason_of_several h k (inr (inr p)) (inr (inl bad)) = h.modulus_is_bad.1 (k.modulus_is_bad.0 bad) ∙ sym bad
+  same_reason_of_several h k (inr (inr (inl far))) (inr (inr (inl too))) = far ∙ sym too
+  same_reason_of_several h k (inr (inr (inl far))) (inr (inr (inr none))) = let (z, least, beyond) = beyond_of h far in absurd (never_of k none z least.holds)
+  same_reason_of_several h k (inr (inr (inr none))) (inr (inr (inl far))) = let (z, least, beyond) = beyond_of k far in absurd (never_of h none z least.holds)
+  same_reason_of_several h k (inr (inr (inr none))) (inr (inr (inr too))) = none ∙ sym too
+
+  -- if one result has a number that fits, no other has a reason
+  no_reason : {t : ℕ} {x y : X} → fits (value x) → IsNextOfSeveral value fits from pairs zero_value 0 x → IsNextOfSeveral value fits from pairs zero_value t y → IsReasonOfSeveral t → ⊥
+  no_reason in_range h k (inl more) = omega (arith, h.too_many.1 (k.too_many.0 more))
+  no_reason in_range h k (inr (inl bad)) = omega (arith, h.modulus_is_bad.1 (k.modulus_is_bad.0 bad))
+  no_reason in_range h k (inr (inr (inl far))) = let (z, least, beyond) = beyond_of k far in beyond (subst fits (least_is_only least _ (least_of h)) in_range)
+  no_reason in_range h k (inr (inr (inr none))) = never_of k none _ (least_of h).holds
+
+pub next_of_several_is_only : {X : Type 0} (value : X → ℤ) (fits : ℤ → Type 0) → NextOfSeveralIsOnly value fits
+next_of_several_is_only value fits from pairs zero_value zero zero x y injective p q h k =
+    (refl, injective x y (least_is_only (least_of value fits k) _ (least_of value fits h)))
+next_of_several_is_only value fits from pairs zero_value zero (suc t) x y injective p q h k =
+    absurd (no_reason value fits p h k (k.refusal (λ same. absurd (omega (arith, same)))).1)
+next_of_several_is_only value fits from pairs zero_value (suc s) zero x y injective p q h k =
+    absurd (no_reason value fits q k h (h.refusal (λ same. absurd (omega (arith, same)))).1)
+next_of_several_is_only value fits from pairs zero_value (suc s) (suc t) x y injective p q h k =
+    let first = h.refusal (λ same. absurd (omega (arith, same))) in
+    let second = k.refusal (λ same. absurd (omega (arith, same))) in
+    (same_reason_of_several value fits h k first.1 second.1, first.0 ∙ sym second.0)
 
 -- ---- numbers
 
@@ -139,6 +237,21 @@ pub in_digits_is_only : InDigitsIsOnly
 in_digits_is_only n d places a b whole other part rest up h k =
     let same = rounded_even_is_only _ d k.units up k.rounded h.units h.rounded in
     same_digits (rw same at h.digits) k.digits
+
+-- what a call says of the fractional part of a reduced fraction
+abbrev MatchFract : Result Ratio RatioError → FractionAnswer → Type 0
+MatchFract p answer = MatchResult p (λ x. (answer.status ≡ 0) × IsRemainder IsTruncated (num_of x) (den_of x) answer.value.num × (answer.value.den ≡ den_of x))
+    (λ e. answer ≡ record { status = number_of e; value = record { num = pos 0; den = pos 0 } })
+
+same_fract : (p : Result Ratio RatioError) (x y : FractionAnswer) → MatchFract p x → MatchFract p y
+    → (x.status ≡ y.status) × (x.value.num ≡ y.value.num) × (x.value.den ≡ y.value.den)
+same_fract (Ok r) x y h k = (h.0 ∙ sym k.0, remainder_is_only.0 _ _ _ k.1 _ h.1, h.2 ∙ sym k.2)
+same_fract (Err e) x y h k =
+    let same = h ∙ sym k in
+    (ap (λ (r : FractionAnswer). r.status) same, ap (λ (r : FractionAnswer). r.value.num) same, ap (λ (r : FractionAnswer). r.value.den) same)
+
+pub fract_is_only : FractIsOnly
+fract_is_only a x y (p, made, h) (q, other, k) = same_fract q x y (subst (λ (r : Result Ratio RatioError). MatchFract r x) (answer_is_only _ _ p q made other) h) k
 
 pub stands_for_read_is_only : StandsForReadIsOnly
 stands_for_read_is_only (Ok x) s t a b c d h k = (h.0 ∙ sym k.0, h.1 ∙ sym k.1, h.2 ∙ sym k.2)

@@ -1,5 +1,5 @@
 -- The laws of what the calls for C say. Each is proved in proofs/Laws.antt, by a lemma of its name in small letters.
-use Rattle.std.specs.Prelude.{◌≡◌, ◌<ℤ◌, ℕ, ℤ, Bool, List, pos, FitsSigned, IfSome, Option, Result}
+use Rattle.std.specs.Prelude.{◌≡◌, ◌⊎◌, ◌<ℤ◌, ℕ, ℤ, Bool, List, pos, FitsSigned, IfSome, Option, Result}
 use Rattle.std.specs.Int.{w64}
 use Rattle.std.specs.declared.cmp.Ordering.{Ordering}
 use Rattle.calendar.specs.Months.{IsDate}
@@ -9,16 +9,18 @@ use Rattle.ratio64.specs.declared.error.RatioError.{RatioError}
 use Rattle.ratio64.specs.declared.fraction.Ratio.{Ratio}
 use Rattle.ratio64.specs.declared.parse.ParseRatioError.{ParseRatioError}
 use Rattle.cellarcove_c.specs.Answers.{Answers}
-use Rattle.cellarcove_c.specs.Congruences.{AnswersModulo}
+use Rattle.cellarcove_c.specs.Congruences.{AnswersModulo, IsClassOfBoth, IsNextOfSeveral}
 use Rattle.cellarcove_c.specs.Dates.{IsDayOfIsoNumber, IsMonthsLater, IsOfIsoNumber, MatchMonthsBetween, MatchYearsBetween}
 use Rattle.cellarcove_c.specs.DateTexts.{ReadsDate}
 use Rattle.cellarcove_c.specs.Decimals.{IsInDigits}
-use Rattle.cellarcove_c.specs.Fractions.{IsInParts, IsPower, OnBothFractions, Represents, StandsForNumber, order_number}
+use Rattle.cellarcove_c.specs.Fractions.{AnswersFract, IsInParts, IsPower, OnBothFractions, Represents, StandsForNumber, order_number}
 use Rattle.cellarcove_c.specs.Paging.{IsFewestPages, IsPadding}
 use Rattle.cellarcove_c.specs.Roots.{IsRootWithRest}
 use Rattle.cellarcove_c.specs.Statuses.{IsReason}
 use Rattle.cellarcove_c.specs.Texts.{StandsForRead}
 use Rattle.cellarcove_c.specs.declared.dates.Date.{Date as Parts}
+use Rattle.cellarcove_c.specs.declared.fractions.Fraction.{Fraction}
+use Rattle.cellarcove_c.specs.declared.fractions.FractionAnswer.{FractionAnswer}
 
 -- ---- statuses
 
@@ -36,6 +38,18 @@ AnswersIsOnly {A} domain Is Reason = (zeros : A) (s t : ℕ) (a b : A) → ((x y
 abbrev pub AnswersModuloIsOnly : {A : Type 0} → ℤ → ℕ → Type 0 → (A → Type 0) → Type 0
 AnswersModuloIsOnly {A} modulus reason without Is = (zeros : A) (s t : ℕ) (a b : A) → ((x y : A) → Is x → Is y → x ≡ y) → (without → (x : A) → ¬ (Is x))
     → AnswersModulo modulus reason without Is zeros s a → AnswersModulo modulus reason without Is zeros t b → (s ≡ t) × (a ≡ b)
+
+-- ---- congruences
+
+-- If no two values have one number, and each number fits or does not, two congruences have at most one status and one class.
+abbrev pub ClassOfBothIsOnly : {X : Type 0} → (X → ℤ) → (ℤ → Type 0) → Type 0
+ClassOfBothIsOnly {X} value fits = (a m b n : ℤ) (zeros : X × X) (s t : ℕ) (c d : X × X) → ((x y : X) → value x ≡ value y → x ≡ y) → ((z : ℤ) → fits z ⊎ (¬ (fits z)))
+    → IsClassOfBoth value fits a m b n zeros s c → IsClassOfBoth value fits a m b n zeros t d → (s ≡ t) × (c ≡ d)
+
+-- If no two values have one number, several congruences have at most one status and one value whose number fits.
+abbrev pub NextOfSeveralIsOnly : {X : Type 0} → (X → ℤ) → (ℤ → Type 0) → Type 0
+NextOfSeveralIsOnly {X} value fits = (from : ℤ) (pairs : List (X × X)) (zero_value : X) (s t : ℕ) (x y : X) → ((p q : X) → value p ≡ value q → p ≡ q)
+    → fits (value x) → fits (value y) → IsNextOfSeveral value fits from pairs zero_value s x → IsNextOfSeveral value fits from pairs zero_value t y → (s ≡ t) × (x ≡ y)
 
 -- ---- numbers
 
@@ -80,6 +94,11 @@ InPartsIsOnly IsRounded = (parts : ℤ) (x : Ratio) (r s : Result Ratio RatioErr
 abbrev pub InDigitsIsOnly : Type 0
 InDigitsIsOnly = (n d : ℤ) (places : ℕ) (a b : Bool) (whole other part rest : ℕ) → pos 0 <ℤ d → IsInDigits n d places a whole part → IsInDigits n d places b other rest
     → (a ≡ b) × (whole ≡ other) × (part ≡ rest)
+
+-- Each fraction has at most one status and one fractional part.
+abbrev pub FractIsOnly : Type 0
+FractIsOnly = (a : Fraction) (x y : FractionAnswer) → AnswersFract a x → AnswersFract a y
+    → (x.status ≡ y.status) × (x.value.num ≡ y.value.num) × (x.value.den ≡ y.value.den)
 
 -- Each result of reading has at most one status and one pair of numbers.
 abbrev pub StandsForReadIsOnly : Type 0

@@ -1,6 +1,7 @@
 //! The laws of the definitions that the contracts of the exports use.
 
-ghost use Rattle.std.specs.Prelude.{◌≡◌, ◌≤ℤ◌, ◌*ℤ◌, pos, Err};
+ghost use Rattle.std.specs.Prelude.{◌≡◌, ◌≤ℤ◌, ◌*ℤ◌, pos, Err, FitsSigned};
+ghost use Rattle.std.specs.Int.{FitsUnsignedBits, w64};
 ghost use Rattle.calendar.specs.Dates.{IsLastWeekdayOfMonth};
 ghost use Rattle.calendar.specs.Weeks.{IsFirstWeekday};
 ghost use Rattle.modular.specs.Congruences.{IsInverse};
@@ -9,7 +10,7 @@ ghost use Rattle.num_integer.specs.RootOf.{IsRoot};
 ghost use Rattle.ratio64.specs.Ratio.{AnswersFraction, den_of, num_of};
 ghost use Rattle.ratio64.specs.Rounding.{IsRounded};
 ghost use Rattle.cellarcove_c.specs.Congruences.{IsNever};
-ghost use Rattle.cellarcove_c.specs.Laws.{AnswersIsOnly, AnswersModuloIsOnly, DayOfIsoNumberIsOnly, FewestPagesIsOnly, InDigitsIsOnly, InPartsIsOnly, MonthsBetweenIsOnly, MonthsLaterIsOnly, OfIsoNumberIsOnly, OnBothIsOnly, OrderNumberIsOnly, PaddingIsOnly, PowerIsOnly, ReadDateIsOnly, ReasonIsOnly, RootWithRestIsOnly, StandsForIsOnly, StandsForNumberIsOnly, StandsForReadIsOnly, YearsBetweenIsOnly};
+ghost use Rattle.cellarcove_c.specs.Laws.{AnswersIsOnly, AnswersModuloIsOnly, ClassOfBothIsOnly, DayOfIsoNumberIsOnly, FewestPagesIsOnly, FractIsOnly, InDigitsIsOnly, InPartsIsOnly, MonthsBetweenIsOnly, MonthsLaterIsOnly, NextOfSeveralIsOnly, OfIsoNumberIsOnly, OnBothIsOnly, OrderNumberIsOnly, PaddingIsOnly, PowerIsOnly, ReadDateIsOnly, ReasonIsOnly, RootWithRestIsOnly, StandsForIsOnly, StandsForNumberIsOnly, StandsForReadIsOnly, YearsBetweenIsOnly};
 ghost use Rattle.cellarcove_c.specs.Statuses.{StatusIs, no_solution, outside};
 
 /// States each law. A law about every property is stated for one. No export calls it.
@@ -18,6 +19,8 @@ fn laws()
     ensures answers_is_only { AnswersIsOnly (pos 0 ≤ℤ pos 99) (IsRoot (pos 99) 2) (StatusIs outside) }
     ensures answers_modulo_is_only { AnswersModuloIsOnly (pos 7) no_solution
         (IsNever (IsInverse (pos 3) (pos 7))) (IsInverse (pos 3) (pos 7)) }
+    ensures class_of_both_is_only { ClassOfBothIsOnly (λ x. pos x) (FitsUnsignedBits 64) }
+    ensures next_of_several_is_only { NextOfSeveralIsOnly (λ x. x) (FitsSigned w64) }
     ensures fewest_pages_is_only { FewestPagesIsOnly }
     ensures padding_is_only { PaddingIsOnly }
     ensures root_with_rest_is_only { RootWithRestIsOnly }
@@ -30,6 +33,7 @@ fn laws()
     ensures power_is_only { PowerIsOnly }
     ensures in_parts_is_only { InPartsIsOnly IsRounded }
     ensures in_digits_is_only { InDigitsIsOnly }
+    ensures fract_is_only { FractIsOnly }
     ensures stands_for_read_is_only { StandsForReadIsOnly }
     ensures order_number_is_only { OrderNumberIsOnly }
     ensures months_later_is_only { MonthsLaterIsOnly }
