@@ -16,7 +16,7 @@
 #include <stddef.h>
 #include <stdint.h>
 
-#define CELLARCOVE_VERSION "0.3.0"
+#define CELLARCOVE_VERSION "0.4.0"
 
 #if defined(__GNUC__)
 #define CELLARCOVE_CONST __attribute__((const, warn_unused_result))
@@ -571,46 +571,47 @@ CELLARCOVE_WRITES uint32_t cellarcove_shares_by_largest_remainder_u64(uint64_t a
 /* ---- Items on pages of equal size, and in parts of nearly equal size. Items, pages, places and parts are
  * counted from 0 ---- */
 
-/** The smallest number of pages that hold all items. For 10 and 4 it is 3. CELLARCOVE_OUTSIDE if page_size is not
- *  positive. */
+/** The smallest number of pages that hold all items. For 10 and 4 it is 3. A negative number of items has the same
+ *  rule: for -9 and 4 it is -2. CELLARCOVE_OUTSIDE if page_size is not positive. */
 CELLARCOVE_CONST cellarcove_i64_answer cellarcove_pages_i64(int64_t items, int64_t page_size);
 
 /** The smallest number of pages that hold all items. For 10 and 4 it is 3. CELLARCOVE_OUTSIDE if page_size is 0. */
 CELLARCOVE_CONST cellarcove_u64_answer cellarcove_pages_u64(uint64_t items, uint64_t page_size);
 
-/** The page of an item, and its place on the page. Those of -1 and 4 are -1 and 3. CELLARCOVE_OUTSIDE if page_size
- *  is not positive. */
+/** The page of an item, and its place on the page, all counted from 0. Those of -1 and 4 are -1 and 3.
+ *  CELLARCOVE_OUTSIDE if page_size is not positive. */
 CELLARCOVE_CONST cellarcove_i64_place cellarcove_place_of_i64(int64_t item, int64_t page_size);
 
-/** The page of an item, and its place on the page. Those of 10 and 4 are 2 and 2. CELLARCOVE_OUTSIDE if page_size
- *  is 0. */
+/** The page of an item, and its place on the page, all counted from 0. Those of 10 and 4 are 2 and 2.
+ *  CELLARCOVE_OUTSIDE if page_size is 0. */
 CELLARCOVE_CONST cellarcove_u64_place cellarcove_place_of_u64(uint64_t item, uint64_t page_size);
 
-/** The item at a place of a page. For -1, 3 and 4 it is -1. CELLARCOVE_OUTSIDE if place is negative or not below
- *  page_size. CELLARCOVE_NOT_FITTING if the item does not fit. */
+/** The item at a place of a page, all counted from 0. For -1, 3 and 4 it is -1. CELLARCOVE_OUTSIDE if place is
+ *  negative or not below page_size. CELLARCOVE_NOT_FITTING if the item does not fit. */
 CELLARCOVE_CONST cellarcove_i64_answer cellarcove_item_at_i64(int64_t page, int64_t place, int64_t page_size);
 
-/** The item at a place of a page. For 2, 2 and 4 it is 10. CELLARCOVE_OUTSIDE if place is not below page_size.
- *  CELLARCOVE_NOT_FITTING if the item does not fit. */
+/** The item at a place of a page, all counted from 0. For 2, 2 and 4 it is 10. CELLARCOVE_OUTSIDE if place is not
+ *  below page_size. CELLARCOVE_NOT_FITTING if the item does not fit. */
 CELLARCOVE_CONST cellarcove_u64_answer cellarcove_item_at_u64(uint64_t page, uint64_t place, uint64_t page_size);
 
-/** The first item of a page and its end, which is one past its last item, if there are items items. Both are items
- *  if no item is on the page. Those of 2, 4 and 10 are 8 and 10. CELLARCOVE_OUTSIDE if page_size is not positive
- *  or items is negative. */
+/** The first item of a page and its end, which is one past its last item, if there are items items. Items and
+ *  pages are counted from 0. Both are items if no item is on the page. Those of 2, 4 and 10 are 8 and 10.
+ *  CELLARCOVE_OUTSIDE if page_size is not positive or items is negative. */
 CELLARCOVE_CONST cellarcove_i64_range cellarcove_range_of_page_i64(int64_t page, int64_t page_size, int64_t items);
 
-/** The first item of a page and its end, which is one past its last item, if there are items items. Both are items
- *  if no item is on the page. Those of 2, 4 and 10 are 8 and 10. CELLARCOVE_OUTSIDE if page_size is 0. */
+/** The first item of a page and its end, which is one past its last item, if there are items items. Items and
+ *  pages are counted from 0. Both are items if no item is on the page. Those of 2, 4 and 10 are 8 and 10.
+ *  CELLARCOVE_OUTSIDE if page_size is 0. */
 CELLARCOVE_CONST cellarcove_u64_range cellarcove_range_of_page_u64(uint64_t page, uint64_t page_size, uint64_t items);
 
 /** The first item of a part and its end, which is one past its last item, if items items are split into parts
- *  parts. Each part is as large as the part before it, or smaller by 1. Those of 1, 3 and 10 are 4 and 7.
- *  CELLARCOVE_OUTSIDE if part or items is negative, or part is not below parts. */
+ *  parts. Items and parts are counted from 0. Each part is as large as the part before it, or smaller by 1. Those
+ *  of 1, 3 and 10 are 4 and 7. CELLARCOVE_OUTSIDE if part or items is negative, or part is not below parts. */
 CELLARCOVE_CONST cellarcove_i64_range cellarcove_range_of_part_i64(int64_t part, int64_t parts, int64_t items);
 
 /** The first item of a part and its end, which is one past its last item, if items items are split into parts
- *  parts. Each part is as large as the part before it, or smaller by 1. Those of 1, 3 and 10 are 4 and 7.
- *  CELLARCOVE_OUTSIDE if part is not below parts. */
+ *  parts. Items and parts are counted from 0. Each part is as large as the part before it, or smaller by 1. Those
+ *  of 1, 3 and 10 are 4 and 7. CELLARCOVE_OUTSIDE if part is not below parts. */
 CELLARCOVE_CONST cellarcove_u64_range cellarcove_range_of_part_u64(uint64_t part, uint64_t parts, uint64_t items);
 
 /* ---- Offsets on an alignment ---- */

@@ -897,8 +897,8 @@ template <class Items1, class Items2>
 // ---- Items on pages of equal size, and in parts of nearly equal size. Items, pages, places and parts are counted
 // from 0
 
-/// The smallest number of pages that hold all items. For 10 and 4 it is 3. status::outside if page_size is not
-/// positive.
+/// The smallest number of pages that hold all items. For 10 and 4 it is 3. A negative number of items has the same
+/// rule: for -9 and 4 it is -2. status::outside if page_size is not positive.
 template <class N0, class N1> [[nodiscard]] auto pages(N0 items, N1 page_size) {
     if constexpr (detail::is_signed<N0, N1>()) {
         auto r = cellarcove_pages_i64(static_cast<std::int64_t>(items), static_cast<std::int64_t>(page_size));
@@ -909,8 +909,8 @@ template <class N0, class N1> [[nodiscard]] auto pages(N0 items, N1 page_size) {
     }
 }
 
-/// The page of an item, and its place on the page. Those of -1 and 4 are -1 and 3. status::outside if page_size is
-/// not positive.
+/// The page of an item, and its place on the page, all counted from 0. Those of -1 and 4 are -1 and 3.
+/// status::outside if page_size is not positive.
 template <class N0, class N1> [[nodiscard]] auto place_of(N0 item, N1 page_size) {
     if constexpr (detail::is_signed<N0, N1>()) {
         auto r = cellarcove_place_of_i64(static_cast<std::int64_t>(item), static_cast<std::int64_t>(page_size));
@@ -921,8 +921,8 @@ template <class N0, class N1> [[nodiscard]] auto place_of(N0 item, N1 page_size)
     }
 }
 
-/// The item at a place of a page. For -1, 3 and 4 it is -1. status::outside if place is negative or not below
-/// page_size. status::not_fitting if the item does not fit.
+/// The item at a place of a page, all counted from 0. For -1, 3 and 4 it is -1. status::outside if place is negative
+/// or not below page_size. status::not_fitting if the item does not fit.
 template <class N0, class N1, class N2> [[nodiscard]] auto item_at(N0 page, N1 place, N2 page_size) {
     if constexpr (detail::is_signed<N0, N1, N2>()) {
         auto r = cellarcove_item_at_i64(static_cast<std::int64_t>(page), static_cast<std::int64_t>(place), static_cast<std::int64_t>(page_size));
@@ -933,9 +933,9 @@ template <class N0, class N1, class N2> [[nodiscard]] auto item_at(N0 page, N1 p
     }
 }
 
-/// The first item of a page and its end, which is one past its last item, if there are items items. Both are items if
-/// no item is on the page. Those of 2, 4 and 10 are 8 and 10. status::outside if page_size is not positive or items
-/// is negative.
+/// The first item of a page and its end, which is one past its last item, if there are items items. Items and pages
+/// are counted from 0. Both are items if no item is on the page. Those of 2, 4 and 10 are 8 and 10. status::outside
+/// if page_size is not positive or items is negative.
 template <class N0, class N1, class N2> [[nodiscard]] auto range_of_page(N0 page, N1 page_size, N2 items) {
     if constexpr (detail::is_signed<N0, N1, N2>()) {
         auto r = cellarcove_range_of_page_i64(static_cast<std::int64_t>(page), static_cast<std::int64_t>(page_size), static_cast<std::int64_t>(items));
@@ -947,8 +947,8 @@ template <class N0, class N1, class N2> [[nodiscard]] auto range_of_page(N0 page
 }
 
 /// The first item of a part and its end, which is one past its last item, if items items are split into parts parts.
-/// Each part is as large as the part before it, or smaller by 1. Those of 1, 3 and 10 are 4 and 7. status::outside if
-/// part or items is negative, or part is not below parts.
+/// Items and parts are counted from 0. Each part is as large as the part before it, or smaller by 1. Those of 1, 3
+/// and 10 are 4 and 7. status::outside if part or items is negative, or part is not below parts.
 template <class N0, class N1, class N2> [[nodiscard]] auto range_of_part(N0 part, N1 parts, N2 items) {
     if constexpr (detail::is_signed<N0, N1, N2>()) {
         auto r = cellarcove_range_of_part_i64(static_cast<std::int64_t>(part), static_cast<std::int64_t>(parts), static_cast<std::int64_t>(items));

@@ -17,6 +17,8 @@ export type PlainDateColumns = {readonly year: Integer | BigInt64Array; readonly
 
 /** The version of the package. */
 export const VERSION: string;
+/** Who made the WebAssembly. Rattle makes it of the proved sources, with addresses of 64 bits. */
+export const BUILT_BY: 'cargo' | 'rattle';
 
 /** The numbers of the statuses. */
 export const Status: {
@@ -295,31 +297,34 @@ export function tryShares(amount: Integer, weights: Iterable<Integer>): Attempt<
 export function sharesByLargestRemainder(amount: Integer, weights: Iterable<Integer>): bigint[];
 export function trySharesByLargestRemainder(amount: Integer, weights: Iterable<Integer>): Attempt<bigint[]>;
 
-/** The smallest number of pages that hold all items. For 10 and 4 it is 3. `OUTSIDE` if `pageSize` is not positive. */
+/** The smallest number of pages that hold all items. For 10 and 4 it is 3. A negative number of items has the same rule: for -9 and 4 it
+ *  is -2. `OUTSIDE` if `pageSize` is not positive. */
 export function pages(items: Integer, pageSize: Integer): bigint;
 export function pages<T extends Integers>(items: Integer | T, pageSize: Integer | T): {value: T; status: Uint8Array};
 export function tryPages(items: Integer, pageSize: Integer): Attempt<bigint>;
 
-/** The page of an item, and its place on the page. Those of -1 and 4 are -1 and 3. `OUTSIDE` if `pageSize` is not positive. */
+/** The page of an item, and its place on the page, all counted from 0. Those of -1 and 4 are -1 and 3. `OUTSIDE` if `pageSize` is not
+ *  positive. */
 export function placeOf(item: Integer, pageSize: Integer): {page: bigint; place: bigint};
 export function placeOf<T extends Integers>(item: Integer | T, pageSize: Integer | T): {page: T; place: T; status: Uint8Array};
 export function tryPlaceOf(item: Integer, pageSize: Integer): Attempt<{page: bigint; place: bigint}>;
 
-/** The item at a place of a page. For -1, 3 and 4 it is -1. `OUTSIDE` if `place` is negative or not below `pageSize`. `NOT_FITTING` if
- *  the item does not fit. */
+/** The item at a place of a page, all counted from 0. For -1, 3 and 4 it is -1. `OUTSIDE` if `place` is negative or not below `pageSize`.
+ *  `NOT_FITTING` if the item does not fit. */
 export function itemAt(page: Integer, place: Integer, pageSize: Integer): bigint;
 export function itemAt<T extends Integers>(page: Integer | T, place: Integer | T, pageSize: Integer | T): {value: T; status: Uint8Array};
 export function tryItemAt(page: Integer, place: Integer, pageSize: Integer): Attempt<bigint>;
 
-/** The first item of a page and its end, which is one past its last item, if there are `items` items. Both are `items` if no item is on
- *  the page. Those of 2, 4 and 10 are 8 and 10. `OUTSIDE` if `pageSize` is not positive or `items` is negative. */
+/** The first item of a page and its end, which is one past its last item, if there are `items` items. Items and pages are counted from 0.
+ *  Both are `items` if no item is on the page. Those of 2, 4 and 10 are 8 and 10. `OUTSIDE` if `pageSize` is not positive or `items` is
+ *  negative. */
 export function rangeOfPage(page: Integer, pageSize: Integer, items: Integer): {first: bigint; end: bigint};
 export function rangeOfPage<T extends Integers>(page: Integer | T, pageSize: Integer | T, items: Integer | T): {first: T; end: T; status: Uint8Array};
 export function tryRangeOfPage(page: Integer, pageSize: Integer, items: Integer): Attempt<{first: bigint; end: bigint}>;
 
-/** The first item of a part and its end, which is one past its last item, if `items` items are split into `parts` parts. Each part is as
- *  large as the part before it, or smaller by 1. Those of 1, 3 and 10 are 4 and 7. `OUTSIDE` if `part` or `items` is negative, or `part`
- *  is not below `parts`. */
+/** The first item of a part and its end, which is one past its last item, if `items` items are split into `parts` parts. Items and parts
+ *  are counted from 0. Each part is as large as the part before it, or smaller by 1. Those of 1, 3 and 10 are 4 and 7. `OUTSIDE` if
+ *  `part` or `items` is negative, or `part` is not below `parts`. */
 export function rangeOfPart(part: Integer, parts: Integer, items: Integer): {first: bigint; end: bigint};
 export function rangeOfPart<T extends Integers>(part: Integer | T, parts: Integer | T, items: Integer | T): {first: T; end: T; status: Uint8Array};
 export function tryRangeOfPart(part: Integer, parts: Integer, items: Integer): Attempt<{first: bigint; end: bigint}>;

@@ -14,6 +14,9 @@ async function load() {
 /** The exports for C. A struct is passed by a pointer into `memory`, and a result that is one is the first argument. */
 export const exports = (await WebAssembly.instantiate(await load())).instance.exports;
 
+/** Who made the WebAssembly: cargo, or Rattle of the proved sources, with addresses of 64 bits. */
+export const BUILT_BY = exports.__heap_base ? 'cargo' : 'rattle';
+
 export const Status = Object.freeze(Object.fromEntries(STATUSES.map(([name], number) => [name, number])));
 
 /** A call has no result. Its `status` says why. */
@@ -120,13 +123,18 @@ function layout(kind) {
 }
 
 // A call has the memory behind the program's own: a place for a struct of the result, one for each parameter, and room for lists.
-const PLACE = 64, RESULT = up(exports.__heap_base.value, PLACE), ROOM = RESULT + 16 * PLACE;
+const PLACE = 64, RESULT = up(exports.__heap_base?.value ?? exports.memory.buffer.byteLength, PLACE), ROOM = RESULT + 16 * PLACE;
 let view = new DataView(exports.memory.buffer);
+
+/** An address or a length, as the module takes it. */
+const word = BUILT_BY === 'cargo' ? (x) => x : BigInt;
+const RESULT_WORD = word(RESULT);
 
 /** Grows the memory, if it has to end behind a place. */
 function reach(end) {
   const lacking = end - exports.memory.buffer.byteLength;
-  if (lacking > 0) exports.memory.grow(Math.ceil(lacking / 65536));
+  const pages = Math.ceil(lacking / 65536);
+  if (pages > 0) try { exports.memory.grow(word(pages)); } catch { exports.memory.grow(pages); } // Node 20 takes no BigInt here
   if (view.buffer !== exports.memory.buffer) view = new DataView(exports.memory.buffer);
 }
 reach(ROOM);
@@ -189,7 +197,7 @@ function lowerList({item, size, leaves}, items, at) {
 
 /** A call of a form with arguments that fit it: it returns the status, and `value` has the result. */
 function run({raw, parameters, leaves, made, inMemory, hasStatus, result}, given) {
-  const words = inMemory ? [RESULT] : [];
+  const words = inMemory ? [RESULT_WORD] : [];
   let room = ROOM, written = null;
   parameters.forEach((parameter, place) => {
     const argument = given[place];
@@ -197,11 +205,11 @@ function run({raw, parameters, leaves, made, inMemory, hasStatus, result}, given
       const list = parameter.isWritten ? [room, argument] : lowerList(parameter, argument, room);
       room = up(room + parameter.size * list[1], 8);
       if (parameter.isWritten) written = {at: list[0], kind: parameter.item, length: argument};
-      words.push(...list);
+      words.push(...list.map(word));
     } else if (parameter.kind in STRUCTS) {
       const at = RESULT + PLACE * (place + 1);
       parameter.leaves.forEach((leaf, k) => SET[leaf.kind](at + leaf.at, argument[k]));
-      words.push(at);
+      words.push(word(at));
     } else words.push(argument);
   });
   if (written) reach(room);
@@ -273,7 +281,7 @@ export function call(name) {
   const takesArrays = parameters.every(({item}) => !item), isShort = hasStatus && parameters.every(({kind}) => kind === 'i64');
   return (...given) => {
     if (isShort && given.length === parameters.length && given.every(isSigned)) { // the short way
-      raw(RESULT, ...given);
+      raw(RESULT_WORD, ...given);
       if (view.getUint32(RESULT, true) === 0) return made(leaves.map(({kind, at}) => GET[kind](RESULT + at)));
     }
     if (takesArrays && given.some(hasArray)) return ofArrays(name, forms, given);
@@ -354,15 +362,15 @@ function fill({raw, parameters, leaves, inMemory, hasStatus, result}, columns, o
     first[i] = x[0][x[1]];
     if (second) second[i] = y[0][y[1]];
   };
-  if (isPlain && columns.length === 1) for (let i = 0; i < length; i++) raw(RESULT, a[i]), store(i);
-  else if (isPlain && columns.length === 2) for (let i = 0; i < length; i++) raw(RESULT, a[i], b[i]), store(i);
-  else if (isPlain) for (let i = 0; i < length; i++) raw(RESULT, a[i], b[i], c[i]), store(i);
+  if (isPlain && columns.length === 1) for (let i = 0; i < length; i++) raw(RESULT_WORD, a[i]), store(i);
+  else if (isPlain && columns.length === 2) for (let i = 0; i < length; i++) raw(RESULT_WORD, a[i], b[i]), store(i);
+  else if (isPlain) for (let i = 0; i < length; i++) raw(RESULT_WORD, a[i], b[i], c[i]), store(i);
   else fillSlowly({raw, parameters, leaves, inMemory, hasStatus, result}, columns, outputs, status);
 }
 
 /** The same for calls with structs or with many numbers. */
 function fillSlowly({raw, parameters, leaves, inMemory, hasStatus, result}, columns, outputs, status) {
-  const words = inMemory ? [RESULT] : [], steps = [];
+  const words = inMemory ? [RESULT_WORD] : [], steps = [];
   let next = 0;
   parameters.forEach(({kind, leaves: inner}, place) => {
     if (kind in SIZES) {
@@ -371,7 +379,7 @@ function fillSlowly({raw, parameters, leaves, inMemory, hasStatus, result}, colu
       return;
     }
     const at = RESULT + PLACE * (place + 1);
-    words.push(at);
+    words.push(word(at));
     for (const leaf of inner) {
       const set = SET[leaf.kind], items = columns[next++];
       steps.push((i) => set(at + leaf.at, items[i]));

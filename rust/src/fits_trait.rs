@@ -2,7 +2,7 @@
 // It also has what rust/by_hand/src/fits_trait.rs adds.
 //! Tests whether a call may be made with its arguments.
 
-use crate::bounded_coefficients::{coefficient_within, RunningMultinomial};
+use crate::checked;
 use crate::integer_core::operators::{difference, is_minus_one, is_negative, is_zero};
 use crate::integer_core::{Integer, Magnitudes, NativeInteger};
 use crate::sign_magnitude::{product_is_within, sum_is_within};
@@ -255,7 +255,7 @@ pub trait Fits: Integer + Copy {
 
     /// Returns `true` if the precondition of `binomial(self, k)` holds: neither number is negative,
     /// and the coefficient fits. The loop stops at the first coefficient that does not fit.
-    /// [`checked::binomial`](crate::checked::binomial) tests and computes the coefficient.
+    /// [`checked::binomial`](crate::checked::binomial) returns the coefficient.
     ///
     /// # Examples
     ///
@@ -269,17 +269,12 @@ pub trait Fits: Integer + Copy {
     /// [Contract](crate::definitions::contracts#fitsbinomial_fits)
     #[must_use]
     fn binomial_fits(&self, k: &Self) -> bool {
-        let (n_negative, n) = self.parts();
-        let (k_negative, k) = k.parts();
-        if n_negative || k_negative {
-            return false;
-        }
-        coefficient_within(n, k, Self::ends().1).is_some()
+        checked::binomial(*self, *k).is_some()
     }
 
     /// Returns `true` if the precondition of `multinomial(counts)` holds: no count is negative, and
     /// the multinomial fits. The loops stop at the first multinomial that does not fit.
-    /// [`checked::multinomial`](crate::checked::multinomial) tests and computes the multinomial.
+    /// [`checked::multinomial`](crate::checked::multinomial) returns the multinomial.
     ///
     /// # Examples
     ///
@@ -293,22 +288,7 @@ pub trait Fits: Integer + Copy {
     /// [Contract](crate::definitions::contracts#fitsmultinomial_fits)
     #[must_use]
     fn multinomial_fits(counts: &[Self]) -> bool {
-        let most = Self::ends().1;
-        let mut running = RunningMultinomial {
-            total: 0,
-            multinomial: 1,
-        };
-        for count in counts {
-            let (negative, magnitude) = count.parts();
-            if negative {
-                return false;
-            }
-            match running.with_count(magnitude, most) {
-                Some(more) => running = more,
-                None => return false,
-            }
-        }
-        true
+        checked::multinomial(counts).is_some()
     }
 }
 

@@ -12,7 +12,7 @@ extern crate std;
 
 pub use num_traits;
 
-mod bounded_coefficients;
+pub mod bounded_integers;
 pub mod calendar;
 pub mod checked;
 mod coefficients;
@@ -42,6 +42,7 @@ mod serde_strings;
 pub mod shares;
 pub(crate) mod sign_magnitude;
 
+pub(crate) use crate::integer_core::narrowing;
 pub(crate) use crate::integer_core::padded;
 pub use crate::integer_core::{
     div_ceil, div_floor, div_mod_floor, div_rem, gcd, gcd_lcm, lcm, mod_floor, operators,

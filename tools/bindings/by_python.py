@@ -1,15 +1,16 @@
 """What each call returns by the integers, the fractions and the dates of Python, for arguments of any size.
 
 `RESULTS` has a function for each call, by its name in C without the ending. It takes the range of the form and the arguments: a
-number, a pair for a fraction, a triple for a date, a list. It returns the numbers of the result, or the status. It is made of a function of
-Python's own numbers, which returns a number, a fraction or numbers of any size, or raises what Python raises. `PROPERTIES` has the calls
-whose result is tested instead: their function takes the numbers of the result too."""
+number, a pair for a fraction, a triple for a date, a list. It returns the numbers of the result, or the status. It is made of a row of
+by_python.toml, which is a function of Python's own numbers: it makes a number, a fraction or numbers of any size, or raises what Python
+raises. `PROPERTIES` has the calls whose result is tested instead: their function takes the numbers of the result too."""
 import datetime
 import math
-import operator
 import re
+import tomllib
 from collections.abc import Callable, Sequence
 from fractions import Fraction
+from pathlib import Path
 from typing import Any, NamedTuple
 
 Pair = tuple[int, int]
@@ -104,21 +105,19 @@ def is_bezout(bounds: Pair, x: int, y: int, status: int, values: Sequence[int] |
     return status == 0 and found == gcd == p * x + q * y and small
 
 
+def last(end: int, holds: Callable[[int], Any]) -> int:
+    """The last number below an end for which something holds that holds for 0, and for no number after one for which it does not."""
+    first = 0
+    while first + 1 < end:
+        middle = (first + end) // 2
+        first, end = (middle, end) if holds(middle) else (first, middle)
+    return first
+
+
 def root(x: int, degree: int) -> int:
     """The root rounded toward 0."""
     let(degree > 0 and (x >= 0 or degree % 2 == 1))
-    if x < 0:
-        return -root(-x, degree)
-    if x < 2 or degree == 1:
-        return x
-    if x.bit_length() <= degree:
-        return 1
-    found = int(x ** (1 / degree))
-    while found**degree > x:
-        found -= 1
-    while (found + 1) ** degree <= x:
-        found += 1
-    return found
+    return -root(-x, degree) if x < 0 else last(2 << x.bit_length() // degree, lambda found: found**degree <= x)
 
 
 def is_power(x: int, degree: int) -> bool:
@@ -130,10 +129,7 @@ def is_power(x: int, degree: int) -> bool:
 
 def ilog(x: int, base: int) -> int:
     let(x >= 1 and base >= 2)
-    degree = 0
-    while base ** (degree + 1) <= x:
-        degree += 1
-    return degree
+    return last(x.bit_length(), lambda degree: base**degree <= x)
 
 
 def reduced(x: int, y: int) -> Pair:
@@ -169,16 +165,11 @@ def rank(choice: Sequence[int], n: int) -> int:
 def choice_of_rank(number: int, n: int, count: int) -> tuple[int, ...]:
     """The choice of this rank: its largest number is the largest of which so many choices lie below it, and so on."""
     let(coefficient(n, count) > number)
-    found: list[int] = []
-    bound = n
+    found = [n]
     for place in range(count, 0, -1):
-        low = 0
-        while low + 1 < bound:
-            middle = (low + bound) // 2
-            low, bound = (middle, bound) if coefficient(middle, place) <= number else (low, middle)
-        found.insert(0, low)
-        number, bound = number - coefficient(low, place), low
-    return tuple(found)
+        found.insert(0, last(found[0], lambda low: coefficient(low, place) <= number))
+        number -= coefficient(found[0], place)
+    return tuple(found[:-1])
 
 
 def shares(amount: int, weights: Sequence[int]) -> tuple[int, ...]:
@@ -227,11 +218,6 @@ def range_of_part(part: int, parts: int, items: int) -> Pair:
 def modulus(m: int) -> int:
     let(m > 0, BAD_MODULUS)
     return m
-
-
-def modulo(make: Callable[..., int]) -> Maker:
-    """A call whose last number is the modulus."""
-    return lambda *numbers: make(*numbers[:-1]) % modulus(numbers[-1])
 
 
 def quotient_modulo(a: int, b: int, m: int) -> int:
@@ -395,12 +381,10 @@ def see_weekday(weekday: int) -> None:
     let(1 <= weekday <= 7)
 
 
-def near_weekday(step: int) -> Maker:
-    """The first day from one on, or the last day up to one, that is a day of the week."""
-    def result(day: int, weekday: int) -> int:
-        see_weekday(weekday)
-        return day + step * (step * (weekday - (day + 3) % 7 - 1) % 7)
-    return result
+def near_weekday(day: int, weekday: int, step: int) -> int:
+    """The first day from one on, or by the step -1 the last day up to one, that is a day of the week."""
+    see_weekday(weekday)
+    return day + step * (step * (weekday - (day + 3) % 7 - 1) % 7)
 
 
 def weeks_in(year: int) -> int:
@@ -439,110 +423,11 @@ def nth_weekday_of_month(year: int, month: int, weekday: int, n: int) -> Day:
 
 # ---- the calls
 
-def named(*makers: Maker) -> dict[str, Maker]:
-    """The functions that have the names of their calls."""
-    return {make.__name__: make for make in makers}
-
-
-NUMBERS: dict[str, Maker] = {
-    **named(math.gcd, math.lcm, ilog, reduced, falling, item_at, range_of_page, range_of_part, is_power, multinomial, rank, choice_of_rank,
-            shares, shares_by_largest_remainder),
-    'checked_sum': operator.add,
-    'checked_difference': operator.sub,
-    'checked_product': operator.mul,
-    'div_rem': truncated,
-    'div_floor': operator.floordiv,
-    'div_ceil': ceil,
-    'div_round': lambda x, y: away_from_zero(Fraction(x, y)),
-    'div_round_even': lambda x, y: round(Fraction(x, y)),
-    'mod_floor': operator.mod,
-    'div_mod_floor': divmod,
-    'product_div_mod_floor': lambda a, b, d: divmod(a * b, d),
-    'product_div_round': lambda a, b, d: away_from_zero(Fraction(a * b, d)),
-    'product_div_round_even': lambda a, b, d: round(Fraction(a * b, d)),
-    'next_multiple_of': lambda x, y: ceil(x, y) * y,
-    'prev_multiple_of': lambda x, y: x // y * y,
-    'is_multiple_of': lambda x, y: x % y == 0 if y else x == 0,
-    'gcd_lcm': lambda x, y: (math.gcd(x, y), math.lcm(x, y)),
-    'average_floor': lambda x, y: (x + y) // 2,
-    'average_ceil': lambda x, y: (x + y + 1) // 2,
-    'sum_of': sum,
-    'gcd_of': lambda numbers: math.gcd(*numbers),
-    'lcm_of': lambda numbers: math.lcm(*numbers),
-    'sqrt': math.isqrt,
-    'cbrt': lambda x: root(x, 3),
-    'nth_root': root,
-    'sqrt_rem': lambda x: (math.isqrt(x), x - math.isqrt(x) ** 2),
-    'is_coprime': lambda x, y: math.gcd(x, y) == 1,
-    'factorial': lambda n: falling(n, n),
-    'pages': lambda items, size: ceil(items, positive(size)),
-    'place_of': lambda number, size: divmod(number, positive(size)),
-    'align_up': lambda offset, alignment: ceil(offset, positive(alignment)) * alignment,
-    'padding': lambda offset, alignment: -offset % positive(alignment),
-    'is_square': lambda x: is_power(x, 2),
-    'is_perfect_power': lambda x: any(is_power(x, degree) for degree in range(2, 65)),
-    'binomial': coefficient,
-}
-CONGRUENCES: dict[str, Maker] = {
-    **named(quotient_modulo, solutions, chinese_remainder, next_congruent, count_congruent, next_common_solution, next_common_solution_of),
-    'residue': modulo(operator.pos),
-    'negation_modulo': modulo(operator.neg),
-    'sum_modulo': modulo(operator.add),
-    'difference_modulo': modulo(operator.sub),
-    'product_modulo': modulo(operator.mul),
-    'power_modulo': lambda a, exponent, m: pow(a, exponent, modulus(m)),
-    'inverse_modulo': lambda a, m: quotient_modulo(1, a, m),
-    'previous_congruent': lambda end, first, step: end - (end - first) % modulus(step),
-    'next_meeting': lambda now, a, p, b, q: next_common_solution(max(now, a, b), a, p, b, q),
-    'count_times': lambda start, end, first, period: count_congruent(max(start, first), end, first, period),
-}
-FRACTIONS: dict[str, Maker] = {
-    'fraction_new': Fraction,
-    'fraction_add': operator.add,
-    'fraction_sub': operator.sub,
-    'fraction_mul': operator.mul,
-    'fraction_div': operator.truediv,
-    'fraction_cmp': lambda a, b: (a > b) - (a < b),
-    'fraction_from_text': fraction_from_text,
-    'fraction_recip': lambda a: 1 / a,
-    'fraction_neg': operator.neg,
-    'fraction_abs': abs,
-    'fraction_pow': power,
-    'fraction_times': lambda a, n, d: a * Fraction(n, d),
-    'fraction_trunc': math.trunc,
-    'fraction_fract': lambda a: a - math.trunc(a),
-    'fraction_floor': math.floor,
-    'fraction_ceil': math.ceil,
-    'fraction_round': away_from_zero,
-    'fraction_floor_times': lambda a, n: math.floor(a * n),
-    'fraction_ceil_times': lambda a, n: math.ceil(a * n),
-    'fraction_round_times': lambda a, n: away_from_zero(a * n),
-    'fraction_round_even_times': lambda a, n: round(a * n),
-}
-DATES: dict[str, Maker] = {
-    **named(months_between, years_between, date_from_text, date_from_year_day, date_from_iso_week, easter, nth_weekday_of_month),
-    'date_from_day': of_number,
-    'day_from_date': Day.number,
-    'plus_months': Day.plus_months,
-    'weekday_of_date': lambda date: date.near().isoweekday(),
-    'first_weekday_on_or_after': near_weekday(1),
-    'last_weekday_on_or_before': near_weekday(-1),
-    'days_in_year': lambda year: 365 + is_leap(year),
-    'iso_week': Day.iso_week,
-    'plus_days': lambda date, days: of_number(date.number() + days),
-    'days_between': lambda start, end: end.number() - start.number(),
-    'weekday': lambda day: (day + 3) % 7 + 1,
-    'last_weekday_of_month': lambda year, month, weekday: weekdays(year, month, weekday)[-1],
-    'is_leap_year': is_leap,
-    'weeks_in_year': weeks_in,
-    'days_in_month': days_in,
-    'day_of_year': lambda date: date.near().timetuple().tm_yday,
-}
+# The statuses of a division by 0, and of another argument for which there is no result, by the tables of by_python.toml.
+STATUSES = {'numbers': (OUTSIDE, OUTSIDE), 'congruences': (BAD_MODULUS, NO_SOLUTION), 'fractions': (ZERO_DENOMINATOR, OUTSIDE), 'dates': (NO_DATE, NO_DATE)}
+TABLES = tomllib.loads(Path(__file__).with_suffix('.toml').read_text())
 RESULTS: dict[str, Model] = {
-    **{name: model(make, OUTSIDE, OUTSIDE) for name, make in NUMBERS.items()},
-    **{name: model(make, BAD_MODULUS, NO_SOLUTION) for name, make in CONGRUENCES.items()},
-    **{name: model(make, ZERO_DENOMINATOR, OUTSIDE) for name, make in FRACTIONS.items()},
-    **{name: model(make, NO_DATE, NO_DATE) for name, make in DATES.items()},
+    **{name: model(eval(f'lambda {row}', globals()), *STATUSES[table]) for table, rows in TABLES.items() for name, row in rows.items()},
     'fraction_limit_denominator': over(Fraction.limit_denominator),
     'fraction_floor_to': to_parts(math.floor),
     'fraction_ceil_to': to_parts(math.ceil),

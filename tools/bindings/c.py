@@ -10,9 +10,7 @@ WIDTH = 118
 def comment(text: str, indent: str = '', width: int = WIDTH) -> str:
     """A comment for documentation."""
     lines = textwrap.wrap(text, width - len(indent) - 7, break_long_words=False, break_on_hyphens=False)
-    if len(lines) == 1:
-        return f'{indent}/** {lines[0]} */\n'
-    return f'{indent}/** {lines[0]}\n' + ''.join(f'{indent} *  {line}\n' for line in lines[1:-1]) + f'{indent} *  {lines[-1]} */\n'
+    return f'{indent}/** ' + f'\n{indent} *  '.join(lines) + ' */\n'
 
 
 def in_c(text: str) -> str:

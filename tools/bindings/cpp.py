@@ -2,24 +2,12 @@
 import itertools
 import textwrap
 
-from tools.bindings.exports import EXPORTS, Call, Field, filled, without_returns
+from tools.bindings.exports import EXPORTS, Call, Field, filled, listed, without_returns
 
 WIDTH = 118
-RESULTS = {
-    'I64Answer': 'std::int64_t', 'U64Answer': 'std::uint64_t', 'I64Division': 'division<std::int64_t>', 'U64Division': 'division<std::uint64_t>',
-    'I64Bezout': 'bezout', 'I64GcdLcm': 'gcd_and_lcm<std::int64_t>', 'U64GcdLcm': 'gcd_and_lcm<std::uint64_t>',
-    'I64Solutions': 'solution_class<std::int64_t>', 'U64Solutions': 'solution_class<std::uint64_t>', 'FractionAnswer': 'fraction',
-    'OrderAnswer': 'int', 'DateAnswer': 'date', 'IsoWeekAnswer': 'week_of_year', 'DecimalAnswer': 'decimal',
-} | {f'{form}{name}': f'{of}<std::{kind}>' for form, kind in (('I64', 'int64_t'), ('U64', 'uint64_t'))
-     for name, of in (('Root', 'root_and_rest'), ('Place', 'place_on_page'), ('Range', 'range'))}
-PLAIN = {'i64': 'std::int64_t', 'u64': 'std::uint64_t', 'u32': 'std::uint32_t', 'u8': 'std::uint8_t', 'bool': 'bool', 'Date': 'date',
-         'Fraction': 'fraction', 'I64Pair': 'std::pair<std::int64_t, std::int64_t>', 'U64Pair': 'std::pair<std::uint64_t, std::uint64_t>',
-         'i32': 'std::int32_t', 'u16': 'std::uint16_t', 'I64Congruence': 'i64_congruence', 'U64Congruence': 'u64_congruence'}
+PLAIN, RESULTS, FROM_C = (listed('cpp.txt', sign) for sign in (' = ', ': ', ' -> '))
 CLASSES = ('Fraction', 'Date')
 TEXT = 'u8'  # the items of a text
-FROM_C = {'FractionAnswer': 'fraction::from_c(r.value)', 'DateAnswer': 'date::from_c(r.date)', 'Date': 'date::from_c(r)',
-          'DecimalAnswer': 'decimal{r.is_negative, r.whole, r.part, places.value}',
-          'I64Pair': 'std::pair(r.first, r.second)', 'U64Pair': 'std::pair(r.first, r.second)', 'u8': 'static_cast<int>(r)'}
 
 
 def of(call: Call) -> tuple[str, str]:

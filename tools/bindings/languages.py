@@ -3,17 +3,10 @@ import re
 from collections.abc import Iterator
 
 from tools import ROOT
-from tools.bindings.exports import EXPORTS, listed
+from tools.bindings.exports import EXPORTS, filled, listed
 from tools.bindings.javascript import camel
 from tools.bindings.python import ALIASES, RENAMED
 
-HEAD = '''# Calls by language
-
-Each call of the libraries, and its name in Rattle, in plain Rust, in C, in C++, in Python and in JavaScript. A call of C begins with `cellarcove_` and has
-a form for each type in braces. `checked` has the calls of its crate too, where they return `None` if the plain one may not be made; they
-have no rows. If a cell is empty, the last one says what to use instead.
-
-'''
 CHECKED = re.compile(r'\bchecked::')
 TRAITS = ('Integer::', 'Average::', 'Roots::')  # whose methods are free functions too
 BY_TRAIT = {'fraction_cmp': 'Ord of `Ratio`', 'fraction_from_text': 'FromStr of `Ratio`', 'date_from_text': 'FromStr of `Date`'}
@@ -39,15 +32,9 @@ def in_rattle(path: str) -> str:
         file = next(file for file in sorted(ROOT.glob('crates/*/src/**/*.rt')) if 'checked' in str(file) and f'pub fn {others[0]}<' in file.read_text())
         crate, _, *modules = file.relative_to(ROOT / 'crates').with_suffix('').parts
         return '::'.join([crate, *modules[:modules.index('checked') + 1], *others])
-    if first in ('calendar', 'modular', 'ratio64'):
+    if first in ('bounded_integers', 'calendar', 'modular', 'ratio64'):
         return path
     return f'applied::{path}' if first.islower() and others and first != 'counted' else f'num_integer::{path}'
-
-
-def export_of(path: str, names: dict[str, str]) -> str:
-    """The name that the export of a call has."""
-    last = path.split('::')[-1]
-    return names.get(path) or ('fraction_' + last.removeprefix('checked_') if path.startswith('ratio64::Ratio::') else last)
 
 
 def rows() -> list[tuple[str, ...]]:
@@ -57,7 +44,8 @@ def rows() -> list[tuple[str, ...]]:
     for whole in sorted(paths(), key=lambda path: CHECKED.sub('', path)):
         path = CHECKED.sub('', whole)
         reason = next((found for found in (path, *(prefix for prefix in reasons if prefix.endswith('::') and path.startswith(prefix))) if found in reasons), '')
-        export, *others = export_of(path, names).split(' | ')
+        last = path.split('::')[-1]
+        export, *others = names.get(path, 'fraction_' + last.removeprefix('checked_') if path.startswith('ratio64::Ratio::') else last).split(' | ')
         assert reason or export in forms, f'{path}: tools/bindings/languages.txt says neither its export nor why it has none'
         if reason not in used:  # a reason of several calls has one row
             shown = reason.removesuffix('::') if reason.endswith('::') else whole
@@ -79,5 +67,7 @@ def cells(export: str, in_cpp: str = '', in_python: str = '', in_javascript: str
 
 
 def page() -> str:
-    table = [('Rattle', 'Rust', 'C', 'C++', 'Python', 'JavaScript', 'instead'), ('---',) * 7, *rows()]
-    return HEAD + ''.join(f'| {" | ".join(cells)} |\n' for cells in table)
+    made = rows()
+    of = {row[1].strip('`').removeprefix('cellarcove::'): row for row in made}
+    tasks = [(task, *of[path.strip('`')]) for task, path in listed('tasks.txt', ' = ').items()]
+    return filled('languages.md', **{part: '\n'.join(f'| {" | ".join(cells)} |' for cells in table) for part, table in (('tasks', tasks), ('rows', made))})

@@ -196,11 +196,9 @@ def written_text(name: str, call: Call) -> str:
 
 def method(name: str, forms: list[Call]) -> str:
     doc = quoted(signature(name, forms) + '\n--\n\n' + docstring(name, forms))
-    if forms[0].has_slice and len(forms[0].parameters) == 1:
-        return f'    {{"{name}", py_{name}, METH_O,\n    {doc}}},\n'
-    if forms[0].has_slice:
-        return f'    {{"{name}", (PyCFunction)(void (*)(void))py_{name}, METH_FASTCALL,\n    {doc}}},\n'
-    return f'    {{"{name}", (PyCFunction)(void (*)(void))py_{name}, METH_FASTCALL | METH_KEYWORDS,\n    {doc}}},\n'
+    flags = 'METH_FASTCALL | METH_KEYWORDS' if not forms[0].has_slice else 'METH_FASTCALL' if len(forms[0].parameters) > 1 else 'METH_O'
+    cast = '' if flags == 'METH_O' else '(PyCFunction)(void (*)(void))'
+    return f'    {{"{name}", {cast}py_{name}, {flags},\n    {doc}}},\n'
 
 
 def calls_c() -> str:
@@ -232,16 +230,11 @@ BYTES = 'Array | bytes | bytearray'  # what an array of `u8` may be too
 
 def scalar_result(call: Call) -> str:
     found = results(call)
-    if call.result.startswith('Fraction'):
-        return 'Fraction'
-    if call.result.startswith('Date'):
-        return 'Date'
-    if call.result.startswith('Decimal'):
-        return 'Decimal'
-    if call.result == 'bool':
-        return 'bool'
+    for name in ('Fraction', 'Date', 'Decimal'):
+        if call.result.startswith(name):
+            return name
     if len(found) == 1:
-        return 'int'
+        return 'bool' if call.result == 'bool' else 'int'
     return next((name for end, (_, name) in CLASSES.items() if end in call.result), f'tuple[{", ".join(["int"] * len(found))}]')
 
 

@@ -41,10 +41,8 @@ def replaced(crate: Path, name: str, texts: dict[str, str], old: str, new: str) 
 
 def form_of(line: str) -> re.Match[str]:
     """Returns what a first line says, as a match of its form."""
-    for form in FORMS:
-        match = re.fullmatch(form, line)
-        if match:
-            return match
+    for match in filter(None, (re.fullmatch(form, line) for form in FORMS)):
+        return match
     raise BadEdit(f'the first line does not say what is wrong in a known form: {line}')
 
 

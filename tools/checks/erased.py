@@ -16,11 +16,11 @@ import collections, itertools, pathlib, re, sys
 from typing import Callable, Collection, Iterator, NamedTuple
 
 REPOSITORY = pathlib.Path(__file__).resolve().parent.parent.parent
-LIBRARIES = ('integer_core', 'integer_roots', 'num_integer', 'modular', 'ratio64', 'calendar', 'applied')
+LIBRARIES = ('integer_core', 'integer_roots', 'num_integer', 'modular', 'ratio64', 'calendar', 'bounded_integers', 'applied')
 # A folder of Rust, the crates that it is made of, and the first word of its paths to the libraries.
 PARTS = (('rust/src', LIBRARIES, 'crate'), ('rust/c/src', ('cellarcove_c',), 'cellarcove'))
-TABLE, PAGES = 'tools/checks/erased.txt', ('rust/README.md', 'docs/TESTING.md')
-WITHOUT_CODE = ('Model', 'Integral', 'FixedWidth')      # traits of Rattle that have no function
+TABLE, PAGES = 'tools/checks/erased.txt', ('rust/README.md', 'docs/TRUST.md')
+WITHOUT_CODE = ('Model', 'Integral', 'FixedWidth', 'Number')      # traits of Rattle that have no function
 # Attributes that change no result: of proofs, of the form of the text, of speed, of warnings, and of the place that a panic names.
 NO_RESULT = ('tactic', 'cycle', 'rattlefmt', 'rustfmt', 'inline', 'cold', 'must_use', 'allow', 'doc', 'deprecated', 'track_caller')
 TOKEN = re.compile(r'''\s+ | //[^\n]* | (?P<token> /\* | b?r(?P<marks>\#*)".*?"(?P=marks) | [bc]?"(?:[^"\\]|\\.)*"

@@ -2,14 +2,11 @@
 
     tools/cellarcove check guards             each guard; status 1 if no test misses one
     tools/cellarcove check guards --sample    a few of each kind
-    tools/cellarcove check guards --list      prints the guards, with their numbers
 
 A guard is a call of `check`, of `some`, or of another function that tools/checks/taken_out.rs has. In the copy each calls the function of
 that file, with a number, which the variable GUARD takes out: then `check` tests nothing, `some` has a value of zeros, and a sum, a number or a
 product wraps. So the copy is built once, in release, where Rust finds no overflow. The tests are those of rust/tests/domains that name
 a call, and those of one's own types. A test that does not end is one that fails."""
-from __future__ import annotations
-
 import json
 import os
 import re
@@ -27,9 +24,9 @@ from tools.erase.source import Unknown
 
 RUST = ROOT / 'rust'
 TAKEN_OUT = Path(__file__).resolve().parent / 'taken_out.rs'
-TESTS = ('domains', 'guards', 'own_type')        # those of rust/tests that are tried, one after the other, until one fails
+TESTS = ('domains', 'guards', 'own_type', 'bounded_integers')        # those of rust/tests that are tried, one after the other, until one fails
 MANY = re.compile(r'mod (?:small|slices|wide);\n')      # the parts of `domains` that try many numbers, which the copy has not
-SECONDS = 60                                    # that they may take
+SECONDS = '60'                                  # that they may take
 FEW = 8                                         # of so many guards of a kind, one is in the sample
 
 
@@ -120,14 +117,7 @@ def build(folder: Path) -> dict[str, str]:
 def fails(programs: dict[str, str], number: int) -> bool:
     """Whether a test fails without the guard of this number."""
     variables = os.environ | {'GUARD': str(number), 'RUST_BACKTRACE': '0'}
-    for name in TESTS:
-        try:
-            run = subprocess.run([programs[name], '--quiet'], env=variables, capture_output=True, timeout=SECONDS)
-        except subprocess.TimeoutExpired:
-            return True
-        if run.returncode:
-            return True
-    return False
+    return any(subprocess.run(['timeout', SECONDS, programs[name], '--quiet'], env=variables, capture_output=True).returncode for name in TESTS)
 
 
 def check(words: list[str]) -> bool:
@@ -135,9 +125,6 @@ def check(words: list[str]) -> bool:
     with tempfile.TemporaryDirectory() as name:
         crate = copy(Path(name))
         guards = crate.sample() if '--sample' in words else crate.guards
-        if '--list' in words:
-            print(*guards, sep='\n')
-            return True
         programs = build(Path(name))
         if fails(programs, 0):
             raise Unknown('a test fails with every guard in its place')

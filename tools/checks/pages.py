@@ -6,22 +6,24 @@ crates in crates.txt. Of a block of imports alone, each name is imported so in a
 `// and ..` in a block replaces lines that the block leaves out. Blocks of any other kind are not read. The command of
 README.md is the stored run. A session is a block of `console`: each command in it prints the lines below it and nothing else.
 What the sources print are the messages of rust/src, those of Rust's own operators that rust/tests/domains/forms.rs expects, whose row
-says so, the statuses of cellarcove.h, and the exceptions of the package for Python. Each panic of the page is one that a test has seen."""
+says so, the statuses of the exports, and the exceptions of the package for Python. Each panic of the page is one that a test has seen."""
+import functools
 import itertools
 import os
 import pathlib
 import re
 import subprocess
-from collections.abc import Callable, Iterable, Iterator
+from collections.abc import Iterable, Iterator
 from typing import NamedTuple
 
 from tools import ROOT, counted
+from tools.bindings.exports import EXPORTS
 from tools.erase.prose import anchor
 from tools.erase.source import Source
 
 Found = Iterator[tuple[str, bool]]      # places, each with whether it passed
 PAGES = ('README.md', 'docs/*.md', 'crates/*/CALLING.md', 'crates/*/README.md')
-LINKED = PAGES + ('CHANGELOG.md', 'CONTRIBUTING.md', 'bindings/*.md', 'bindings/js/*.md', 'bindings/python/*.md', 'compare/*.md', 'rust/*.md',
+LINKED = PAGES + ('CHANGELOG.md', 'CONTRIBUTING.md', 'bindings/js/*.md', 'bindings/python/*.md', 'compare/*.md', 'rust/*.md',
                   'rust/num-integer/*.md', 'docs/reference/*.md')
 SESSIONS = ('README.md', 'docs/INTCALC.md')
 BLOCK = re.compile(r'^ *```(rust|antt|crates|console)\n(.*?)(?:^ *```$|\Z)', re.M | re.S)
@@ -34,7 +36,6 @@ MESSAGE = re.compile(r'[a-z`].* .*')
 OF_OPERATORS = 'attempt to '            # how a message of Rust's own operators begins
 OF_RUST = '| of Rust: '                 # how its row does
 PANICS = ('rust/tests/domains/forms.rs', 'rust/tests/types.rs')     # the tests that see each panic
-STATUS = re.compile(r'^ +CELLARCOVE_(\w+) = (\d+)', re.M)
 SHOWN_STATUS = re.compile(r'^\| (\d+) \| `CELLARCOVE_(\w+)` \|', re.M)
 CLASS = re.compile(r'^class (\w+)\(((?:\w+Error|Refused)\b[\w, ]*)\):', re.M)
 RAISED = re.compile(r'\b(\w+Error)\(|\bPyExc_(\w+)|\b(PyErr_NoMemory|PyObject_GetAttr)\(')
@@ -108,8 +109,10 @@ def has_stored_run() -> bool:
 
 # ---- links
 
-def anchors(text: str) -> set[str]:
+@functools.cache
+def anchors_of(page: pathlib.Path) -> set[str]:
     """The anchors of a page, as the browser of the repository makes them of its headings."""
+    text = page.read_text() if page.suffix == '.md' else ''
     found: set[str] = set()
     counts: dict[str, int] = {}
     for line in re.sub(r'^ *```.*?^ *```$', '', text, flags=re.M | re.S).split('\n'):
@@ -121,9 +124,9 @@ def anchors(text: str) -> set[str]:
     return found
 
 
-def broken_links(page: pathlib.Path, text: str, anchors_of: Callable[[pathlib.Path], set[str]]) -> Iterator[str]:
+def broken_links(page: pathlib.Path) -> Iterator[str]:
     """The links of a page that lead to no file of the repository, or to no heading of a page."""
-    for link in LINK.findall(CODE.sub('', text)):
+    for link in LINK.findall(CODE.sub('', page.read_text())):
         name, _, anchor = link.partition('#')
         target = (page.parent / name).resolve() if name else page.resolve()
         if '://' not in link and (not target.exists() or anchor and anchor not in anchors_of(target)):
@@ -132,14 +135,8 @@ def broken_links(page: pathlib.Path, text: str, anchors_of: Callable[[pathlib.Pa
 
 def follow_links() -> Found:
     """Each page with whether all of its links lead somewhere, and else the links that do not."""
-    known: dict[pathlib.Path, set[str]] = {}
-
-    def anchors_of(page: pathlib.Path) -> set[str]:
-        if page not in known:
-            known[page] = anchors(page.read_text()) if page.suffix == '.md' else set()
-        return known[page]
     for page in sorted({page for pattern in LINKED for page in ROOT.glob(pattern)}):
-        broken = list(broken_links(page, page.read_text(), anchors_of))
+        broken = list(broken_links(page))
         yield ' '.join([page.relative_to(ROOT).as_posix(), *broken]), not broken
 
 
@@ -187,10 +184,6 @@ def panics(page: str, ours: set[str], seen: set[str]) -> Found:
     yield from compared({f'{message}, which a test has seen' for message in seen & shown}, {f'{message}, which a test has seen' for message in shown})
 
 
-def statuses_in(header: str) -> set[str]:
-    return {f'{number} CELLARCOVE_{name}' for name, number in STATUS.findall(header)}
-
-
 def statuses_on(page: str) -> set[str]:
     return {f'{number} CELLARCOVE_{name}' for number, name in SHOWN_STATUS.findall(page)}
 
@@ -222,7 +215,7 @@ def errors() -> Found:
     seen = set().union(*(messages_in(read(name)) for name in PANICS))
     yield from compared(ours | {message for message in seen if message.startswith(OF_OPERATORS)}, messages_on(' '.join(page.split())))
     yield from panics(page, ours, seen)
-    yield from compared(statuses_in(read('bindings/c/cellarcove.h')), statuses_on(page))
+    yield from compared({f'{status.number} CELLARCOVE_{status.name}' for status in EXPORTS().statuses}, statuses_on(page))
     yield from compared(exceptions_in(read(package + 'cellarcove/__init__.py'), read(package + 'src/driver.h')), exceptions_on(page))
 
 

@@ -1,11 +1,9 @@
 """Reads the made crate of plain Rust: each public function, type and trait has an example that runs, each public function that
-panics with the place of its caller says below `# Panics` when, and no line is wider than 100 columns, but for the first of a file
-and the rows of tables. That each item has a comment, and each `Result` its `# Errors`, rustc and clippy see.
+panics with the place of its caller says below `# Panics` when, and no line is wider than 100 columns, but for the first of a file. That each
+item has a comment, and each `Result` its `# Errors`, rustc and clippy see.
 
     tools/cellarcove check rust_docs                 prints what lacks what, and a count; status 1 if anything does
     tools/cellarcove check rust_docs --links DOC     reads the pages that rustdoc wrote: each link to a title leads to that title"""
-from __future__ import annotations
-
 import pathlib
 import re
 from collections.abc import Iterator
@@ -29,7 +27,7 @@ def wide_lines(folder: pathlib.Path) -> Iterator[str]:
     """The lines of the sources below a folder that are too wide."""
     for path in sorted(folder.rglob('*.rs')):
         for number, line in enumerate(path.read_text().split('\n'), 1):
-            if number > 1 and len(line) > COLUMNS and not line.startswith('//! |'):
+            if number > 1 and len(line) > COLUMNS:
                 yield f'{path.name}:{number} has {len(line)} columns'
 
 

@@ -1,4 +1,4 @@
-"""Compares what docs/TESTING.md says that the proofs rest on with what `rt ci` printed.
+"""Compares what docs/TRUST.md says that the proofs rest on with what `rt ci` printed.
 
 The contracts of functions in C are assumed. Of a program and of a static library the check prints how many are declared below it, and
 how many it reaches. Of a crate that declares some itself, the line of its verdict has `foreign=`. Of a crate whose proof is kept from
@@ -41,11 +41,11 @@ def compared(page: str, facts: Iterable[str]) -> Iterator[tuple[str, bool]]:
     """Each fact, with whether the page has it."""
     text = ' '.join(page.split())
     for fact in dict.fromkeys(facts):
-        yield f'docs/TESTING.md does not say: {fact}', re.search(re.escape(fact) + r'\b', text) is not None
+        yield f'docs/TRUST.md does not say: {fact}', re.search(re.escape(fact) + r'\b', text) is not None
 
 
 def check(words: list[str]) -> bool:
-    log, page = Path(words[0]).read_text(errors='replace'), (ROOT / 'docs/TESTING.md').read_text()
+    log, page = Path(words[0]).read_text(errors='replace'), (ROOT / 'docs/TRUST.md').read_text()
     foreign = [(f'{name} declares functions in C: it has axioms of its own', False) for name, words, _ in proofs(log) if 'foreign=' in words]
     found = [*compared(page, facts_of(log)), *foreign]
     return counted(found or [('all proofs were kept, so nothing is compared', True)])

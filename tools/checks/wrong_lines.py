@@ -8,18 +8,19 @@ each crate, and nothing stands in their place, since a guard could hide a wrong 
 package num-traits of Debian.
 
 A call stands in a module of its own within the file that the edit changes. So it may name what is private there. A text in quotes is
-a `String` if the call ends with `.to_string()`. PRELUDES has what else a line may name. Values are compared as `{:?}` prints them,
+a `String` if the call ends with `.to_string()`. prelude/ has what else a line may name. Values are compared as `{:?}` prints them,
 and only the sources compute those that a line names. Two bugs are tried side by side. edits.py has the forms of the lines."""
 import concurrent.futures
 import os
 import re
 import subprocess
 import tempfile
+import tomllib
 from collections.abc import Iterable, Sequence
 from dataclasses import dataclass, field
 from pathlib import Path
 
-from tools.erase.deletion import GHOST_TRAITS, Deletion
+from tools.erase.deletion import GHOST_NAMES, Deletion
 from tools.erase.library import Library
 from tools.erase.source import Item, Source, Unknown
 from tools import DEBIAN, REGISTRY, ROOT, dependencies, write
@@ -29,18 +30,10 @@ PRELUDE = Path(__file__).parent / 'prelude'
 JOBS = 2
 SECONDS = '300'                                 # for a build and the calls of a program
 # The clauses of its traits.
-OF_TRAITS = {'add_gives', 'cmp', 'from_gives', 'from_str_gives', 'is_default', 'output', 'partial_cmp', 'steps', 'sub_gives'}
-# By crate and file: code, and what it becomes. Rust cuts off what does not fit, where Rattle has a condition.
-CHANGED = {('integer_core', 'src/native.rt'): ((
-    '        magnitude.as_()\n',
-    '        let number: Self = magnitude.as_();\n'
-    '        assert!(number >= zero() && number.magnitude() == magnitude, "attempt to narrow with overflow");\n'
-    '        number\n'),)}
-# By crate and a name: the files of prelude/ that the lines of the crate with that name get.
-PRELUDES = {('integer_core', 'Own('): ('own',), ('integer_core', 'Padded::'): ('text',), ('integer_roots', 'Own('): ('own', 'roots_of_own'),
-            ('intcalc_core', 'writer('): ('sink', 'writer'), ('intcalc', 'writer('): ('writer',), ('intcalc', 'args('): ('args',)}
+OF_TRAITS = {'add_gives', 'cmp', 'eq', 'from_gives', 'from_str_gives', 'is_default', 'mul_gives', 'neg_gives', 'output', 'partial_cmp', 'rem_gives', 'steps',
+             'sub_gives', 'try_from_gives'}
+TABLES = tomllib.loads((PRELUDE / 'preludes.toml').read_text())
 PACKAGE = '[package]\nname = "{name}"\nversion = "0.0.0"\nedition = "2021"\n[dependencies]\nnum-traits = "0.2"\n'
-GHOST = GHOST_TRAITS | {'Number'}                # imports of these, and implementations, go
 # What the library of Rattle has otherwise than that of Rust: imports of these are dropped, and prelude/intcalc.rs has them.
 OF_RATTLE = {'Args', 'Global'}
 
@@ -64,7 +57,7 @@ class Plain(Deletion):
         return ''.join(self.texts)
 
     def goes(self, item: Item) -> bool:
-        return super().goes(item) or item.of_trait in GHOST or (item.kind, item.name) == ('fn', 'main')
+        return super().goes(item) or (item.kind, item.name) == ('fn', 'main')
 
     def dress(self, item: Item, owner: Item | None) -> None:
         derived = [self.at(k) for first, last in item.attributes for k in range(first, last)]
@@ -74,10 +67,10 @@ class Plain(Deletion):
     def use(self, item: Item) -> None:
         """Drops the names that Rust does not have."""
         names = {name for _, name in self.source.imports(item)}
-        if names & OF_RATTLE or names <= GHOST:
+        if names & OF_RATTLE or names <= GHOST_NAMES:
             self.drop(item.first, item.last)
         for k in range(item.first, item.last):
-            if self.at(k) in GHOST:
+            if self.at(k) in GHOST_NAMES:
                 self.drop_from_list(k)
 
     def word(self, k: int) -> None:
@@ -88,10 +81,10 @@ class Plain(Deletion):
 
 def erased(crate: str, name: str, text: str) -> str:
     """A file of a crate as Rust."""
-    for old, new in CHANGED.get((crate, name), ()):
-        if text.count(old) != 1:
-            raise Unknown(f'crates/{crate}/{name}: not one `{old.strip()}`, which tools/checks/wrong_lines.py changes')
-        text = text.replace(old, new)
+    old, new = TABLES['changed'].get(f'{crate}/{name}', ('', ''))
+    if old and text.count(old) != 1:
+        raise Unknown(f'crates/{crate}/{name}: not one `{old.strip()}`, which tools/checks/wrong_lines.py changes')
+    text = text.replace(old, new)
     return Plain(Path('crates', crate, name), text).rust() + (of_prelude(crate) if name == 'src/main.rt' else '')
 
 
@@ -137,7 +130,7 @@ class Bug:
 def module_of(bugs: Sequence[Bug]) -> str:
     """The module with the lines of some bugs of one file."""
     tests = ''.join(bug.test() for bug in bugs)
-    preludes = ''.join(of_prelude(file) for (crate, name), files in PRELUDES.items() if crate == bugs[0].crate and name in tests for file in files)
+    preludes = ''.join(of_prelude(file) for name, files in TABLES['preludes'].get(bugs[0].crate, {}).items() if name in tests for file in files)
     return f'\n#[cfg(test)]\nmod wrong_lines {{\n#[allow(unused_imports)]\nuse super::*;\n{preludes}{tests}}}\n'
 
 

@@ -5,8 +5,6 @@ place of that one, below its comment if it has none of its own. A trait or an im
 other methods, and its attributes, as does a struct or an enum by its name; an implementation also has the bounds by hand. Every other item
 follows the items of the file. Where it has all functions of the made file it is the whole file. A file with another path is a module of
 its own."""
-from __future__ import annotations
-
 from collections.abc import Iterable
 from pathlib import Path
 
@@ -14,6 +12,7 @@ from tools.erase.source import Item, Source
 
 
 BLOCKS = ('struct', 'enum', 'trait', 'impl')    # items of which the two files may have parts
+MERGED = ('fn', *BLOCKS)
 
 
 def head(source: Source, item: Item) -> str:
@@ -44,28 +43,26 @@ class Joined:
     def __init__(self, made: Source, added: Source) -> None:
         self.made, self.added, self.replaced = made, added, list[str]()
         self.items, others = made.items(), added.items()
-        self.blocks = {head(made, item): item for item in self.items if item.kind in BLOCKS}
-        imports = [item for item in others if item.kind == 'use']
-        rest = self.others(self.items, [item for item in others if item.kind not in ('use', *BLOCKS)])
-        for item in (item for item in others if item.kind in BLOCKS):
-            block = self.blocks.get(head(added, item))
-            if block:
-                self.put_head(block, item)
-                self.put_attributes(block, item)
-                self.append(block, self.others(block.items, item.items))
-            else:
-                rest.append(item)
+        rest = self.merge(self.items, [item for item in others if item.kind != 'use'])
         if rest:
             made.texts.append('\n\n' + written(added, rest) + '\n')
+        imports = [added.text(item.first, item.last) for item in others if item.kind == 'use']
         if imports:
-            self.put_imports('\n'.join(added.text(item.first, item.last) for item in imports))
+            self.put_imports('\n'.join(imports))
 
-    def others(self, there: list[Item], items: list[Item]) -> list[Item]:
-        """Puts the functions that are there in the place of those, and returns the other items."""
-        places = {item.name: item for item in there if item.kind == 'fn'}
-        for item in (item for item in items if item.kind == 'fn' and item.name in places):
-            self.replace(places[item.name], item)
-        return [item for item in items if item.kind != 'fn' or item.name not in places]
+    def merge(self, there: list[Item], items: list[Item]) -> list[Item]:
+        """Puts items in the place of those of the same name or head that are there, or into them, and returns the others."""
+        places = {head(self.made, item): item for item in there if item.kind in MERGED}
+        rest = []
+        for item in sorted(items, key=lambda item: item.kind in BLOCKS):
+            place = places.get(head(self.added, item)) if item.kind in MERGED else None
+            if place is None:
+                rest.append(item)
+            elif item.kind == 'fn':
+                self.replace(place, item)
+            else:
+                self.extend(place, item)
+        return rest
 
     def replace(self, place: Item, item: Item) -> None:
         made, added = self.made, self.added
@@ -74,22 +71,18 @@ class Joined:
         made.texts[first + 1:made.code[place.last] + 1] = [''] * (made.code[place.last] - first)
         self.replaced.append(item.name)
 
-    def put_attributes(self, block: Item, item: Item) -> None:
-        """Puts the attributes of an item before those of the made one."""
-        first = self.made.code[block.first]
-        lines = [self.added.text(*attribute) for attribute in item.attributes]
-        self.made.texts[first] = '\n'.join([*lines, self.made.texts[first]])
-
-    def put_head(self, block: Item, item: Item) -> None:
-        """Puts the head of an implementation in the place of that of the made one."""
+    def extend(self, block: Item, item: Item) -> None:
+        """Gives a block the head of an implementation by hand, the attributes of an item by hand, and what is in that."""
+        made, added = self.made, self.added
         if item.kind == 'impl' and item.open and block.open:
-            first, last = self.made.code[block.word], self.made.code[block.open]
-            self.made.texts[first:last] = [self.added.text(item.word, item.open - 1) + ' ', *[''] * (last - first - 1)]
-
-    def append(self, block: Item, items: list[Item]) -> None:
-        """Puts items at the end of a trait or an implementation."""
-        if items:
-            self.made.texts[self.made.code[block.last]] = '\n' + written(self.added, items) + '\n}'
+            first, last = made.code[block.word], made.code[block.open]
+            made.texts[first:last] = [added.text(item.word, item.open - 1) + ' ', *[''] * (last - first - 1)]
+        lines = [added.text(*attribute) for attribute in item.attributes]
+        first = made.code[block.first]
+        made.texts[first] = '\n'.join([*lines, made.texts[first]])
+        rest = self.merge(block.items, item.items)
+        if rest:
+            made.texts[made.code[block.last]] = '\n' + written(added, rest) + '\n}'
 
     def put_imports(self, lines: str) -> None:
         """Puts imports below those of the made file."""

@@ -3,8 +3,6 @@
 The functions by hand that panic have it, and a generic division panics too. A function that reaches one of these by calls gets it if its
 comment has the section `# Panics`, and if no other crate can call it and it stands between such a function and the panic. A function is
 found by its path, through imports, and a method by its name alone."""
-from __future__ import annotations
-
 import collections
 from dataclasses import dataclass
 from pathlib import Path
@@ -39,8 +37,7 @@ class Function:
 
     def says_so(self) -> bool:
         """Whether its comment says when it panics."""
-        source = self.module.source
-        return any(source.tokens[i].text == '/// # Panics' for i in source.docs(self.item))
+        return '# Panics' in self.module.source.doc(self.item)
 
 
 class Callers(Made):
@@ -89,10 +86,8 @@ class Callers(Made):
     def is_closed(self, function: Function) -> bool:
         """Whether no other crate can call a function."""
         module, owner, item = function.module, function.owner, function.item
-        top = owner if owner and owner.kind == 'trait' else None if owner else item
-        if top is not None:
-            return (self.name, module.path, top.name) not in self.public
-        assert owner is not None
+        if owner is None or owner.kind == 'trait':
+            return (self.name, module.path, (owner or item).name) not in self.public
         return not owner.of_trait and not (item.public and owner.name in self.types)
 
     def put(self) -> None:

@@ -1,26 +1,23 @@
-"""Takes the contracts out of the libraries, and writes one Cargo crate of plain Rust.
+"""Takes the contracts out of the libraries, and makes one Cargo crate of plain Rust.
 
-    tools/cellarcove make rust [OUT]     crates/NAME/src/*.rt and rust/by_hand/*  ->  OUT/src/*.rs
+    tools/cellarcove make rust     crates/NAME/src/*.rt and rust/by_hand/*  ->  rust/src/*
 
-OUT is rust/ if none is given. Code stays token by token, with its comments. What goes: `ghost` items, members and
+Code stays token by token, with its comments. What goes: `ghost` items, members and
 fields, clauses, `final`, attributes of proofs, `#[cfg(test)]` items, labels that nothing names, and the traits that are of
 contracts alone. What changes: the first words of paths, the head of `fmt`, copies in `integer_core` (copies.py), and comments,
 which gain sections (documentation.py). What is added: `#[must_use]` of public calls that only return, `#[track_caller]` on the way to
 a panic (callers.py), and what is by hand (additions.py). No function of the library has a name here. A form that is not
-known here is rejected by file and line, and then nothing is written. tools/tests has examples of both."""
-from __future__ import annotations
-
-import shutil
+known here is rejected by file and line, and then nothing is made. tools/tests has examples of both."""
 import subprocess
 import tempfile
-from collections.abc import Callable, Iterable
+from collections.abc import Iterable, Mapping
 from pathlib import Path
 
-from tools import ROOT as REPOSITORY, write as write_files
+from tools import ROOT as REPOSITORY, write
 from tools.erase import copies, documentation
 from tools.erase.additions import Additions
 from tools.erase.callers import Callers
-from tools.erase.deletion import GHOST_TRAITS, Deletion
+from tools.erase.deletion import GHOST_NAMES, Deletion
 from tools.erase.library import AT_ROOT, CRATES, ROOT, WITHIN, Module, RustLibrary
 from tools.erase.prose import within_columns
 from tools.erase.source import Item, Unknown
@@ -80,11 +77,12 @@ class Eraser(Deletion):
                 self.refuse(k, f'a path that begins with `{path[0]}`')
         names = [j for j in range(k + 1, last) if self.kind(j) == 'word']
         private = {name: path for path, name in imports if item.public and self.is_private(path)}
-        gone = GHOST_TRAITS | private.keys()
+        gone = GHOST_NAMES | private.keys()
         if [self.at(j) for j in names] == ['std', 'error', 'Error']:
             self.drop(k, last)
             return self.write(k, 'use crate::errors::Error;')
-        exports = ''.join(f'\npub(crate) use crate::{"::".join(path)};' for name, path in private.items() if not self.is_at_root(name))
+        at_root = {path[0] for crate, path in self.library.modules if path and crate in AT_ROOT - {self.crate}}
+        exports = ''.join(f'\npub(crate) use crate::{"::".join(path)};' for name, path in private.items() if name not in at_root)
         if all(name in gone for _, name in imports):
             self.drop_item(item.first, last)
             return self.write(last, exports)
@@ -100,10 +98,6 @@ class Eraser(Deletion):
         """Whether a path leads to a module that is private in Rust."""
         found = self.library.find(self.module, path)
         return found is not None and found[1] is None and not self.library.is_open(found[0])
-
-    def is_at_root(self, name: str) -> bool:
-        """Whether the root of the Rust crate has a module of this name from another crate."""
-        return any((crate, (name,)) in self.library.modules for crate in AT_ROOT - {self.crate})
 
     def struct(self, item: Item) -> None:
         """A struct without bounds, which its methods have. Where a public one has an invariant, no other crate may change its fields."""
@@ -201,34 +195,26 @@ def texts_of(library: RustLibrary) -> dict[str, str]:
     others = additions.modules()
     made['lib.rs'] = head_of_root(library, others, made['lib.rs'])
     made |= {place: made_from(f'rust/by_hand/src/{place}') + text for place, text in others.items()}
-    return made | {place: made_from(sources) + text for place, (sources, text) in documentation.pages(page, BY_HAND).items()}
+    for place, (sources, text) in documentation.pages(page, BY_HAND).items():
+        mark = made_from(sources)
+        # rustdoc takes the summary of a module from the first block of its page
+        made[place] = f'{text}\n<!-- {mark[3:-1]} -->\n' if place.endswith('.md') else mark + text
+    return made
 
 
-def formatted(out: Path) -> None:
-    """Formats the sources below a folder."""
-    found = subprocess.run(['rustfmt', '--edition', '2021', str(out / 'src' / 'lib.rs')], capture_output=True, text=True)
-    if found.returncode or found.stderr:
-        raise Unknown('what is left is no Rust:\n' + found.stderr.replace(f'{out}/', ''))
-    for file in (out / 'src').rglob('*.rs'):
-        file.write_text(within_columns(file.read_text()))
+def files(crate: str, made: Mapping[str, str]) -> dict[str, str | None]:
+    """The files of a crate of the repository, of which these are made, and no text for what else is there."""
+    there = [file.relative_to(REPOSITORY).as_posix() for file in (REPOSITORY / crate / 'src').rglob('*.*')]
+    with tempfile.TemporaryDirectory() as name:
+        out = Path(name)
+        write(out / 'src', made)
+        Callers(out).put()
+        found = subprocess.run(['rustfmt', '--edition', '2021', str(out / 'src' / 'lib.rs')], capture_output=True, text=True)
+        if found.returncode or found.stderr:
+            raise Unknown('what is left is no Rust:\n' + found.stderr.replace(f'{out}/', ''))
+        texts = {place: (out / 'src' / place).read_text() for place in made}
+    return dict.fromkeys(there) | {f'{crate}/src/{place}': within_columns(text) if place.endswith('.rs') else text for place, text in texts.items()}
 
 
-def write(out: Path) -> None:
-    """Writes the sources below a folder."""
-    write_files(out / 'src', texts_of(RustLibrary(REPOSITORY / 'crates')))
-    Callers(out).put()
-    formatted(out)
-
-
-def make(words: list[str]) -> bool:
-    """Makes the sources anew below rust/, or below the folder that a word names."""
-    return replace(Path(words[0]) if words else REPOSITORY / 'rust', write)
-
-
-def replace(out: Path, write: Callable[[Path], None]) -> bool:
-    """Makes the sources below a folder anew, unless a form is not known."""
-    with tempfile.TemporaryDirectory() as made:
-        write(Path(made))
-        shutil.rmtree(out / 'src', ignore_errors=True)
-        shutil.copytree(Path(made) / 'src', out / 'src')
-    return True
+def made() -> dict[str, str | None]:
+    return files('rust', texts_of(RustLibrary(REPOSITORY / 'crates')))

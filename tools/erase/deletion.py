@@ -1,12 +1,11 @@
 """Deletes from a file of Rattle what its contracts are: `ghost` items, members and fields, clauses, `final`, tests, and the traits that
 are of contracts alone. A form that is not known is rejected by file and line."""
-from __future__ import annotations
-
 from collections.abc import Iterable
 
 from tools.erase.source import Item, Source
 
 GHOST_TRAITS = {'Integral', 'FixedWidth', 'Model'}      # traits of contracts alone: no operation of their own
+GHOST_NAMES = GHOST_TRAITS | {'Number'}         # imports and implementations of these go; `Number` also names types
 
 
 class Deletion:
@@ -45,7 +44,7 @@ class Deletion:
     def goes(self, item: Item) -> bool:
         """Whether an item is there for contracts or tests alone."""
         is_test = any(self.at(first + 2) == 'cfg' and self.at(first + 4) == 'test' for first, _ in item.attributes)
-        return item.kind == 'ghost' or item.of_trait in GHOST_TRAITS or is_test
+        return item.kind == 'ghost' or item.of_trait in GHOST_NAMES or is_test
 
     def item(self, item: Item, owner: Item | None) -> None:
         if self.goes(item):
@@ -69,6 +68,8 @@ class Deletion:
                 self.drop_item(field.first, field.last + (self.at(field.last + 1) == ','))
         if item.kind == 'fn':
             self.fn_clauses |= {clause.first for clause in item.clauses}
+            if owner and owner.of_trait == 'Clone':
+                self.clone(item)
         if item.kind in ('trait', 'impl', 'mod') and item.open:
             self.walk(item.word, item.open)
             return self.items(item.items, item)
@@ -76,6 +77,16 @@ class Deletion:
 
     def dress(self, item: Item, owner: Item | None) -> None:
         """What an item that stays gets."""
+
+    def clone(self, item: Item) -> None:
+        """Writes the method of `Clone`, which returns `Ok(*self)` in Rattle, as Rust has it."""
+        result, ok = (next((k for k in range(item.word, item.last) if self.at(k) == word), item.last) for word in ('Result', 'Ok'))
+        if [self.at(k) for k in range(ok, item.last)] != ['Ok', '(', '*', 'self', ')']:
+            self.refuse(item.word, 'a `clone` that is not `Ok(*self)`')
+        self.drop(result + 1, ok - 2)
+        self.write(result, 'Self')
+        for k in (ok, ok + 1, ok + 4):
+            self.drop(k, k)
 
     def attribute(self, first: int, last: int) -> None:
         """Drops an attribute of proofs, and of a list of traits the one that only Rattle derives."""

@@ -8,7 +8,6 @@ from __future__ import annotations
 import pathlib
 import re
 from collections.abc import Iterable
-from dataclasses import dataclass
 from typing import TYPE_CHECKING
 
 from tools.erase import examples
@@ -27,11 +26,7 @@ FITS = r'[A-Z]\w*\.fits \([A-Z]\w*\.value [\w.]+\)'
 LIES = rf'(?:{FITS}|All \(λ x\. {FITS}\) [\w.]+|All \w+\.fits result)'
 ONLY_LIES = re.compile(rf'\w+ (?:\w+ )?\{{ {LIES}(?: × {LIES})* \}}')
 # The ghost members of an implementation that say what its calls return. The others are proofs.
-STATED = {'output', 'from_str_gives', 'from_gives', 'is_default', 'cmp', 'partial_cmp', 'next_gives'}
-# What the pages of the module `definitions` are about.
-PAGES = {'integer_core': 'ranges, division, divisors, Bezout pairs and the iterations of their loops',
-         'integer_roots': 'averages, roots and the iterations of their loops', 'num_integer': 'coefficients and checked calls',
-         'modular': 'residues and congruences', 'ratio64': 'fractions', 'calendar': 'dates', 'applied': 'lists, rounding, shares, factorials, paging, schedules, ranking, alignment and hashing'}
+STATED = {'output', 'from_str_gives', 'from_gives', 'is_default', 'try_from_gives', 'cmp', 'partial_cmp', 'next_gives'}
 
 # The sections of a comment, in the order in which the Rust crate has them.
 SECTIONS = ('Examples', 'Panics', 'Errors')
@@ -97,18 +92,11 @@ def see_sections(eraser: Eraser, item: Item, sections: dict[str, list[str]]) -> 
             source.refuse(item.word, f'`# Errors` says when `{function.name}` returns `{name}`, and a clause that it never does')
 
 
-def place_of(eraser: Eraser, item: Item, owner: Item | None) -> Place | None:
-    """The public place of an item with a comment, or None."""
-    if item.kind == 'impl':
-        return eraser.library.place_of_type(eraser.module, item.name) if item.of_trait else None
-    return eraser.library.place_of(eraser.module, item, owner)
-
-
 def add_sections(eraser: Eraser, item: Item, owner: Item | None) -> None:
     """Writes the comment of an item as the Rust crate has it. That of a public item gets its sections and its link."""
-    source, place = eraser.source, place_of(eraser, item, owner)
-    docs = source.docs(item)
-    prose = source.doc(item)
+    source, docs, prose = eraser.source, eraser.source.docs(item), eraser.source.doc(item)
+    place = eraser.library.place_of(eraser.module, item, owner) if item.kind != 'impl' else \
+        eraser.library.place_of_type(eraser.module, item.name) if item.of_trait else None
     lines = comment(eraser, item, owner, place, prose) if place is not None else of_rust(eraser, prose)
     if lines == prose:
         return
@@ -155,25 +143,13 @@ def linked(eraser: Eraser, comment: str) -> str:
 
 # ---- contracts
 
-@dataclass
-class Contract:
-    """What is proved of a public item: the path of the item, or the trait and the type of an implementation, the clauses, and the
-    links to their words."""
-    title: str
-    clauses: list[str]
-    words: list[str]
-
-    def lines(self) -> list[str]:
-        parts = [f'`{clause}`' for clause in self.clauses] + [f'Words: {", ".join(self.words)}'] * bool(self.words)
-        return [f'## {self.title}', *(line for part in parts for line in wrapped(f'- {part}', indent='  '))]
-
-
 class Page:
-    """What the modules of definitions have: the words that are cited, of which those of the toolchain are explained by hand, and the
-    contracts by the public place of their items. `cited` has the crates whose words these link to."""
+    """What the modules of definitions have: the words that are cited, of which those of the toolchain are explained by hand, and by the
+    public place of an item what is proved of it. A contract has a title, the path of the item, or the trait and the type of an
+    implementation; and a text, its clauses and the links to their words."""
 
     def __init__(self, folder: pathlib.Path) -> None:
-        self.specs, self.contracts, self.cited = Specs(folder, CRATES), dict[Place, list[Contract]](), set[str]()
+        self.specs, self.contracts = Specs(folder, CRATES), dict[Place, list[tuple[str, str]]]()
 
 
 def says_more(text: str) -> bool:
@@ -204,11 +180,11 @@ def link_to_contract(eraser: Eraser, item: Item, owner: Item | None, place: Plac
         return []
     names = imports_of(eraser.source, eraser.module.items) | imports_of(eraser.source, owner.items if owner else item.items)
     words = eraser.page.specs.cite('\n'.join(texts), names)
-    eraser.page.cited |= {word.crate for word in words}
     path = '::'.join((*place, *([owner.name] if owner else []), item.name))
     title = f'`{item.of_trait}` for `{path}`' if item.kind == 'impl' else f'`{path}`'
-    contract = Contract(title, texts, [f'[`{word.name}`]({word.crate}#{anchor(word.name)})' for word in words])
-    eraser.page.contracts.setdefault(place, []).append(contract)
+    links = ', '.join(f'[`{word.name}`]({word.crate}#{anchor(word.name)})' for word in words)
+    lines = [f'`{text}`' for text in texts] + [f'Words: {links}'] * bool(words)
+    eraser.page.contracts.setdefault(place, []).append((title, ''.join(f'- {line}\n' for line in lines)))
     label = 'Laws' if item.kind == 'trait' else 'Contract'
     return [f'[{label}](crate::definitions::contracts#{anchor(title)})']
 
@@ -216,15 +192,21 @@ def link_to_contract(eraser: Eraser, item: Item, owner: Item | None, place: Plac
 # ---- the modules `definitions` and `definitions::contracts`
 
 def pages(page: Page, by_hand: pathlib.Path) -> dict[str, tuple[str, str]]:
-    """The files of the two modules: what each is made from, and its text. Call it after the comments have been made."""
-    words, head = ((by_hand / name).read_text().rstrip('\n').split('\n') for name in ('definitions.md', 'contracts.md'))
-    return {'definitions.rs': ('crates/*/specs and rust/by_hand/definitions.md', definitions(page, words)),
-            'definitions/contracts.rs': ('crates/*/src and rust/by_hand/contracts.md', contracts(page, head))}
-
-
-def inner(lines: Iterable[str], margin: str = '') -> str:
-    """The lines of a comment at the head of a module."""
-    return ''.join(f'{margin}//! {line}'.rstrip() + '\n' for line in lines)
+    """The file of the modules and the pages that are their documentation: what each is made from, and its text. Call it after the
+    comments have been made."""
+    words, head = ((by_hand / name).read_text() for name in ('definitions.md', 'contracts.md'))
+    heads = {file.stem: file.read_text() for file in (by_hand / 'definitions').glob('*.md')}
+    explained = {part for code in re.findall('`([^`\n]*)`', words) for part in code.split()}
+    missing = sorted(name for name in page.specs.outside if name.strip('◌') not in explained)
+    if missing:
+        raise Unknown(f'rust/by_hand/definitions.md: no {", ".join(missing)}')
+    below = {'contracts': ('crates/*/src and rust/by_hand/contracts.md', head + contracts(page))}
+    below |= {crate: (f'crates/{crate}/specs and rust/by_hand/definitions/{crate}.md', heads[crate] + text)
+              for crate in CRATES if (text := definitions(page, crate))}
+    modules = [f'\n#[doc = include_str!("definitions/{name}.md")]\npub mod {name} {{}}\n' for name in below]
+    return {'definitions.rs': ('crates/*/specs', ''.join(['#![doc = include_str!("definitions.md")]\n', *modules])),
+            'definitions.md': ('rust/by_hand/definitions.md', words),
+            **{f'definitions/{name}.md': made for name, made in below.items()}}
 
 
 def see_each_once(titles: list[str], where: str) -> None:
@@ -235,27 +217,16 @@ def see_each_once(titles: list[str], where: str) -> None:
         raise Unknown(f'{where}: one anchor for {", ".join(twice)}')
 
 
-def definitions(page: Page, head: list[str]) -> str:
-    """The module `definitions`, below a head by hand: each word that a contract cites."""
-    explained = {part for line in head for code in re.findall('`([^`]*)`', line.replace('\\|', '|')) for part in code.split()}
-    missing = sorted(name for name in page.specs.outside if name.strip('◌') not in explained)
-    if missing:
-        raise Unknown(f'rust/by_hand/definitions.md: no {", ".join(missing)}')
-    text = inner(head) + '\npub mod contracts;\n'
-    for crate in CRATES:
-        words = [word for word in page.specs.cited.values() if word.crate == crate]
-        if words:
-            see_each_once([word.name for word in words], f'crates/{crate}/specs')
-            words.sort(key=lambda word: (word.file, [*page.specs.read(word.crate, word.file)[0]].index(word.name)))
-            lines = [f'Words of {PAGES[crate]}.'] + [line for word in words for line in (
-                f'## `{word.name}`', *filter(None, [word.comment]), '```text', *word.text.split('\n'), '```')]
-            text += f'\npub mod {crate} {{\n{inner(lines, "    ")}}}\n'
-    return text
+def definitions(page: Page, crate: str) -> str:
+    """The words of a crate that contracts cite."""
+    words = [word for word in page.specs.cited.values() if word.crate == crate]
+    see_each_once([word.name for word in words], f'crates/{crate}/specs')
+    words.sort(key=lambda word: (word.file, [*page.specs.read(word.crate, word.file)[0]].index(word.name)))
+    return ''.join(f'\n## `{word.name}`\n\n{word.comment}\n\n```text\n{word.text}\n```\n' for word in words)
 
 
-def contracts(page: Page, head: list[str]) -> str:
-    """The module `definitions::contracts`, below a head by hand: the contract of each public item."""
+def contracts(page: Page) -> str:
+    """The contract of each public item."""
     found = [contract for _, listed in sorted(page.contracts.items(), key=lambda row: row[0]) for contract in listed]
-    see_each_once([contract.title for contract in found], 'crates/*/src')
-    lines = [*head, '', *(line for contract in found for line in contract.lines())]
-    return f'{inner(lines)}\nuse super::{{{", ".join(sorted(page.cited))}}};\n'
+    see_each_once([title for title, _ in found], 'crates/*/src')
+    return ''.join(f'\n## {title}\n\n{text}' for title, text in found)

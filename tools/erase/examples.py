@@ -2,6 +2,7 @@
 code of the section that the comment has, below the `use` lines of their names. `cargo test` runs them."""
 from __future__ import annotations
 
+import collections
 import functools
 import re
 from typing import TYPE_CHECKING
@@ -61,22 +62,21 @@ def without_examples(lines: list[str]) -> list[str]:
 @functools.cache
 def methods(library: RustLibrary) -> dict[str, set[tuple[Place, str]]]:
     """The public traits of the library that have a method, by its name, each with its public place."""
-    found: dict[str, set[tuple[Place, str]]] = {}
-    for module in library.modules.values():
-        for item in module.items:
-            place = library.place_of(module, item) if item.kind == 'trait' else None
-            if place is not None:
-                for inner in item.items:
-                    found.setdefault(inner.name, set()).add((place, item.name))
+    found = collections.defaultdict[str, set[tuple[Place, str]]](set)
+    traits = [(library.place_of(module, item), item) for module in library.modules.values() for item in module.items if item.kind == 'trait']
+    for place, item in traits:
+        if place is not None:
+            for inner in item.items:
+                found[inner.name].add((place, item.name))
     return found
 
 
 @functools.cache
 def places(library: RustLibrary) -> dict[str, set[Place]]:
     """The public places of each name."""
-    found: dict[str, set[Place]] = {}
+    found = collections.defaultdict[str, set[Place]](set)
     for (_, _, name), place in library.public.items():
-        found.setdefault(name, set()).add(place)
+        found[name].add(place)
     return found
 
 
@@ -107,17 +107,12 @@ def assertion(call: str, answer: str) -> list[str]:
     return [line] if len(line) <= WIDTH - INDENT else ['assert_eq!(', f'    {call},', f'    {answer}', ');']
 
 
-def block(library: RustLibrary, pairs: list[tuple[str, str]], more: list[str], place: Place) -> list[str]:
-    """The lines of a section: an assertion of each pair, and more code."""
-    if not pairs and not more:
-        return []
-    head = imports(library, '\n'.join([*(f'{call}\n{answer}' for call, answer in pairs), *more]), place)
-    body = [line for pair in pairs for line in assertion(*pair)] + more
-    return ['# Examples', '', '```', *head, *([''] if head else []), *body, '```']
-
-
 def section(eraser: Eraser, item: Item, place: Place, lines: list[str]) -> list[str]:
-    """The lines of the section of an item at a public place, whose own section has these lines, a block of code."""
+    """The lines of the section of an item at a public place, whose own section has these lines, a block of code: an assertion of each
+    sentence, and that code."""
     if lines and (lines[0] != '```' or lines.index('```', 1) != len(lines) - 1):
         eraser.source.refuse(item.word, 'a section `# Examples` that is no block of code')
-    return block(eraser.library, sentences(eraser.source, item), lines[1:-1], place)
+    pairs, more = sentences(eraser.source, item), lines[1:-1]
+    head = imports(eraser.library, '\n'.join([*(f'{call}\n{answer}' for call, answer in pairs), *more]), place)
+    body = [line for pair in pairs for line in assertion(*pair)] + more
+    return ['# Examples', '', '```', *head, *[''] * bool(head), *body, '```'] if body else []

@@ -1,17 +1,14 @@
-"""Takes the contracts out of the exports for C, and writes a Cargo package over the crate of plain Rust.
+"""Takes the contracts out of the exports for C, and makes a Cargo package over the crate of plain Rust.
 
-    tools/cellarcove make exports [OUT]   crates/cellarcove_c/src/*.rt and rust/by_hand/exports_head.rs  ->  OUT/src/*.rs
+    tools/cellarcove make exports   crates/cellarcove_c/src/*.rt and rust/by_hand/exports_head.rs  ->  rust/c/src/*.rs
 
-OUT is rust/c if none is given. Code is erased as crate.py does it. What else changes: paths lead to the crate
+Code is erased as crate.py does it. What else changes: paths lead to the crate
 `cellarcove`; a slice becomes a pointer and a length, of which the body makes the slice, in an unsafe block; and functions that only
-state laws go. A form that is not known here is rejected by file and line, and then nothing is written."""
-from __future__ import annotations
-
+state laws go. A form that is not known here is rejected by file and line, and then nothing is made."""
 from collections.abc import Iterator
-from pathlib import Path
 
-from tools import ROOT, write as write_files
-from tools.erase.crate import BY_HAND, Eraser, formatted, made_from, replace
+from tools import ROOT
+from tools.erase.crate import BY_HAND, Eraser, files, made_from
 from tools.erase.documentation import Page
 from tools.erase.library import Module, RustLibrary
 from tools.erase.source import Item
@@ -80,22 +77,15 @@ def only_laws(module: Module) -> bool:
     return all(item.kind in ('ghost', 'attribute') or states_laws(item) for item in module.items)
 
 
-def write(out: Path, crates: Path) -> None:
-    """Writes the sources below a folder."""
-    library, page = RustLibrary(crates), Page(crates)
-    library.read(CRATE, (), crates / CRATE / 'src' / 'lib.rt')
-    made = dict[str, str]()
+def made() -> dict[str, str | None]:
+    library, page = RustLibrary(ROOT / 'crates'), Page(ROOT / 'crates')
+    library.read(CRATE, (), ROOT / 'crates' / CRATE / 'src' / 'lib.rt')
+    texts = dict[str, str]()
     for module in [module for module in library.modules.values() if module.crate == CRATE and not only_laws(module)]:
         eraser = Exports(module, library, page)
         rust, sources = eraser.rust(), str(module.source.path)
         if not module.path:             # the root: the head by hand, and the modules
             modules = ''.join(line for line in rust.splitlines(True) if not line.startswith('//!')).lstrip()
             rust, sources = (BY_HAND / 'exports_head.rs').read_text() + '\n' + modules, f'{sources} and rust/by_hand/exports_head.rs'
-        made[f'{"/".join(module.path) or "lib"}.rs'] = made_from(sources, 'exports') + rust
-    write_files(out / 'src', made)
-    formatted(out)
-
-
-def make(words: list[str]) -> bool:
-    """Makes the sources anew below rust/c, or below the folder that a word names."""
-    return replace(Path(words[0]) if words else ROOT / 'rust' / 'c', lambda out: write(out, ROOT / 'crates'))
+        texts[f'{"/".join(module.path) or "lib"}.rs'] = made_from(sources, 'exports') + rust
+    return files('rust/c', texts)

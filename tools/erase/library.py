@@ -13,9 +13,9 @@ ROOT = 'num_integer'                            # its root becomes that of the R
 AT_ROOT = {ROOT, 'applied'}                     # the modules of these stand at the root of the Rust crate
 # The crates of the Rust crate: how the root declares the module of each, or nothing for those whose modules stand there.
 CRATES = {'integer_core': 'mod', 'integer_roots': 'mod', 'num_integer': '',
-          'modular': 'pub mod', 'ratio64': 'pub mod', 'calendar': 'pub mod', 'applied': ''}
+          'modular': 'pub mod', 'ratio64': 'pub mod', 'calendar': 'pub mod', 'bounded_integers': 'pub mod', 'applied': ''}
 # The public modules that are private in the Rust crate: others export what they have, or no caller there needs it.
-WITHIN = {('integer_core', 'counted'), ('integer_core', 'guards'), ('integer_core', 'padded'), ('integer_core', 'fitting'),
+WITHIN = {('integer_core', 'counted'), ('integer_core', 'guards'), ('integer_core', 'padded'), ('integer_core', 'fitting'), ('integer_core', 'narrowing'),
           ('integer_roots', 'counted'), ('num_integer', 'sign_magnitude'), ('applied', 'guards')}
 NOT_READ = {'tests', 'assertions'}               # modules that only tests have
 OUTSIDE = {'std', 'core', 'num_traits', 'crate', 'self', 'super'}
@@ -178,5 +178,4 @@ class RustLibrary(Library):
 
     def place_of_type(self, module: Module, name: str) -> Place | None:
         """The public place of a type that the module's crate has."""
-        places = [place for (crate, _, found), place in self.public.items() if crate == module.crate and found == name]
-        return places[0] if places else None
+        return next((place for (crate, _, found), place in self.public.items() if crate == module.crate and found == name), None)

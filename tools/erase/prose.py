@@ -20,35 +20,25 @@ def wrapped(text: str, width: int = WIDTH, indent: str = '') -> list[str]:
     return [line.replace('\0', ' ') for line in lines]
 
 
-def broken(line: str, width: int) -> list[str]:
-    """The lines of a long line of a contract or a definition. Those after the first are indented by four more."""
-    indent = ' ' * (len(line) - len(line.lstrip(' ')))
-    return textwrap.wrap(line, width, initial_indent=indent, subsequent_indent=indent + '    ', break_on_hyphens=False,
-                         break_long_words=False) if len(line) > width else [line]
-
-
-def paragraphs(lines: list[str]) -> list[tuple[str, list[str]]]:
-    """The lines of a comment in groups: paragraphs and items of a list, lines that stand alone, and lines of a block of text."""
-    found: list[tuple[str, list[str]]] = []
-    fence = ''
+def paragraphs(lines: list[str]) -> list[tuple[bool, list[str]]]:
+    """The lines of a comment in groups, each with whether it is prose: paragraphs and items of a list, and lines that stand alone."""
+    found: list[tuple[bool, list[str]]] = []
+    is_code = False
     for line in lines:
-        kind = 'text' if fence == '```text' else 'alone' if fence or ALONE.match(line) else 'prose'
-        if line.startswith('```'):
-            kind, fence = 'alone', '' if fence else line
-        if kind == 'prose' and found and found[-1][0] == kind and not ITEM.match(line):
+        is_code ^= line.startswith('```')
+        is_prose = not is_code and not ALONE.match(line)
+        if is_prose and found and found[-1][0] and not ITEM.match(line):
             found[-1][1].append(line)
         else:
-            found.append((kind, [line]))
+            found.append((is_prose, [line]))
     return found
 
 
 def within(lines: list[str], width: int) -> Iterator[str]:
     """The lines of a comment, none wider than asked where it can be broken."""
-    for kind, group in paragraphs(lines):
-        if kind == 'alone' or all(len(line) <= width for line in group):
+    for is_prose, group in paragraphs(lines):
+        if not is_prose or all(len(line) <= width for line in group):
             yield from group
-        elif kind == 'text':
-            yield from broken(group[0], width)
         else:
             indent = '  ' if ITEM.match(group[0]) else ''
             yield from wrapped(' '.join(line.strip() for line in group), width, indent)

@@ -266,7 +266,9 @@ class Source:
     def read_block(self, item: Item, brace: int) -> None:
         item.open, item.last = brace, self.close(brace)
         item.items = self.items(brace + 1, item.last)
-        item.clauses = [self.member(inner) for inner in item.items if inner.kind == 'ghost' and inner.name != 'use']
+        # a ghost member is a clause without its proof
+        item.clauses = [Clause('ghost', inner.name, inner.word, self.close(self.end(inner.word, '{')))
+                        for inner in item.items if inner.kind == 'ghost' and inner.name != 'use']
 
     def read_trait(self, item: Item) -> None:
         self.read_block(item, self.end(item.word, '{'))
@@ -281,10 +283,6 @@ class Source:
             item.of_trait, names = names[names.index('for') - 1], names[names.index('for') + 1:]
         item.name = names[-1] if names else ''
         self.read_block(item, brace)
-
-    def member(self, item: Item) -> Clause:
-        """A ghost member as a clause, without its proof."""
-        return Clause('ghost', item.name, item.word, self.close(self.end(item.word, '{')))
 
     def read_fn(self, item: Item) -> None:
         k = self.end(item.word, ';{', CLAUSES)

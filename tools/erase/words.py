@@ -28,11 +28,7 @@ class Definition:
 
 def imported(text: str) -> dict[str, tuple[str, str]]:
     """The words that the imports in a text name, each with its crate and its path there."""
-    found = {}
-    for crate, path, names in IMPORT.findall(text):
-        for name in names.split(','):
-            found[name.strip()] = (crate, path)
-    return found
+    return {name.strip(): (crate, path) for crate, path, names in IMPORT.findall(text) for name in names.split(',')}
 
 
 def cited(text: str, imports: Container[str]) -> list[str]:

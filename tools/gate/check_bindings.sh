@@ -85,7 +85,7 @@ cpp_with() {
     check "C++ with $1" runs test.cpp "$1" -std=c++17 -Wconversion -O1 -x c++
     check "what does not compile in C++ with $1" rejects_conversions "$1"
     check "an older C++ with $1" rejects_older_cpp "$1"
-    check "the example of the page in C++ with $1" page_holds bindings/README.md cpp "$1" -std=c++17
+    check "the example of the page in C++ with $1" page_holds docs/C.md cpp "$1" -std=c++17
     check "the header for C in C++ with $1" runs test.c "$1" -std=c++17 -O0 -x c++
 }
 
@@ -155,22 +155,15 @@ wheel_of() { rm -rf "$2" && CELLARCOVE_ARCHIVE=$1 "$builder" -m pip wheel "${off
 
 makes_a_wheel() { wheel_of "$archive" "$work/wheel" bindings/python; }
 
-# The wheel, unpacked, runs in an empty folder, with a Python.
+# with_package SCRIPT WORD..: the script runs with the package of the wheel, in an empty folder, by the Python of the variable `python`.
+with_package() { (cd "$work/empty_folder" && PYTHONPATH=$work/site PYTHONDONTWRITEBYTECODE=1 "${python:-python3}" "$@"); }
+
+# The wheel, unpacked, passes its tests.
 passes_its_tests() {
     rm -rf "$work/site" "$work/empty_folder"
     python3 -m zipfile -e "$work"/wheel/*.whl "$work/site" && mkdir "$work/empty_folder" &&
         with_package "$tests/test_cellarcove.py"
 }
-
-# So it does with the Python that made it, which may have numpy and pandas.
-passes_with_its_builder() { (cd "$work/empty_folder" && PYTHONPATH=$work/site PYTHONDONTWRITEBYTECODE=1 "$builder" "$tests/test_cellarcove.py"); }
-
-# with_package SCRIPT WORD..: the script runs with the package of the wheel, in an empty folder.
-with_package() { (cd "$work/empty_folder" && PYTHONPATH=$work/site PYTHONDONTWRITEBYTECODE=1 python3 "$@"); }
-
-# counted NAME COMMAND..: the command succeeds. The line has the last one that it printed.
-counted() { note=last_line check "$@"; }
-last_line() { tail -n 1 "$1"; }
 
 # fuzz MINUTES [--small]: all exports return what Python computes, for random arguments and for all small ones.
 fuzz() { with_package "$PWD/tools/cellarcove" check fuzz --minutes "$@"; }
@@ -250,7 +243,8 @@ python_calls() {
     languages=$((languages + 1))
     check 'the wheel' makes_a_wheel
     check 'Python' passes_its_tests
-    [ "$builder" = python3 ] || check 'Python of the wheel' passes_with_its_builder
+    # the Python that made it may have numpy and pandas
+    [ "$builder" = python3 ] || python=$builder check 'Python of the wheel' with_package "$tests/test_cellarcove.py"
     check 'the files and the tags of the wheel' with_package "$tests/test_wheel.py" "$work"/wheel/*.whl
     counted 'random calls' fuzz "$@"
 }
@@ -277,7 +271,7 @@ if builds_by_cargo; then
 fi
 if has cc C; then
     check 'a call in the place of another' other_call_is_found
-    for page in bindings/README.md docs/COOKBOOK.md; do
+    for page in README.md docs/C.md docs/COOKBOOK.md; do
         check "the example of $page" page_holds "$page" c cc -std=c11
     done
     check 'the installed library' installs

@@ -2,9 +2,10 @@
 # Makes the package for JavaScript, and calls it from Node and, on the page docs/try, from Chromium. Prints a line for each check and for
 # each program that the machine lacks, and a count at the end.
 #
-# usage: tools/gate/check_js.sh [FOLDER [MINUTES]]
+# usage: tools/gate/check_js.sh [FOLDER [MINUTES [WORD..]]]
 #
-# It checks the package of FOLDER, or makes one, and calls it at random for so many minutes, a tenth of one if none is given.
+# It checks the package of FOLDER, or makes one, and calls it at random for so many minutes, a tenth of one if none is given. The words are
+# for Node, such as --experimental-wasm-memory64, without which Node 20 does not read WebAssembly with addresses of 64 bits.
 set -uo pipefail
 cd "$(dirname "$0")/../.." || exit
 source tools/gate/lib.sh
@@ -20,8 +21,8 @@ has_types() {
 has node JavaScript || exit 0
 [ $# -gt 0 ] || check 'the package for JavaScript' bindings/js/build "$CELLARCOVE"
 if [ -e "$CELLARCOVE/cellarcove.wasm" ]; then
-    check "Node $(node --version)" node --test $tests/test.js
-    counted 'random calls' node $tests/fuzz.js "${2:-0.1}"
+    check "Node $(node --version)" node "${@:3}" --test $tests/test.js
+    counted 'random calls' node "${@:3}" $tests/fuzz.js "${2:-0.1}"
     ! has "${CHROMIUM:-chromium}" 'the page in Chromium' || check 'the page in Chromium' node --test $tests/page.js
 fi
 ! has tsc 'the types of JavaScript' || check 'the types of JavaScript' has_types

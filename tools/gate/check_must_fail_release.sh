@@ -23,12 +23,7 @@ build_libraries() {
 }
 
 names=("$@")
-if [ ${#names[@]} -eq 0 ]; then
-    for suite in crates/*/must-fail-release; do
-        suite=${suite#crates/}
-        names+=("${suite%/must-fail-release}")
-    done
-fi
+[ $# -gt 0 ] || mapfile -t names < <(printf '%s\n' crates/*/must-fail-release | cut -d / -f 2)
 
 wanted=0
 sizes=()

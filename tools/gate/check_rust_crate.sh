@@ -1,11 +1,10 @@
 #!/usr/bin/env bash
-# Checks the crate of plain Rust in rust/ and the package of exports in rust/c: their sources are those that
-# `tools/cellarcove make` makes, they build without a warning, the examples and tests of the crate
-# and num-integer's own tests pass, a guard that is taken out is missed, its package is made, and the checksums of
+# Checks the crate of plain Rust in rust/ and the package of exports in rust/c: they build without a warning, the examples and tests of
+# the crate and num-integer's own tests pass, a guard that is taken out is missed, its package is made, and the checksums of
 # compare/ are the same. Then the package num-integer of rust/ replaces the original below packages of other authors,
 # and their tests run. Works in a temporary folder, offline, with Debian's packages of these crates, which
-# tools/gate/install_packages.sh installs. Prints a line for each check, and a count at the end. `tools/cellarcove make` writes the
-# sources.
+# tools/gate/install_packages.sh installs. Prints a line for each check, and a count at the end. `tools/cellarcove check` compares the
+# sources with what is made.
 set -uo pipefail
 cd "$(dirname "$0")/../.." || exit
 source tools/gate/lib.sh
@@ -25,14 +24,6 @@ strictly() { RUSTFLAGS=-Dwarnings RUSTDOCFLAGS=-Dwarnings at "$@"; }
 # check_tests NAME COMMAND..: the command succeeds and runs tests. The line has their number.
 check_tests() { note=tests check "$@"; }
 tests() { awk '/^test result: ok/ { count += $4 } END { print count + 0, "tests"; exit !count }' "$1"; }
-
-# has COMMAND: the machine has the command.
-has() { command -v "$1" >/dev/null; }
-
-is_made_anew() {
-    tools/cellarcove make rust "$work/made" && diff -r "$work/made/src" rust/src &&
-        tools/cellarcove make exports "$work/made_exports" && diff -r "$work/made_exports/src" rust/c/src
-}
 
 # has_packages NAME..: the sources of these crates are in the registry. If not, a line says so, which is a failure in the gate.
 has_packages() {
@@ -135,13 +126,10 @@ checksums() {
     [ "$(sums "$work/list" | wc -l)" -gt 0 ] && diff <(sums crates/replay/src/tests/list.rt) <(sums "$work/list")
 }
 
-if ! has cargo || ! has rustfmt; then
-    echo 'no cargo or rustfmt on this machine: the crate of plain Rust is not checked'
+if ! has cargo 'the crate of plain Rust'; then
     [ -z "${CI:-}" ]
     exit
 fi
-
-check 'the sources are made anew' is_made_anew
 if has_packages "${originals[@]}"; then
     takes_debian "$work"
     mkdir "$work/docs" && cp docs/ERRORS.md "$work/docs" # whose panics the tests see
@@ -162,9 +150,9 @@ if has_packages "${originals[@]}"; then
     # tools/gate/check_bindings.sh calls them
     check 'the exports for C' strictly rust/c cargo build --release
     check 'the shared library that cargo makes of them' is_shared_library
-    check 'its documentation' strictly rust cargo doc --no-deps --all-features
+    check 'the documentation of the package' strictly unpacked cargo doc --no-deps --all-features
     check 'its links to contracts and to their words' tools/cellarcove check rust_docs --links "$CARGO_TARGET_DIR/doc/cellarcove"
-    if has cargo-clippy; then
+    if has cargo-clippy clippy; then
         check 'clippy' strictly rust cargo clippy --all-targets --all-features -- -D warnings
         check 'clippy on the exports' strictly rust/c cargo clippy -- -D warnings
     fi

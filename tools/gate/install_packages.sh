@@ -2,10 +2,10 @@
 # Installs the packages of Debian that the gate needs and that this machine lacks: for plain Rust the sources of num-integer and
 # num-traits, of the packages that depend on them and whose tests are run, and of serde; for the tools pytest, mypy and shellcheck; for
 # wheels hatchling; for 32 bits and for WebAssembly compilers, one of them with the sources of its library; and if Node is there, for
-# JavaScript the compiler of TypeScript and Chromium.
+# JavaScript the compiler of TypeScript and Chromium. With --all it installs what the other targets of a release need too.
 # Nothing else installs anything. Without the rights of root it says what is missing.
 #
-# usage: tools/gate/install_packages.sh
+# usage: tools/gate/install_packages.sh [--all]
 set -uo pipefail
 
 missing=()
@@ -28,6 +28,12 @@ if command -v node >/dev/null; then
     compgen -G "$HOME/.rustup/toolchains/*/lib/rustlib/*/bin/rust-lld" >/dev/null || compgen -G '/usr/lib/llvm-*/bin/wasm-ld' >/dev/null || missing+=(lld-19)
     command -v tsc >/dev/null || missing+=(node-typescript)
     command -v chromium >/dev/null || missing+=(chromium)
+fi
+if [ "${1:-}" = --all ]; then
+    command -v qemu-arm-static >/dev/null || missing+=(qemu-user-static)
+    for name in arm-linux-gnueabihf=armhf aarch64-linux-gnu=arm64 riscv64-linux-gnu=riscv64 s390x-linux-gnu=s390x powerpc-linux-gnu=powerpc; do
+        command -v "${name%=*}-gcc" >/dev/null || missing+=("gcc-${name%=*}" "libc6-dev-${name#*=}-cross")
+    done
 fi
 [ ${#missing[@]} -gt 0 ] || exit 0
 if [ "$(id -u)" -ne 0 ]; then

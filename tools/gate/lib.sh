@@ -27,12 +27,13 @@ check() {
     judge "$1$said" "$status"
 }
 
+# check_tests NAME COMMAND..: the command succeeds and runs tests. The line has their number.
+check_tests() { note=tests check "$@"; }
+tests() { awk '/^test result: ok/ { count += $4 } END { print count + 0, "tests"; exit !count }' "$1"; }
+
 # counted NAME COMMAND..: the command succeeds. The line has the last one that it printed.
-counted() {
-    local status=0
-    "${@:2}" >"$work/log" 2>&1 || status=$?
-    judge "$1, $(tail -n 1 "$work/log")" "$status"
-}
+counted() { note=last_line check "$@"; }
+last_line() { tail -n 1 "$1"; }
 
 # has PROGRAM WHAT: the program is on the machine, or a line says that what needs it is skipped.
 has() {

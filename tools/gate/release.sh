@@ -4,11 +4,11 @@
 # usage: tools/gate/release.sh [--quick] [FOLDER]
 #
 # FOLDER, `dist` if none is given, gets the packages for cargo, the wheel and the source distribution for pip, an archive for C
-# and C++, the package for npm, the page on which a call is tried, an archive of the sources, the notes of the release and SHA256SUMS. They are made of a clean clone of the commit
-# that `.ci/run` has passed in this checkout, and once more of a clone in another folder: both have the same sums. The static
+# and C++, the package for npm, the WebAssembly that Rattle makes, the page on which a call is tried, an archive of the sources, the notes
+# of the release and SHA256SUMS. They are made of a clean clone of the commit that `.ci/run` has passed in this checkout, and once more of a clone in another folder: both have the same sums. The static
 # library is the one that the gate built by Rattle's compiler, or without `rt` on the machine cargo's.
 #
-# It also runs the slow checks: the second suite of mutants, which takes most of an hour, the first lines of both suites, each guard of
+# It also runs the slow checks: the targets that need qemu, the second suite of mutants, which takes most of an hour, the first lines of both suites, each guard of
 # plain Rust taken out, and all tests of the package for cargo. With --quick it leaves these out, but for some of the tests, and the notes
 # say so.
 set -uo pipefail
@@ -31,9 +31,19 @@ stop() { echo "release.sh: $*" >&2 && exit 1; }
 
 [ -z "$(git status --porcelain)" ] || stop 'the checkout has changes that are not committed'
 grep -q "^gate: commit $commit," out/passed 2>/dev/null || stop "\`.ci/run\` has not passed at $commit in this checkout"
-[ "$(grep -m 1 '^## ' CHANGELOG.md)" = "## $version" ] || stop "CHANGELOG.md does not begin with version $version, which rust/Cargo.toml has"
+[[ $(grep -m 1 "^## " CHANGELOG.md) = "## $version ("* ]] || stop "CHANGELOG.md does not begin with version $version, which rust/Cargo.toml has"
 
 # ---- the files
+
+# with_address CLONE: if rust/Cargo.toml has the address of the repository, the other packages get it too.
+with_address() {
+    local address
+    address=$(sed -nE 's/^repository = "(.*)"$/\1/p' "$1/rust/Cargo.toml")
+    [ -n "$address" ] || return 0
+    printf '\n[project.urls]\nSource = "%s"\n' "$address" >>"$1/bindings/python/pyproject.toml"
+    sed -i "s|^  \"license\"|  \"repository\": \"$address\",\n&|" "$1/bindings/js/package.json"
+    sed -i "s|^license = .*|&\nrepository = \"$address\"|" "$1/rust/num-integer/Cargo.toml"
+}
 
 # clone FOLDER: a clean clone of the commit, with the static library that the gate has built.
 clone() {
@@ -42,7 +52,7 @@ clone() {
         is_current "$proved" cellarcove_c || { echo "$proved is older than its sources" && return 1; }
         mkdir -p "$1/crates/cellarcove_c/out" && cp "$proved" "$1/$proved"
     fi
-    (cd "$1" && bindings/build)
+    with_address "$1" && (cd "$1" && bindings/build)
 }
 
 # for_cargo CLONE FOLDER: the package of the crate, and that of num-integer. The packages that cargo finds are Debian's.
@@ -73,6 +83,9 @@ for_npm() {
         cp -r "$1"/docs/{reference,CONTRACTS.md} "$work/packed/$top" && packed package "$2/cellarcove-$version.tgz" && packed "$top" "$2/$top.tar.gz"
 }
 
+# for_wasm FOLDER: the WebAssembly of the libraries that `rt ci` has proved in this checkout.
+for_wasm() { ! command -v rt >/dev/null || { bindings/js/build --rattle "$work/proved" && cp "$work/proved/cellarcove.wasm" "$1/cellarcove-$version-proved.wasm"; }; }
+
 sources() {
     git -C "$1" archive --format=tar --prefix="cellarcove-$version/" HEAD | gzip -9n >"$2/cellarcove-$version-source.tar.gz"
 }
@@ -81,7 +94,7 @@ sources() {
 make_files() {
     local here=$work/$1/clone there=$work/$1/files
     mkdir -p "$there" && clone "$here" && for_cargo "$here" "$there" && for_pip "$here" "$there" && for_c "$here" "$there" &&
-        for_npm "$here" "$there" && sources "$here" "$there" && (cd "$there" && sha256sum -- *) >"$work/$1/SHA256SUMS"
+        for_npm "$here" "$there" && for_wasm "$there" && sources "$here" "$there" && (cd "$there" && sha256sum -- *) >"$work/$1/SHA256SUMS"
 }
 
 # ---- each file, in an empty folder
@@ -135,6 +148,14 @@ tries_the_package_for_npm() {
         tools/gate/check_js.sh "$there/node_modules/cellarcove" "$minutes"
 }
 
+# The same package with the WebAssembly that Rattle made, in Node and on the page.
+tries_the_proved_wasm() {
+    local there minutes=1
+    [ "$quick" = no ] || minutes=0.05
+    there=$(empty proved) && tar -xzf "$files/cellarcove-$version.tgz" -C "$there" && cp "$files/cellarcove-$version-proved.wasm" "$there/package/cellarcove.wasm" &&
+        tools/gate/check_js.sh "$there/package" "$minutes" --experimental-wasm-memory64
+}
+
 # The page, with the package that lies beside it.
 tries_the_page() {
     local there top=cellarcove-try-$version
@@ -149,28 +170,30 @@ tries_the_sources() {
 
 # ---- the notes
 
+row() { echo "| \`$1\` | $(stat -c %s "$files/$1") | $2 |"; }
+
 # notes: what is in the folder, what was tried, and the part of CHANGELOG.md on this version.
 notes() {
     echo "# Cellarcove $version"
     printf '\nOf commit %s. The static library in the archive for C and in the wheel was made by %s.\n\n' "$commit" "$(cat "$work/one/clone/bindings/out/made_by")"
-    echo '| file | what it is |'
-    echo '|---|---|'
-    echo "| \`cellarcove-$version.crate\` | the package for cargo |"
-    echo "| \`num-integer-$original.crate\` | the package of the name of the original, over the first one unpacked beside it, for \`[patch.crates-io]\` |"
-    echo "| \`$(cd "$files" && echo *.whl)\` | the wheel for pip |"
-    echo "| \`cellarcove-$version.tar.gz\` | the source distribution for pip, which cargo builds |"
-    echo "| \`cellarcove-c-$version-$machine.tar.gz\` | headers and libraries for C and C++, for pkg-config and CMake |"
-    echo "| \`cellarcove-$version.tgz\` | the package for npm, of WebAssembly that cargo made |"
-    echo "| \`cellarcove-try-$version.tar.gz\` | a page on which a call is tried, for any web server |"
-    echo "| \`cellarcove-$version-source.tar.gz\` | all sources |"
+    printf '| file | bytes | what it is |\n|---|---|---|\n'
+    row "cellarcove-$version.crate" 'the package for cargo'
+    row "num-integer-$original.crate" 'the package of the name of the original, over the first one unpacked beside it, for `[patch.crates-io]`'
+    row "$(cd "$files" && echo *.whl)" 'the wheel for pip'
+    row "cellarcove-$version.tar.gz" 'the source distribution for pip, which cargo builds'
+    row "cellarcove-c-$version-$machine.tar.gz" 'headers and libraries for C and C++, for pkg-config and CMake'
+    row "cellarcove-$version.tgz" 'the package for npm, of WebAssembly that cargo made'
+    [ ! -e "$files/cellarcove-$version-proved.wasm" ] || row "cellarcove-$version-proved.wasm" 'the WebAssembly that Rattle made, for the same package'
+    row "cellarcove-try-$version.tar.gz" 'a page on which a call is tried, for any web server'
+    row "cellarcove-$version-source.tar.gz" 'all sources'
     printf '\n`.ci/run` has passed:\n\n'
     grep -E '^(rt: ok|gate: |check_[a-z_]+\.sh: )' out/passed | sed 's/^/- /'
     printf '\nWhat was tried of these files:\n\n'
     sed 's/^/- /' "$work/said"
     [ "$quick" = no ] || printf -- '- %s: left out\n' \
-        'the second suite of seeded bugs, the first lines of both suites, each guard taken out, and most tests of the package for cargo'
+        'the targets that need qemu, the second suite of mutants, the first lines of both suites, each guard taken out, and most tests of the package for cargo'
     printf '\n## Changes\n'
-    sed -n "/^## $version\$/,/^## /p" "$work/one/clone/CHANGELOG.md" | sed '/^## /d'
+    sed -n "/^## $version (/,/^## /p" "$work/one/clone/CHANGELOG.md" | sed '/^## /d'
 }
 
 # tried NAME COMMAND..: a check whose line is for the notes too.
@@ -193,12 +216,15 @@ tried 'the wheel is installed in a fresh environment and tested' tries_the_wheel
 tried 'the source distribution is installed in a fresh environment, and its tests pass' tries_the_source_distribution
 tried 'a program in C is built by pkg-config, with the shared library and with the archive' tries_c
 tried 'the package for npm is installed, tested and called at random' tries_the_package_for_npm
+[ ! -e "$files/cellarcove-$version-proved.wasm" ] || tried 'the WebAssembly that Rattle made is tested and called at random' tries_the_proved_wasm
 tried 'the page is served, and calls are tried on it' tries_the_page
 tried 'the sources are those of the commit' tries_the_sources
 if [ "$quick" = no ]; then
+    tools/gate/install_packages.sh --all || true
+    tried 'the tests of the crate, and each call for C, on the targets of docs/PLATFORMS.md' tools/gate/check_targets.sh --all
     tried 'each guard of plain Rust that is taken out is missed by a test' tools/cellarcove check guards
-    tried 'the first line of each seeded bug is true' tools/cellarcove check wrong_lines
-    tried "the second suite of $(ls crates/*/must-fail-release/*.edit | wc -l) seeded bugs is rejected" tools/gate/check_must_fail_release.sh
+    tried 'the first line of each mutant is true' tools/cellarcove check wrong_lines
+    tried "the second suite of $(ls crates/*/must-fail-release/*.edit | wc -l) mutants is rejected" tools/gate/check_must_fail_release.sh
 fi
 if finish; then
     mkdir -p "$folder" && cp "$files"/* "$work/one/SHA256SUMS" "$folder" && notes >"$folder/NOTES.md" && ls -l "$folder"

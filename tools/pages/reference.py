@@ -20,7 +20,7 @@ from tools import ROOT
 CRATES = ROOT / 'crates'
 PAGES = ROOT / 'docs' / 'reference'
 TOOLCHAIN = ROOT / 'rust' / 'by_hand' / 'definitions.md'
-NAMES = ('theorems', 'theorems_by_subject', 'callers', 'integer_core', 'integer_roots', 'num_integer', 'modular', 'ratio64', 'calendar', 'applied', 'cellarcove_c')
+NAMES = ('theorems', 'theorems_by_subject', 'callers', 'integer_core', 'integer_roots', 'num_integer', 'modular', 'ratio64', 'calendar', 'bounded_integers', 'applied', 'cellarcove_c')
 # All public items of these are those of num_integer, on whose page they are.
 BELOW = {'integer_core': 'num_integer', 'integer_roots': 'num_integer'}
 BY_FILE = {'cellarcove_c', 'theorems', 'theorems_by_subject', 'callers'}   # nobody imports them: their public items are those of their files
@@ -215,9 +215,8 @@ class Reference:
             declared = '.'.join(('Rattle', module.crate, 'specs', 'declared') + module.path + (name,))
             variants = f", `ghost use {declared}.TheVariants.{{..}};`" * (kind == 'enum')
             page.add(f'In a clause: `ghost use {declared}.{{{name}}};`{variants}', '')
-        if kind == 'fn':
-            path = '::'.join((page.name,) + (() if page.name in BY_FILE else place))
-            self.calls.append((title.strip('`').split('::')[-1], title.strip('`'), path, f'{page.name}.md#{anchor}', first_sentence(doc)))
+        if kind == 'fn' and page.name not in BY_FILE:
+            self.calls.append((name, title.strip('`'), '::'.join((page.name, *place)), f'{page.name}.md#{anchor}', first_sentence(doc)))
         self.links(page, code, imports_of(module.source, module.items) | imports_of(module.source, inner))
 
     # ---- definitions, laws and lemmas
@@ -274,8 +273,7 @@ class Reference:
         return {name: re.sub(r'\n{3,}', '\n\n', text).rstrip('\n') + '\n' for name, text in pages.items()}
 
     def index(self) -> str:
-        rows = [f'| [`{title}`]({link}) | `{path}` | {said} |' for _, title, path, link, said in sorted(self.calls)
-                if link.split('.md')[0] not in BY_FILE]
+        rows = [f'| [`{title}`]({link}) | `{path}` | {said} |' for _, title, path, link, said in sorted(self.calls)]
         return '\n'.join(['# All functions', '', *wrapped(INDEX, 110), '', '| function | import from | what it does |', '|---|---|---|', *rows])
 
     def front(self) -> str:
@@ -323,17 +321,18 @@ def lemmas(text: str) -> dict[str, tuple[str, str]]:
     modules: list[tuple[int, str]] = []
     lines = text.split('\n')
     for i, line in enumerate(lines):
-        margin = len(line) - len(line.lstrip(' '))
-        if not line.strip():
+        bare = line.lstrip(' ')
+        margin = len(line) - len(bare)
+        if not bare:
             comment = []
             continue
         modules = [(depth, head) for depth, head in modules if depth < margin]
-        if line.lstrip(' ').startswith('-- '):
-            comment = comment + [line.lstrip(' ')[3:]] if not line.lstrip(' ').startswith('-- ---- ') else []
+        if bare.startswith('-- '):
+            comment = comment + [bare[3:]] if not bare.startswith('-- ---- ') else []
             continue
-        match = LEMMA.match(line.lstrip(' '))
+        match = LEMMA.match(bare)
         if match:
-            stated = [re.sub(r'\bpub ', '', line.lstrip(' '), count=1)]
+            stated = [re.sub(r'\bpub ', '', bare, count=1)]
             for more in lines[i + 1:]:
                 if len(more) - len(more.lstrip(' ')) <= margin:
                     break
@@ -341,7 +340,7 @@ def lemmas(text: str) -> dict[str, tuple[str, str]]:
             indent = '    ' * bool(modules)
             found[match.group(1) or match.group(2)] = (
                 ' '.join(comment), '\n'.join([head for _, head in modules] + [indent + line for line in stated]))
-        elif line.lstrip(' ').startswith('module _ '):
+        elif bare.startswith('module _ '):
             modules.append((margin, line.strip()))
         for name, other in RENAMED.findall(line):
             found[other] = (' '.join(comment), f'{other} = {name}')

@@ -1,6 +1,4 @@
 """Samples: libraries of which some files have a text, what the scripts make of them, and the lists of golden/."""
-from __future__ import annotations
-
 import re
 import subprocess
 import tempfile

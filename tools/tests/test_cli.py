@@ -11,8 +11,8 @@ PARTS = [part for parts in cli.PARTS.values() for name, part in parts.items() if
 
 @pytest.mark.parametrize('part', PARTS)
 def test_parts(part: cli.Part) -> None:
-    if isinstance(part.function, str):
-        name, function = part.function.split(':')
+    if ' ' not in part.runs:
+        name, function = part.runs.split(':')
         assert callable(getattr(importlib.import_module(name), function))
 
 

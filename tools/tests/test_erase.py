@@ -2,13 +2,19 @@
 
 The pairs of tools/tests/golden are sources of Rattle, in files that the prover does not take for its own, and the Rust that is made
 of them. A file is named for its crate and for what it shows."""
-from __future__ import annotations
-
+import re
 from pathlib import Path
 
 import pytest
+
+from tools import write
+from tools.erase import documentation, examples
+from tools.erase.additions import Additions
+from tools.erase.callers import Callers
+from tools.erase.library import ROOT
 from tools.erase.source import Unknown
 from tools.tests import samples
+
 
 # What a crate other than `integer_core` needs of that one.
 INTEGER = 'pub trait Integer: Copy + Num {}\n'
@@ -31,3 +37,75 @@ def test_forms_that_are_not_known(refusal: str, text: str) -> None:
     with pytest.raises(Unknown) as refused:
         samples.erased(crate, {crate: text})
     assert str(refused.value) == f'crates/{crate}/src/lib.rt:{reason}'
+
+
+# ---- the functions of golden/callers that get `#[track_caller]`: those that have it, but for the one in guards.rs, which has it by hand
+
+def test_functions_on_the_way_to_a_panic(tmp_path: Path) -> None:
+    wanted = {f'made/src/{file.name}': file.read_text() for file in (samples.GOLDEN / 'callers').glob('*.rs')}
+    without = {name: re.sub(r' *#\[track_caller\]\n', '', text) for name, text in wanted.items() if not name.endswith('guards.rs')}
+    write(tmp_path, wanted | without)
+    Callers(tmp_path / 'made').put()
+    for name, text in wanted.items():
+        assert (tmp_path / name).read_text().split() == text.split()
+
+
+# ---- what is by hand in a made file
+
+MADE, BY_HAND, JOINED = ((samples.GOLDEN / f'additions/{name}.rs').read_text() for name in ('made', 'by_hand', 'joined'))
+
+
+def additions(folder: Path, text: str) -> Additions:
+    (folder / 'row.rs').write_text(text)
+    return Additions(folder)
+
+
+def test_a_function_takes_the_place_of_the_made_one(tmp_path: Path) -> None:
+    text, note = additions(tmp_path, BY_HAND).add('row.rs', MADE)
+    assert text == JOINED
+    assert note == '// It also has what rust/by_hand/src/row.rs adds, and next, sum as they stand there.\n'
+
+
+@pytest.mark.parametrize('made', ['use crate::one;\nfn high() {}\n', 'fn high() {}\nfn low() {}\n'])
+def test_a_file_that_has_each_function_is_the_whole_file(tmp_path: Path, made: str) -> None:
+    by_hand = 'use crate::two;\nfn high() { two() }\nfn refuse() {}\n'
+    text, note = additions(tmp_path, by_hand).add('row.rs', made)
+    assert (text == by_hand) == ('low' not in made)
+    assert ('each function' in note) == ('low' not in made)
+
+
+def test_a_file_with_another_path_is_a_module(tmp_path: Path) -> None:
+    there = additions(tmp_path, BY_HAND)
+    assert there.add('column.rs', MADE) == (MADE, '')
+    assert there.modules() == {'row.rs': BY_HAND}
+    there.add('row.rs', MADE)
+    assert there.modules() == {}
+
+
+# ---- the examples of the Rust crate, and its pages of contracts and of their words
+
+@pytest.mark.parametrize('sentence, wanted', samples.cases('assertions'))
+def test_assertion(sentence: str, wanted: str) -> None:
+    (pair,) = examples.SENTENCE.findall(sentence)
+    assert examples.assertion(*pair) == wanted.splitlines()
+
+
+def test_comment_of_the_reference() -> None:
+    lines = ['Returns the half.', '', '# Panics', '', 'In plain Rust, if it is', 'odd.', '', '# Errors', '', '- `Odd` never.']
+    assert documentation.of_rattle(lines) == ['Returns the half.', '', 'Plain Rust panics if it is odd.', '', 'Errors:', '', '- `Odd` never.']
+
+
+def test_contracts(tmp_path: Path) -> None:
+    golden = dict(samples.cases('contracts'))
+    rust, page = samples.erased(ROOT, {ROOT: golden['lib.rt'], f'{ROOT}/specs/Words.antt': golden['specs/Words.antt']})
+    assert '/// Returns the half.\n///\n/// [Contract](crate::definitions::contracts#half)\n' in rust
+    assert '/// A number with a half.\n///\n/// [Laws](crate::definitions::contracts#half)\n' in rust
+    write(tmp_path, {'contracts.md': 'Contracts.\n', 'definitions.md': 'Words: `ℕ`.\n', f'definitions/{ROOT}.md': 'Words of coefficients and checked calls.\n'})
+    with pytest.raises(Unknown, match='one anchor for `Half`, `half`'):
+        documentation.pages(page, tmp_path)
+    page.contracts[()][1] = ('`Halved`', page.contracts[()][1][1])
+    for name, (_, text) in documentation.pages(page, tmp_path).items():
+        assert text == golden[name]
+    (tmp_path / 'definitions.md').write_text('No words.\n')
+    with pytest.raises(Unknown, match='definitions.md: no ℕ'):
+        documentation.pages(page, tmp_path)

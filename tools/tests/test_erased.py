@@ -1,6 +1,4 @@
 """The checker tools/checks/erased.py on small files, and on random changes of a token of the made crate."""
-from __future__ import annotations
-
 import random
 from pathlib import Path
 

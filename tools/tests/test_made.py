@@ -9,7 +9,7 @@ import pytest
 
 from tools import ROOT, as_made, write
 from tools.bindings import exports, files, python
-from tools.pages import reference
+from tools.pages import picture, reference
 from tools.tests import samples
 
 
@@ -77,3 +77,12 @@ def test_as_made(tmp_path: Path) -> None:
     assert not as_made(tmp_path, {'a/b': 'other\n'})
     assert not as_made(tmp_path, {'a/b': None})
     assert write(tmp_path, {'a/b': None}) and as_made(tmp_path, {'a/b': None})
+
+
+def test_picture() -> None:
+    page = (ROOT / 'docs/TRUST.md').read_text()
+    drawn = picture.picture(page)
+    assert drawn.count('<line ') == len(picture.ROW.findall(page)) > 0
+    assert drawn != picture.picture(page.replace('**proved**', '**tested**'))
+    with pytest.raises(KeyError):
+        picture.picture(page.replace('| contracts | Rattle source', '| contract | Rattle source'))

@@ -5,7 +5,7 @@ import {test} from 'node:test';
 import {inspect} from 'node:util';
 import {CALLS, camel, cellarcove, judge, rows} from './rows.js';
 
-const {Fraction, PlainDate, Refused, Status, VERSION, attempt: _, ...calls} = cellarcove;
+const {BUILT_BY, Fraction, PlainDate, Refused, Status, VERSION, attempt: _, ...calls} = cellarcove;
 const {checkedDifference, divModFloor, easter, fractionAdd, gcd, gcdOf, inverseModulo, isLeapYear, isoWeek, lcm, nthRoot, plusMonths, shares, tryLcm} = calls;
 const {choiceOfRank, daysBetween, daysInMonth, fractionCmp, isPerfectPower, powerModulo, tryFractionAdd, tryPlusMonths, weekday} = calls;
 const found = [];
@@ -104,8 +104,8 @@ test('arrays', () => {
   assert.deepEqual(gcd(x, 0).value[2], 7n);
 });
 
-test('the examples of the page hold', () => {
-  const page = readFileSync(new URL('../README.md', import.meta.url), 'utf8').split('```js\n')[1].split('```')[0];
+for (const name of ['README.md', 'docs/JAVASCRIPT.md', 'docs/COOKBOOK.md', 'bindings/js/README.md']) test(`the examples of ${name} hold`, () => {
+  const page = readFileSync(new URL(`../../../${name}`, import.meta.url), 'utf8').split('```js\n')[1].split('```')[0];
   for (const [, expression, said] of page.matchAll(/^(?!import)(.*); +\/\/ (.*)$/gm)) {
     let value;
     try {
@@ -119,4 +119,5 @@ test('the examples of the page hold', () => {
 
 test('the version is that of the package', () => {
   assert.equal(VERSION, JSON.parse(readFileSync(new URL('../package.json', import.meta.url), 'utf8')).version);
+  assert.equal(BUILT_BY, process.execArgv.includes('--experimental-wasm-memory64') ? 'rattle' : 'cargo');
 });

@@ -4,7 +4,6 @@
 
 import array
 import ast
-import calendar
 import copy
 import ctypes
 import datetime
@@ -27,8 +26,9 @@ import cellarcove
 from cellarcove import Date, DivisionByZero, NotFitting, Refused, Status
 
 HERE = pathlib.Path(__file__).resolve().parent
+ROOT = HERE.parents[2]
 # A source distribution has the first of these pages.
-PAGES = [page for page in (HERE.parent / 'README.md', HERE.parents[1] / 'README.md', HERE.parents[2] / 'docs/COOKBOOK.md') if page.exists()]
+PAGES = [HERE.parent / 'README.md', *(ROOT / name for name in ('README.md', 'docs/PYTHON.md', 'docs/COOKBOOK.md') if (ROOT / 'bindings').is_dir())]
 ROW_NAMES = {**vars(cellarcove), 'array': array.array, 'copy': copy, 'date': datetime.date, 'Fraction': Fraction, 'Decimal': Decimal,
              'SimpleNamespace': types.SimpleNamespace, 'addressof': ctypes.addressof, 'c_char': ctypes.c_char}
 random.seed(64)
@@ -80,18 +80,6 @@ class Small(unittest.TestCase):
             self.assertEqual([cellarcove.choice_of_rank(rank, n, count) for rank in range(len(choices))], choices)
             with self.assertRaisesRegex(Refused, 'OUTSIDE'):
                 cellarcove.choice_of_rank(len(choices), n, count)
-
-    def test_weekdays_of_months(self):
-        for year, month in itertools.product((1900, 2000, 2026, 2028), range(1, 13)):
-            self.assertEqual(cellarcove.is_leap_year(year), calendar.isleap(year))
-            self.assertEqual(cellarcove.days_in_month(year, month), calendar.monthrange(year, month)[1])
-            dates = [date for date in calendar.Calendar().itermonthdates(year, month) if date.month == month]
-            for weekday in range(1, 8):
-                days = [date for date in dates if date.isoweekday() == weekday]
-                self.assertEqual(cellarcove.last_weekday_of_month(year, month, weekday).to_date(), days[-1])
-                self.assertEqual([cellarcove.nth_weekday_of_month(year, month, weekday, n + 1).to_date() for n in range(len(days))], days)
-                with self.assertRaisesRegex(Refused, 'NO_DATE'):
-                    cellarcove.nth_weekday_of_month(year, month, weekday, len(days) + 1)
 
 
 class Dates(unittest.TestCase):

@@ -1,4 +1,4 @@
-"""Looks at a wheel.
+"""Looks at a wheel: it names its licences as the version of its metadata does, and has their texts.
 
     test_wheel.py WHEEL
 """
@@ -6,27 +6,15 @@ import email
 import pathlib
 import re
 import sys
-import unittest
 import zipfile
 
-WHEEL = pathlib.Path(sys.argv.pop(1))
-
-
-class Wheel(unittest.TestCase):
-    def test_information(self):
-        """It names its licences as the version of its metadata does, and has their texts."""
-        wheel = zipfile.ZipFile(WHEEL)
-        name, version, tag = re.fullmatch(r'(\w+)-([0-9.]+)-(.*)\.whl', WHEEL.name).groups()
-        folder = f'{name}-{version}.dist-info'
-        description = email.message_from_bytes(wheel.read(f'{folder}/METADATA'))
-        self.assertEqual((description['Metadata-Version'], description['Name'], description['Version']), ('2.4', name, version))
-        self.assertEqual((description['License-Expression'], description['License']), ('MIT OR Apache-2.0', None))
-        self.assertEqual(description.get_all('License-File'), ['LICENSE-APACHE', 'LICENSE-MIT'])
-        for licence in description.get_all('License-File'):
-            self.assertIn(f'{folder}/licenses/{licence}', wheel.namelist())
-        self.assertRegex(tag, '^cp39-abi3-')
-        self.assertIn(f'Tag: {tag}\n', wheel.read(f'{folder}/WHEEL').decode())
-
-
-if __name__ == '__main__':
-    unittest.main()
+path = pathlib.Path(sys.argv[1])
+wheel = zipfile.ZipFile(path)
+name, version, tag = re.fullmatch(r'(\w+)-([0-9.]+)-(cp39-abi3-.*)\.whl', path.name).groups()
+folder = f'{name}-{version}.dist-info'
+description = email.message_from_bytes(wheel.read(f'{folder}/METADATA'))
+fields = {field: description.get_all(field) for field in ('Metadata-Version', 'Name', 'Version', 'License-Expression', 'License', 'License-File')}
+licences = ['LICENSE-APACHE', 'LICENSE-MIT']
+assert list(fields.values()) == [['2.4'], [name], [version], ['MIT OR Apache-2.0'], None, licences], fields
+assert {f'{folder}/licenses/{licence}' for licence in licences} <= set(wheel.namelist()), wheel.namelist()
+assert f'Tag: {tag}\n' in wheel.read(f'{folder}/WHEEL').decode(), tag

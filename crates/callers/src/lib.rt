@@ -18,6 +18,7 @@
 //! | `lists.rt` | `applied`: multiples and sums of lists, reduced pairs, a rolling hash |
 //! | `rounding.rt` | `applied`: nearest quotients, roots, powers, logarithms, midpoints, factorials |
 //! | `amounts.rt` | a divisor that is computed in the call, a wider type and back, equal parts |
+//! | `bounded.rt` | `bounded_integers`: minutes of a day, amounts in cents |
 //! | `divisors.rt` | sums of divisors, first common multiples, a bound of a gcd |
 //! | `powers.rt` | `modular`: powers as natural numbers, sums of exponents |
 //! | `tasks.rt` | everyday tasks: pages of items, a cipher, amounts of money, a recipe, a line of bytes |
@@ -29,6 +30,7 @@
 #![tactic(auto)]
 
 pub mod amounts;
+pub mod bounded;
 pub mod combinations;
 pub mod dates;
 pub mod decimals;

@@ -48,7 +48,8 @@ pub struct U64Range {
     pub end: u64,
 }
 
-/// Returns the smallest number of pages that hold all items. For 10 and 4 it is 3.
+/// Returns the smallest number of pages that hold all items. For 10 and 4 it is 3. A negative number of
+/// items has the same rule: for -9 and 4 it is -2.
 ///
 /// `OUTSIDE` if `page_size` is not positive.
 #[unsafe(no_mangle)]
@@ -76,7 +77,8 @@ pub extern "C" fn cellarcove_pages_u64(items: u64, page_size: u64) -> U64Answer
     }
 }
 
-/// Returns the page of an item, and its place on the page. Those of -1 and 4 are -1 and 3.
+/// Returns the page of an item, and its place on the page, all counted from 0. Those of -1 and 4 are -1
+/// and 3.
 ///
 /// `OUTSIDE` if `page_size` is not positive.
 #[unsafe(no_mangle)]
@@ -93,7 +95,8 @@ pub extern "C" fn cellarcove_place_of_i64(item: i64, page_size: i64) -> I64Place
     }
 }
 
-/// Returns the page of an item, and its place on the page. Those of 10 and 4 are 2 and 2.
+/// Returns the page of an item, and its place on the page, all counted from 0. Those of 10 and 4 are 2
+/// and 2.
 ///
 /// `OUTSIDE` if `page_size` is 0.
 #[unsafe(no_mangle)]
@@ -110,7 +113,7 @@ pub extern "C" fn cellarcove_place_of_u64(item: u64, page_size: u64) -> U64Place
     }
 }
 
-/// Returns the item at a place of a page. For -1, 3 and 4 it is -1.
+/// Returns the item at a place of a page, all counted from 0. For -1, 3 and 4 it is -1.
 ///
 /// `OUTSIDE` if `place` is negative or not below `page_size`. `NOT_FITTING` if the item does not fit.
 #[unsafe(no_mangle)]
@@ -126,7 +129,7 @@ pub extern "C" fn cellarcove_item_at_i64(page: i64, place: i64, page_size: i64) 
     I64Answer::of(item_at(page, place, page_size), NOT_FITTING)
 }
 
-/// Returns the item at a place of a page. For 2, 2 and 4 it is 10.
+/// Returns the item at a place of a page, all counted from 0. For 2, 2 and 4 it is 10.
 ///
 /// `OUTSIDE` if `place` is not below `page_size`. `NOT_FITTING` if the item does not fit.
 #[unsafe(no_mangle)]
@@ -143,7 +146,8 @@ pub extern "C" fn cellarcove_item_at_u64(page: u64, place: u64, page_size: u64) 
 }
 
 /// Returns the first item of a page and its end, which is one past its last item, if there are `items`
-/// items. Both are `items` if no item is on the page. Those of 2, 4 and 10 are 8 and 10.
+/// items. Items and pages are counted from 0. Both are `items` if no item is on the page. Those of 2, 4
+/// and 10 are 8 and 10.
 ///
 /// `OUTSIDE` if `page_size` is not positive or `items` is negative.
 #[unsafe(no_mangle)]
@@ -160,7 +164,8 @@ pub extern "C" fn cellarcove_range_of_page_i64(page: i64, page_size: i64, items:
 }
 
 /// Returns the first item of a page and its end, which is one past its last item, if there are `items`
-/// items. Both are `items` if no item is on the page. Those of 2, 4 and 10 are 8 and 10.
+/// items. Items and pages are counted from 0. Both are `items` if no item is on the page. Those of 2, 4
+/// and 10 are 8 and 10.
 ///
 /// `OUTSIDE` if `page_size` is 0.
 #[unsafe(no_mangle)]
@@ -177,8 +182,8 @@ pub extern "C" fn cellarcove_range_of_page_u64(page: u64, page_size: u64, items:
 }
 
 /// Returns the first item of a part and its end, which is one past its last item, if `items` items are
-/// split into `parts` parts. Each part is as large as the part before it, or smaller by 1. Those of 1,
-/// 3 and 10 are 4 and 7.
+/// split into `parts` parts. Items and parts are counted from 0. Each part is as large as the part before
+/// it, or smaller by 1. Those of 1, 3 and 10 are 4 and 7.
 ///
 /// `OUTSIDE` if `part` or `items` is negative, or `part` is not below `parts`.
 #[unsafe(no_mangle)]
@@ -195,8 +200,8 @@ pub extern "C" fn cellarcove_range_of_part_i64(part: i64, parts: i64, items: i64
 }
 
 /// Returns the first item of a part and its end, which is one past its last item, if `items` items are
-/// split into `parts` parts. Each part is as large as the part before it, or smaller by 1. Those of 1,
-/// 3 and 10 are 4 and 7.
+/// split into `parts` parts. Items and parts are counted from 0. Each part is as large as the part before
+/// it, or smaller by 1. Those of 1, 3 and 10 are 4 and 7.
 ///
 /// `OUTSIDE` if `part` is not below `parts`.
 #[unsafe(no_mangle)]

@@ -12,3 +12,4 @@ pub mod GcdRuns
 pub mod Least
 pub mod Checked
 pub mod Padded
+pub mod Narrowing

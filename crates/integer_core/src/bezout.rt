@@ -9,9 +9,9 @@ ghost use Rattle.integer_core.specs.Only.{IsOnly};
 ghost use Rattle.integer_core.specs.Runs.{RunHasIterations};
 
 use crate::Integer;
+use crate::fitting::{difference, negated, product};
 use crate::guards::check_pair;
 use crate::operators::{is_negative, is_zero, one, zero};
-use crate::fitting::{difference, negated, product};
 
 /// A greatest common divisor with Bezout's coefficients: for the operands `a` and `b`, `a * x + b * y`
 /// equals `gcd`. `240.extended_gcd(&46)` is `ExtendedGcd { gcd: 2, x: -9, y: 47 }`.

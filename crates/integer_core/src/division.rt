@@ -4,9 +4,9 @@ ghost use Rattle.std.specs.Prelude.{◌≢◌, ◌↔◌, ◌⊎◌, ◌≤ℤ�
 ghost use Rattle.integer_core.specs.Division.{IsFloored, IsQuotient, IsTruncated};
 ghost use Rattle.integer_core.specs.Range.{EachFits};
 
+use crate::fitting::{predecessor, sum};
 use crate::native::Native;
 use crate::operators::{is_negative, is_zero, quotient, remainder};
-use crate::fitting::{predecessor, sum};
 use num_traits::Num;
 
 /// Returns the quotient rounded toward zero, and its remainder.

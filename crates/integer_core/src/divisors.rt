@@ -3,9 +3,9 @@
 ghost use Rattle.std.specs.Prelude.{◌↔◌, IsTrue};
 ghost use Rattle.integer_core.specs.Divisors.{Divides, IsEven};
 
+use crate::fitting::sum;
 use crate::native::Native;
 use crate::operators::{is_minus_one, is_zero, one, remainder};
-use crate::fitting::sum;
 
 /// Returns `true` if `d` divides `n`.
 pub(crate) fn is_multiple_of<T: Native>(n: T, d: T) -> bool

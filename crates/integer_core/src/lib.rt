@@ -11,13 +11,14 @@ mod bezout;
 pub mod counted;
 mod division;
 mod divisors;
+pub mod fitting;
 pub mod guards;
+pub mod narrowing;
 mod native;
 mod native_integer;
 #[doc(hidden)]
 pub mod operators;
 pub mod padded;
-pub mod fitting;
 mod stein;
 
 pub use bezout::ExtendedGcd;

@@ -5,8 +5,8 @@ ghost use Rattle.std.specs.Int.{w8, w16, w32, w64, w128};
 ghost use Rattle.std.proofs.Common.{lit≤};
 ghost use Rattle.integer_core.specs.NativeRanges.{IsNative, signed_native, unsigned_native};
 
-use crate::operators::{is_negative, zero};
 use crate::fitting::{difference, successor};
+use crate::operators::{is_negative, zero};
 use crate::stein::Magnitude;
 use num_traits::{AsPrimitive, Bounded, CheckedAdd, CheckedMul, CheckedSub, FixedWidth, Num};
 

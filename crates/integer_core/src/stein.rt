@@ -230,7 +230,7 @@ fn odd_gcd(a: u64, b: u64) -> (u64, u32)
 }
 
 /// Returns both numbers as `u64`, or `None` if one of them does not fit.
-fn at_64_bits<M: Magnitude>(m: M, n: M) -> Option<(u64, u64)>
+fn both_in_64_bits<M: Magnitude>(m: M, n: M) -> Option<(u64, u64)>
     ensures { MatchOption result
         (2 ^ 64 ≤ unsigned_abs (M.value m) ⊎ 2 ^ 64 ≤ unsigned_abs (M.value n))
         (λ pair. (pair.0 ≡ unsigned_abs (M.value m)) × (pair.1 ≡ unsigned_abs (M.value n))) }
@@ -243,7 +243,7 @@ fn differ_beyond_64_bits<M: Magnitude>(m: M, n: M) -> bool
     ensures { IsTrue result ↔ ((unsigned_abs (M.value m) ≢ unsigned_abs (M.value n))
         × (2 ^ 64 ≤ unsigned_abs (M.value m) ⊎ 2 ^ 64 ≤ unsigned_abs (M.value n))) }
 {
-    m != n && at_64_bits(m, n).is_none()
+    m != n && both_in_64_bits(m, n).is_none()
 }
 
 /// Returns the greatest common divisor of two odd numbers, and the number of iterations. The loop goes
@@ -262,7 +262,7 @@ fn narrowing_gcd<M: Magnitude>(a: M, b: M) -> (M, u32)
         (m, n) = next_pair(m, n);
         iterations += 1;
     }
-    match at_64_bits(m, n) {
+    match both_in_64_bits(m, n) {
         Some((x, y)) => {
             let (gcd, rest) = odd_gcd(x, y);
             (M::from_64_bits(gcd), iterations + rest)

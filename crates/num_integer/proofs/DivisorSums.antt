@@ -1,5 +1,5 @@
 -- Sums of divisors, a number further at a time.
-use Rattle.num_integer.proofs.Common.{◌≡◌, ◌+◌, ◌≤◌, ◌<◌, ℕ, pos, zero, suc, Divides, IsOnly, add-one, ap, arith, inl, inr, refl, sym, ints}
+use Rattle.num_integer.proofs.Common.{◌≡◌, ◌+◌, ◌<◌, ℕ, pos, zero, suc, Divides, add-one, arith, inl, inr, refl, ints}
 use Rattle.integer_core.proofs.Divisibility.{divides_or_not}
 use Rattle.integer_core.proofs.DivisorSizes.{divisor_at_most}
 use Rattle.num_integer.specs.DivisorSums.{IsSumOfDivisorsTo}

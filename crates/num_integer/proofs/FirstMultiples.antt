@@ -1,5 +1,5 @@
 -- Least common multiples are the first positive common multiples, and greatest common divisors are bounded.
-use Rattle.num_integer.proofs.Common.{◌≢◌, ◌↔◌, ◌<◌, ◌≤◌, ◌^◌, ℕ, ℤ, pos, Option, Some, None, FitsUnsignedBits, unsigned_abs, Divides, EachFits, IsGreatestCommonDivisor, IsLeastCommonMultiple, arith, inl, inr, ints, linear, lcm_exists, subst, sym, cases_lt}
+use Rattle.num_integer.proofs.Common.{◌≢◌, ◌<◌, ◌≤◌, ◌^◌, ℕ, ℤ, pos, Option, Some, None, FitsUnsignedBits, Divides, EachFits, IsGreatestCommonDivisor, IsLeastCommonMultiple, arith, inl, inr, ints, linear, lcm_exists, subst, sym, cases_lt}
 use Rattle.std.specs.Prelude.{MatchOption}
 use Rattle.integer_core.proofs.DivisorSizes.{divisor_at_most, gcd_at_most, lcm-positive}
 use Rattle.integer_core.proofs.Least.{least_is_only}

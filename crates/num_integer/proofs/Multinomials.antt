@@ -1,6 +1,5 @@
 -- Multinomials: the product of the coefficients of the running sums, in any order, and the loops over counts.
-use Rattle.num_integer.proofs.Common.{◌≡◌, ◌+◌, ◌<◌, ◌≤◌, ◌≤ℤ◌, ◌+ℤ◌, ◌*ℤ◌, ◌↔◌, ◌*◌, ◌<ℤ◌, ◌-◌, All, AllWithin, swap, ◌∷◌, ℤ, pos, unsigned_abs, List, [], map, sum, length, get_or, drop, ℕ, zero, suc, Bool, true, false, Option, Some, None, IsTrue, is_some, set, ap, sym, ◌∙◌, arith, refl, subst, inl, inr, zero-add, le-mul_of_pos_right, mul-pos, eq_of_mul-eq-mul_left, cases_eq, ints, unsigned_abs-mul, comm, IsRange, EachFits, at_drop_all, at_drop_more, get_or-set_other, get_or-set_same, length-set, All-from_all_within, AllWithin-more, AllWithin-upto, at_read, cancel, fits_below, fits_up, product_from_zero}
-use Rattle.std.specs.Option.{MatchOption}
+use Rattle.num_integer.proofs.Common.{◌≡◌, ◌+◌, ◌<◌, ◌≤◌, ◌≤ℤ◌, ◌+ℤ◌, ◌*ℤ◌, ◌*◌, ◌-◌, All, AllWithin, swap, ◌∷◌, ℤ, pos, unsigned_abs, List, [], map, sum, length, get_or, drop, ℕ, zero, suc, set, ap, sym, ◌∙◌, arith, refl, subst, inl, inr, zero-add, le-mul_of_pos_right, mul-pos, eq_of_mul-eq-mul_left, cases_eq, ints, unsigned_abs-mul, comm, IsRange, EachFits, at_drop_all, at_drop_more, get_or-set_other, get_or-set_same, length-set, All-from_all_within, AllWithin-more, AllWithin-upto, at_read, cancel, fits_below, product_from_zero}
 use Rattle.std.proofs.lemmas.List.Edits.{swap_is}
 use Rattle.std.proofs.lemmas.List.Sorted.{IsPermutation-keeps, IsPermutation-map, sum_by-IsPermutation}
 use Rattle.std.proofs.lemmas.List.Sums.{sum_by-cons}
@@ -52,11 +51,6 @@ only_multinomial {counts} {m} h =
     cancel (pos factorials) m n (λ z. absurd (omega (arith, ints, factorials-pos (map unsigned_abs counts))))
     (comm (pos factorials) m ∙ h.factorials ∙ sym (is_multinomial counts).factorials ∙ comm n (pos factorials))
 
--- if the sum of two counts exceeds a bound, their coefficient does
-pub past_top : (t x m top : ℕ) → t < top → x < top → top ≤ t + x → 0 < m → top ≤ m * coefficient (t + x) x
-past_top t x m top t_below x_below past positive =
-    omega (arith, not_below_top (t + x) x (omega arith) (omega arith), le-mul_of_pos_right (coefficient (t + x) x) positive)
-
 -- ---- a loop over the counts
 
 -- the counts before the i-th are not negative and make up the total, and m is the product of their coefficients
@@ -95,7 +89,11 @@ module _ {X : Type 0} {value : X → ℤ} {counts : List X} where
       let up = λ (y : X). pos 0 ≤ℤ value y in
       (omega (arith, h.rest), All-from_all_within up counts (AllWithin-upto up counts 0 i (length counts) done h.from_zero))
 
--- ---- the loop of `multinomial`: no number on the way leaves the type
+-- ---- the loops of `multinomial` and of `checked::multinomial`: no number on the way leaves the type
+
+-- the condition of `multinomial`
+abbrev pub HasFittingMultinomial : {X : Type 0} → (ℤ → Type 0) → (X → ℤ) → List X → Type 0
+HasFittingMultinomial {X} fits value counts = All (λ (x : X). pos 0 ≤ℤ value x) counts × EachFits fits (IsMultinomial (map value counts))
 
 -- m is the multinomial and t the sum of the counts before the i-th
 pub record IsMultinomialSoFar {X : Type 0} (fits : ℤ → Type 0) (value : X → ℤ) (counts : List X) (i : ℕ) (m t : ℤ) : Type 0 where
@@ -104,6 +102,13 @@ pub record IsMultinomialSoFar {X : Type 0} (fits : ℤ → Type 0) (value : X �
   pub in_range : fits m
   pub from_zero : pos 0 ≤ℤ m
   pub shared : IsSharedSoFar value counts i (unsigned_abs t) (unsigned_abs m)
+
+-- an iteration fits: the count is not negative, and the sum, its coefficient and the product fit
+pub record IterationFits (fits : ℤ → Type 0) (m t x : ℤ) : Type 0 where
+  pub from_zero : pos 0 ≤ℤ x
+  pub total : fits (t +ℤ x)
+  pub ways : fits (coefficient_of (t +ℤ x) x)
+  pub multinomial : fits (m *ℤ coefficient_of (t +ℤ x) x)
 
 -- a sum is at most what bounds its numbers and its coefficient
 sum_at_most : (s t k most : ℕ) → s ≡ t + k → t ≤ most → k ≤ most → coefficient s k ≤ most → s ≤ most
@@ -115,94 +120,53 @@ module _ {X : Type 0} {fits : ℤ → Type 0} {value : X → ℤ} {counts : List
   multinomial_first m_fits one t_fits none =
       record { total_in_range = t_fits; total_from_zero = omega (arith, ints); in_range = m_fits; from_zero = omega (arith, ints); shared = rw (one, none) shared_first }
 
-  -- an iteration whose numbers fit
-  so_far_next : {i : ℕ} {x : X} {m t : ℤ} → i < length counts → x ≡ get_or counts i x → pos 0 ≤ℤ value x → fits (t +ℤ value x) → fits (m *ℤ coefficient_of (t +ℤ value x) (value x))
-      → IsMultinomialSoFar fits value counts i m t → IsMultinomialSoFar fits value counts (i + 1) (m *ℤ coefficient_of (t +ℤ value x) (value x)) (t +ℤ value x)
-  so_far_next {i} {x} {m} {t} inside at up t_fits m_fits h =
-      let c : ℤ = coefficient_of (t +ℤ value x) (value x) in
-      let sum : unsigned_abs (t +ℤ value x) ≡ unsigned_abs t + unsigned_abs (value x) = omega (arith, ints, h.total_from_zero) in
-      record {
-        total_in_range = t_fits;
-        total_from_zero = omega (arith, ints, h.total_from_zero);
-        in_range = m_fits;
-        from_zero = product_from_zero m c h.from_zero (omega (arith, ints));
-        shared = rw (unsigned_abs-mul m c, sum) (shared_next h.shared inside at up refl);
-      }
+  module _ {i : ℕ} {x : X} {m t : ℤ} (before : IsMultinomialSoFar fits value counts i m t) (inside : i < length counts) (at : x ≡ get_or counts i x) where
+    -- after an iteration at a count that is not negative
+    after : pos 0 ≤ℤ value x → IsSharedSoFar value counts (i + 1) (unsigned_abs (t +ℤ value x)) (unsigned_abs (m *ℤ coefficient_of (t +ℤ value x) (value x)))
+    after up =
+        let sum : unsigned_abs (t +ℤ value x) ≡ unsigned_abs t + unsigned_abs (value x) = omega (arith, ints, before.total_from_zero) in
+        rw (unsigned_abs-mul m (coefficient_of (t +ℤ value x) (value x)), sum) (shared_next before.shared inside at up refl)
 
-  -- after the last iteration
-  pub multinomial_last : {i : ℕ} {m t : ℤ} → IsMultinomialSoFar fits value counts i m t → length counts ≤ i → IsMultinomial (map value counts) m
-  multinomial_last h done =
-      subst (IsMultinomial (map value counts)) (omega (arith, ints, h.from_zero, (shared_last h.shared done).0)) (is_multinomial (map value counts))
+    -- whose numbers are these
+    pub multinomial_next : {t' c m' : ℤ} → pos 0 ≤ℤ value x → fits t' → t' ≡ t +ℤ value x → c ≡ coefficient_of t' (value x) → fits m' → m' ≡ m *ℤ c → IsMultinomialSoFar fits value counts (i + 1) m' t'
+    multinomial_next {c = c} up t_fits total ways m_fits next = record {
+      total_in_range = t_fits;
+      total_from_zero = omega (arith, ints, before.total_from_zero);
+      in_range = m_fits;
+      from_zero = rw next (product_from_zero m c before.from_zero (omega (arith, ints)));
+      shared = rw (next, ways, total) (after up);
+    }
 
-  -- an iteration, if the multinomial of all counts fits
-  pub multinomial_next : {low high : ℤ} {i : ℕ} {x : X} {m t : ℤ} → IsRange fits low high → EachFits fits (IsMultinomial (map value counts)) → i < length counts → x ≡ get_or counts i x
-      → All (λ (y : X). fits (value y)) counts → All (λ (y : X). pos 0 ≤ℤ value y) counts → IsMultinomialSoFar fits value counts i m t
-      → fits (coefficient_of (t +ℤ value x) (value x)) × IsMultinomialSoFar fits value counts (i + 1) (m *ℤ coefficient_of (t +ℤ value x) (value x)) (t +ℤ value x)
-  multinomial_next {high = high} {i = i} {x = x} {m = m} {t = t} range all_fits inside at in_range from_zero h =
-      let x_fits = rw (← at) at (in_range i x inside) in
-      let x_up = rw (← at) at (from_zero i x inside) in
-      let c : ℤ = coefficient_of (t +ℤ value x) (value x) in
-      let sum : unsigned_abs (t +ℤ value x) ≡ unsigned_abs t + unsigned_abs (value x) = omega (arith, ints, h.total_from_zero) in
-      let next : IsSharedSoFar value counts (i + 1) (unsigned_abs (t +ℤ value x)) (unsigned_abs (m *ℤ c)) = rw (unsigned_abs-mul m c, sum) (shared_next h.shared inside at x_up refl) in
-      let whole = all_fits _ (is_multinomial (map value counts)) in
-      let most = shared_below next in
-      let below : unsigned_abs c ≤ product_of (map value counts) = omega (arith, most, unsigned_abs-mul m c, le-mul_of_pos_right (unsigned_abs c) h.shared.positive) in
-      let product_up = product_from_zero m c h.from_zero (omega (arith, ints)) in
-      let t_in = (range.between t).0 h.total_in_range in
-      let x_in = (range.between (value x)).0 x_fits in
-      let whole_in = (range.between _).0 whole in
-      let few = sum_at_most (unsigned_abs (t +ℤ value x)) (unsigned_abs t) (unsigned_abs (value x)) (unsigned_abs high) sum (omega (arith, ints)) (omega (arith, ints)) (omega (arith, ints)) in (
-        fits_below range whole (omega (arith, ints)) (omega (arith, ints)),
-        so_far_next inside at x_up ((range.between _).1 (omega (arith, ints))) (fits_below range whole product_up (omega (arith, ints))) h,
-      )
+    -- an iteration fits if the multinomial of all counts does, and none is negative
+    pub iteration_fits : {low high : ℤ} → IsRange fits low high → All (λ (y : X). fits (value y)) counts → HasFittingMultinomial fits value counts → IterationFits fits m t (value x)
+    iteration_fits {high = high} range in_range (from_zero, all_fits) =
+        let x_up = rw (← at) at (from_zero i x inside) in
+        let c : ℤ = coefficient_of (t +ℤ value x) (value x) in
+        let whole = all_fits _ (is_multinomial (map value counts)) in
+        let most = shared_below (after x_up) in
+        let below : unsigned_abs c ≤ product_of (map value counts) = omega (arith, most, unsigned_abs-mul m c, le-mul_of_pos_right (unsigned_abs c) before.shared.positive) in
+        let t_in = (range.between t).0 before.total_in_range in
+        let x_in = (range.between (value x)).0 (rw (← at) at (in_range i x inside)) in
+        let whole_in = (range.between _).0 whole in
+        let sum : unsigned_abs (t +ℤ value x) ≡ unsigned_abs t + unsigned_abs (value x) = omega (arith, ints, before.total_from_zero) in
+        let few = sum_at_most (unsigned_abs (t +ℤ value x)) (unsigned_abs t) (unsigned_abs (value x)) (unsigned_abs high) sum (omega (arith, ints)) (omega (arith, ints)) (omega (arith, ints)) in
+        record {
+          from_zero = x_up;
+          total = (range.between _).1 (omega (arith, ints, before.total_from_zero));
+          ways = fits_below range whole (omega (arith, ints)) (omega (arith, ints));
+          multinomial = fits_below range whole (product_from_zero m c before.from_zero (omega (arith, ints))) (omega (arith, ints, product_from_zero m c before.from_zero (omega (arith, ints))));
+        }
 
--- ---- when a coefficient fits, and when a multinomial does
+  module _ {i : ℕ} {m t : ℤ} (before : IsMultinomialSoFar fits value counts i m t) (done : length counts ≤ i) where
+    -- after the last iteration
+    pub multinomial_last : IsMultinomial (map value counts) m
+    multinomial_last = subst (IsMultinomial (map value counts)) (omega (arith, ints, before.from_zero, (shared_last before.shared done).0)) (is_multinomial (map value counts))
 
--- whether a coefficient that is at most the largest number was found
-pub test_of : {fits : ℤ → Type 0} {low high : ℤ} {r : Bool} (found : Option ℕ) (c most : ℕ) → IsRange fits low high → pos most ≡ high → r ≡ is_some found
-    → MatchOption found (most < c) (λ n. (n ≡ c) × (n ≤ most)) → IsTrue r ↔ fits (pos c)
-test_of (Some n) c most range top is h = ((λ _. (fits_up range top).0 (omega arith)), λ _. is)
-test_of None c most range top is h = ((λ t. absurd (cc)), λ f. let below = (fits_up range top).1 f in absurd (omega arith))
-
--- ---- the loop of `multinomial_fits`
-
--- the domain of `multinomial`
-abbrev pub HasFittingMultinomial : {X : Type 0} → (ℤ → Type 0) → (X → ℤ) → List X → Type 0
-HasFittingMultinomial {X} fits value counts = All (λ (x : X). pos 0 ≤ℤ value x) counts × EachFits fits (IsMultinomial (map value counts))
-
--- that product is at most the largest number
-pub record IsWithinSoFar {X : Type 0} (value : X → ℤ) (counts : List X) (i total m most : ℕ) : Type 0 where
-  pub shared : IsSharedSoFar value counts i total m
-  pub within : m ≤ most
-
-module _ {X : Type 0} {fits : ℤ → Type 0} {low high : ℤ} {value : X → ℤ} {counts : List X} {most : ℕ} (range : IsRange fits low high) (top : pos most ≡ high) where
-  -- before the first iteration
-  pub within_first : IsWithinSoFar value counts 0 0 1 most
-  within_first = record { shared = shared_first; within = let positive = range.positive in omega (arith, ints) }
-
-  module _ {i t m k : ℕ} {x : X} (before : IsWithinSoFar value counts i t m most) (inside : i < length counts) (at : x ≡ get_or counts i x) (size : k ≡ unsigned_abs (value x)) where
-    -- an iteration at a count that is not negative
-    pub within_next : {t' m' : ℕ} → pos 0 ≤ℤ value x → (t' ≡ t + k) × (m' ≡ m * coefficient (t + k) k) × (m' ≤ most) → IsWithinSoFar value counts (i + 1) t' m' most
-    within_next up more = record { shared = rw (more.0, more.1) (shared_next before.shared inside at up size); within = more.2 }
-
-    -- a multinomial that exceeds the largest number does not fit
-    pub none_past : pos 0 ≤ℤ value x → most < m * coefficient (t + k) k → IsTrue false ↔ HasFittingMultinomial fits value counts
-    none_past up past = (
-      λ t. absurd (cc),
-      λ h.
-          let below = (fits_up range top).1 (h.1 _ (is_multinomial (map value counts))) in
-          absurd (omega (arith, shared_below (shared_next before.shared inside at up size))),
-    )
-
-    -- a negative count is outside the domain
-    pub none_negative : value x <ℤ pos 0 → IsTrue false ↔ HasFittingMultinomial fits value counts
-    none_negative below = (λ t. absurd (cc), λ h. let up = rw (← at) at (h.0 i x inside) in absurd (omega (arith, ints)))
-
-  -- after the last iteration
-  pub within_last : {i t m : ℕ} → IsWithinSoFar value counts i t m most → length counts ≤ i → IsTrue true ↔ HasFittingMultinomial fits value counts
-  within_last h done =
-      let last = shared_last h.shared done in
-      (λ _. (last.1, λ z is. rw (only_multinomial is) ((fits_up range top).0 (omega (arith, last.0, h.within)))), λ _. refl)
+    -- where each number fitted
+    pub checked_last : HasFittingMultinomial fits value counts × (fits m × IsMultinomial (map value counts) m)
+    checked_last =
+        let own = multinomial_last in
+        (((shared_last before.shared done).1, λ z other. subst fits (only_multinomial own ∙ sym (only_multinomial other)) before.in_range), (before.in_range, own))
 
 -- ---- counts in another order have the same multinomial
 
@@ -234,18 +198,3 @@ multinomial_ignores_order counts others h m is =
     let own : ℕ = product (map factorial (map unsigned_abs counts)) in
     let products = IsPermutation-keeps _ (λ (l : List ℕ). product (map factorial l) ≡ own) refl (λ l i j p q h. swap_keeps_factorials l i j p q ∙ h) _ magnitudes in
     record { factorials = rw (products, sum_by-IsPermutation (λ (x : ℕ). x) _ _ magnitudes) is.factorials }
-
--- ---- the loop of `checked::multinomial`: it goes on as long as each number fits
-
-module _ {X : Type 0} {fits : ℤ → Type 0} {value : X → ℤ} {counts : List X} {i : ℕ} {m t : ℤ} (before : IsMultinomialSoFar fits value counts i m t) where
-  -- an iteration
-  pub checked_next : {x : X} {t' c m' : ℤ} → i < length counts → x ≡ get_or counts i x → pos 0 ≤ℤ value x → fits t' → t' ≡ t +ℤ value x → c ≡ coefficient_of t' (value x)
-      → fits m' → m' ≡ m *ℤ c → IsMultinomialSoFar fits value counts (i + 1) m' t'
-  checked_next inside at up t_fits total ways m_fits next =
-      rw (next, ways, total) (so_far_next inside at up (rw total at t_fits) (rw (next, ways, total) at m_fits) before)
-
-  -- after the last iteration
-  pub checked_last : length counts ≤ i → HasFittingMultinomial fits value counts × (fits m × IsMultinomial (map value counts) m)
-  checked_last done =
-      let own = multinomial_last before done in
-      (((shared_last before.shared done).1, λ z other. subst fits (only_multinomial own ∙ sym (only_multinomial other)) before.in_range), (before.in_range, own))

@@ -47,8 +47,8 @@ FlooredPartsAddUp = (n d q r : ℤ) → IsQuotient IsFloored n d q → IsRemaind
     → (q *ℤ d +ℤ r ≡ n) × ((r ≡ pos 0) ⊎ HaveSameSign r d) × (unsigned_abs r < unsigned_abs d)
 
 -- the next multiple of a divisor is the previous multiple of its negation
-abbrev pub NegationIterationsMultiples : Type 0
-NegationIterationsMultiples = (n d m : ℤ) → IsMultiple IsCeiled n (neg_ℤ d) m ↔ IsMultiple IsFloored n d m
+abbrev pub NegationTurnsMultiples : Type 0
+NegationTurnsMultiples = (n d m : ℤ) → IsMultiple IsCeiled n (neg_ℤ d) m ↔ IsMultiple IsFloored n d m
 
 -- ---- common divisors and multiples
 

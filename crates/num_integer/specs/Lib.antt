@@ -7,6 +7,7 @@ pub use Rattle.integer_core.specs.Divisors
 pub use Rattle.integer_core.specs.Fibonacci
 pub use Rattle.integer_core.specs.GcdRuns
 pub use Rattle.integer_core.specs.Least
+pub use Rattle.integer_core.specs.Narrowing
 pub use Rattle.integer_core.specs.NativeRanges
 pub use Rattle.integer_core.specs.Only
 pub use Rattle.integer_core.specs.Padded

@@ -7,9 +7,9 @@ ghost use Rattle.num_integer.specs.Coefficient.{coefficient, coefficient_of};
 ghost use Rattle.num_integer.specs.Multinomial.{IsMultinomial};
 
 use integer_core::Integer;
+use integer_core::fitting::{difference, successor};
 use integer_core::guards::{check, check_none_negative, product_or, sum_or};
 use integer_core::operators::{is_below, is_negative, one, quotient, remainder, zero};
-use integer_core::fitting::{difference, successor};
 
 /// Returns `a / b`. The quotient by a positive number always fits.
 #[tactic(auto, using(integer_core::proofs::FlooredByPositive::operator_quotient_fits))]

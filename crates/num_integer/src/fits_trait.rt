@@ -8,7 +8,7 @@ ghost use Rattle.integer_core.specs.Range.{EachFits};
 ghost use Rattle.num_integer.specs.Coefficient.{coefficient_of};
 ghost use Rattle.num_integer.specs.Multinomial.{IsMultinomial};
 
-use crate::bounded_coefficients::{RunningMultinomial, coefficient_within};
+use crate::checked;
 use crate::sign_magnitude::{product_is_within, sum_is_within};
 use integer_core::operators::{difference, is_minus_one, is_negative, is_zero};
 use integer_core::{Integer, Magnitudes, NativeInteger};
@@ -173,47 +173,26 @@ pub trait Fits: Integer + Copy {
     /// Returns `true` if the precondition of `binomial(self, k)` holds: neither number is negative,
     /// and the coefficient fits. `11u8.binomial_fits(&3)` is `true`, and `11u8.binomial_fits(&4)`
     /// is `false`. The loop stops at the first coefficient that does not fit.
-    /// [`checked::binomial`](crate::checked::binomial) tests and computes the coefficient.
-    fn binomial_fits(&self, k: &Self) -> bool
+    /// [`checked::binomial`](crate::checked::binomial) returns the coefficient.
+    final fn binomial_fits(&self, k: &Self) -> bool
         requires self_in_range { Self.fits (Self.value self.now) }
         requires k_in_range { Self.fits (Self.value k.now) }
         ensures { IsTrue result ↔ ((pos 0 ≤ℤ Self.value self.now) × (pos 0 ≤ℤ Self.value k.now)
             × Self.fits (coefficient_of (Self.value self.now) (Self.value k.now))) }
     {
-        let (n_negative, n) = self.parts();
-        let (k_negative, k) = k.parts();
-        if n_negative || k_negative {
-            return false;
-        }
-        coefficient_within(n, k, Self::ends().1).is_some()
+        checked::binomial(*self, *k).is_some()
     }
 
     /// Returns `true` if the precondition of `multinomial(counts)` holds: no count is negative, and
     /// the multinomial fits. `u8::multinomial_fits(&[254, 1])` is `true`, and
     /// `u8::multinomial_fits(&[255, 1])` is `false`. The loops stop at the first multinomial that
-    /// does not fit. [`checked::multinomial`](crate::checked::multinomial) tests and computes the
-    /// multinomial.
-    fn multinomial_fits(counts: &[Self]) -> bool
+    /// does not fit. [`checked::multinomial`](crate::checked::multinomial) returns the multinomial.
+    final fn multinomial_fits(counts: &[Self]) -> bool
         requires in_range { All (λ x. Self.fits (Self.value x)) counts.now }
         ensures { IsTrue result ↔ (All (λ x. pos 0 ≤ℤ Self.value x) counts.now
             × EachFits Self.fits (IsMultinomial (map Self.value counts.now))) }
     {
-        let most = Self::ends().1;
-        let mut running = RunningMultinomial {
-            total: 0,
-            multinomial: 1,
-        };
-        for count in counts {
-            let (negative, magnitude) = count.parts();
-            if negative {
-                return false;
-            }
-            match running.with_count(magnitude, most) {
-                Some(more) => running = more,
-                None => return false,
-            }
-        }
-        true
+        checked::multinomial(counts).is_some()
     }
 }
 

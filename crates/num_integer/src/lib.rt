@@ -2,7 +2,6 @@
 //! `num-integer`.
 #![tactic(auto)]
 
-mod bounded_coefficients;
 pub mod checked;
 mod coefficients;
 pub mod counted;
@@ -14,7 +13,7 @@ pub use coefficients::{binomial, multinomial};
 pub use fits_trait::Fits;
 pub use integer_core::{
     ExtendedGcd, Integer, NativeInteger, div_ceil, div_floor, div_mod_floor, div_rem, gcd, gcd_lcm,
-    guards, lcm, mod_floor, operators, padded,
+    guards, lcm, mod_floor, narrowing, operators, padded,
 };
 pub use integer_roots::{Average, Roots, average_ceil, average_floor, cbrt, nth_root, sqrt};
 pub use rows::IterBinomial;

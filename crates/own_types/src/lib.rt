@@ -1,18 +1,16 @@
 //! What the crates of tests share: lawful types that the library does not know, the names of all types,
 //! and integers by sign and magnitude.
 //!
-//! `Percent` is written out in full, as an example of what a lawful type costs. The five others share all but the way in
-//! which they store a number.
+//! `Percent` is the example of `bounded_integers`. The five others share all but the way in which they store a number.
 #![tactic(auto)]
 
 pub mod form;
 pub mod forms;
-pub mod percent;
 pub mod signed_magnitude;
 pub mod types;
 
+pub use bounded_integers::Percent;
 pub use form::{Form, Own};
-pub use percent::Percent;
 
 /// From -7 to 7.
 pub type Small = Own<forms::SmallForm>;

@@ -3,7 +3,8 @@
 ghost use Rattle.std.specs.Prelude.{IfSome};
 
 use crate::signed_magnitude::{SignedMagnitude, to_i128};
-use crate::{Form, Own, Percent};
+use crate::{Form, Own};
+use bounded_integers::{Bounded, Range};
 use num_integer::counted::GcdCounted;
 use num_integer::{Average, Fits};
 use num_traits::FromPrimitive;
@@ -60,7 +61,23 @@ pub trait Tested: Average + Fits {
     }
 }
 
-impl<T: Average + Fits + FromPrimitive + GcdCounted> Tested for T {
+/// A built-in type. No type of another crate can get the implementation below.
+pub trait BuiltIn: Average + Fits + FromPrimitive + GcdCounted {}
+
+impl BuiltIn for i8 {}
+impl BuiltIn for i16 {}
+impl BuiltIn for i32 {}
+impl BuiltIn for i64 {}
+impl BuiltIn for i128 {}
+impl BuiltIn for isize {}
+impl BuiltIn for u8 {}
+impl BuiltIn for u16 {}
+impl BuiltIn for u32 {}
+impl BuiltIn for u64 {}
+impl BuiltIn for u128 {}
+impl BuiltIn for usize {}
+
+impl<T: BuiltIn> Tested for T {
     fn from_signed_magnitude(n: SignedMagnitude) -> Option<T> {
         if n.0 {
             T::from_i128(to_i128(n)?)
@@ -78,13 +95,10 @@ impl<T: Average + Fits + FromPrimitive + GcdCounted> Tested for T {
     }
 }
 
-impl Tested for Percent {
-    fn from_signed_magnitude((negative, magnitude): SignedMagnitude) -> Option<Percent> {
-        if !negative && magnitude <= 100 {
-            Some(Percent::new(magnitude as u8))
-        } else {
-            None
-        }
+impl<R: Range> Tested for Bounded<R> {
+    fn from_signed_magnitude(n: SignedMagnitude) -> Option<Bounded<R>> {
+        let number = i64::try_from(to_i128(n)?).ok()?;
+        Bounded::try_from(number).ok()
     }
 }
 

@@ -25,7 +25,7 @@ pub fn laws_of_integers<T: Integer>()
     ensures remainder_is_only { integers.RemainderIsOnly }
     ensures multiple_is_only { integers.MultipleIsOnly }
     ensures floored_parts_add_up { integers.FlooredPartsAddUp }
-    ensures negation_turns_multiples { integers.NegationIterationsMultiples }
+    ensures negation_turns_multiples { integers.NegationTurnsMultiples }
     ensures gcd_exists { integers.GcdExists }
     ensures gcd_is_only { integers.GcdIsOnly }
     ensures gcd_is_symmetric { integers.GcdIsSymmetric }

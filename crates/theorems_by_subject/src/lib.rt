@@ -14,6 +14,7 @@
 //! | `pages.rt` | `applied`: pages, schedules, shares |
 //! | `combinations.rt` | `applied`: combinations and their ranks |
 //! | `lists.rt` | `applied`: divisors and multiples of lists, coprime numbers |
+//! | `widths.rt` | calls of `num_integer` at two types with the same numbers, so also at both widths of `usize` |
 //!
 //! No crate depends on this one, and it has no tests.
 #![tactic(auto)]
@@ -28,3 +29,4 @@ pub mod lists;
 pub mod pages;
 pub mod residues;
 pub mod rounding;
+pub mod widths;

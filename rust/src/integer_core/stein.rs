@@ -157,13 +157,13 @@ fn odd_gcd(a: u64, b: u64) -> (u64, u32) {
 }
 
 /// Returns both numbers as `u64`, or `None` if one of them does not fit.
-fn at_64_bits<M: Magnitude>(m: M, n: M) -> Option<(u64, u64)> {
+fn both_in_64_bits<M: Magnitude>(m: M, n: M) -> Option<(u64, u64)> {
     Some((m.to_64_bits()?, n.to_64_bits()?))
 }
 
 /// Returns `true` if the numbers differ and one of them has more than 64 bits.
 fn differ_beyond_64_bits<M: Magnitude>(m: M, n: M) -> bool {
-    m != n && at_64_bits(m, n).is_none()
+    m != n && both_in_64_bits(m, n).is_none()
 }
 
 /// Returns the greatest common divisor of two odd numbers, and the number of iterations. The loop
@@ -175,7 +175,7 @@ fn narrowing_gcd<M: Magnitude>(a: M, b: M) -> (M, u32) {
         (m, n) = next_pair(m, n);
         iterations += 1;
     }
-    match at_64_bits(m, n) {
+    match both_in_64_bits(m, n) {
         Some((x, y)) => {
             let (gcd, rest) = odd_gcd(x, y);
             (M::from_64_bits(gcd), iterations + rest)

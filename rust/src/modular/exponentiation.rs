@@ -8,9 +8,11 @@ pub(crate) trait ResidueForm {
     type Number: Copy;
 
     /// Multiplies two residues in this form.
+    #[track_caller]
     fn product(&self, x: Self::Number, y: Self::Number) -> Self::Number;
 
     /// Returns the product if the binary digit is 1, and `x` if it is 0.
+    #[track_caller]
     fn product_if(&self, digit: u128, x: Self::Number, y: Self::Number) -> Self::Number {
         if digit == 1 {
             self.product(x, y)

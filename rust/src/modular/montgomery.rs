@@ -37,6 +37,7 @@ impl Montgomery {
     }
 
     /// Multiplies two residues in Montgomery form.
+    #[track_caller]
     pub(crate) fn product(&self, x: u64, y: u64) -> u64 {
         self.montgomery_product(x, y)
     }

@@ -2,6 +2,7 @@
 //! in these files.
 
 use crate::outcome;
+use cellarcove::bounded_integers::Percent;
 use cellarcove::calendar::{days_in_month, Date};
 use cellarcove::counted::{binomial_counted, extended_gcd_counted, GcdCounted, SqrtCounted};
 use cellarcove::modular::{self, Modular};
@@ -35,6 +36,7 @@ const STEP: &str = "the step is not positive";
 const PERIOD: &str = "the period is not positive";
 const PAGE_SIZE: &str = "the page size is not positive";
 const ALIGNMENT: &str = "the alignment is not positive";
+const RANGE: &str = "the number is out of range";
 const CHOICE: &str = "the numbers of the choice do not increase below `n`";
 
 /// Each call panics with the reason.
@@ -42,6 +44,20 @@ macro_rules! panics {
     ($($reason:ident { $($call:expr;)* })*) => {$($(
         assert_eq!(outcome(|| { let _ = $call; }), Err($reason.to_string()), "{}", stringify!($call));
     )*)*};
+}
+
+#[test]
+fn bounded_integers() {
+    panics! {
+        RANGE {
+            Percent::new(101);
+            Percent::new(-1);
+            Percent::new(60) + Percent::new(50);
+            Percent::new(1) - Percent::new(2);
+            Percent::new(50) * Percent::new(3);
+            Percent::new(100).lcm(&Percent::new(99));
+        }
+    }
 }
 
 #[test]

@@ -17,6 +17,8 @@ export type PlainDateColumns = {readonly year: Integer | BigInt64Array; readonly
 
 /** The version of the package. */
 export const VERSION: string;
+/** Who made the WebAssembly. Rattle makes it of the proved sources, with addresses of 64 bits. */
+export const BUILT_BY: 'cargo' | 'rattle';
 
 /** The numbers of the statuses. */
 export const Status: {

@@ -4,8 +4,8 @@ ghost use Rattle.std.specs.Prelude.{◌≡◌, ◌+ℤ◌, ◌-ℤ◌, ◌*ℤ�
 ghost use Rattle.num_integer.specs.Checked.{AnswersWhere};
 
 use crate::fits_trait::Fits;
-use integer_core::operators::{one, zero};
 use integer_core::fitting;
+use integer_core::operators::{one, zero};
 
 /// Returns `a + b`, or `None` if it does not fit. `sum(200u8, 55)` is `Some(255)`, and
 /// `sum(200u8, 56)` is `None`.

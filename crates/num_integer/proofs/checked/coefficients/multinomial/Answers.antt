@@ -1,26 +1,31 @@
 use Rattle.num_integer.proofs.Common.{arith, ints, from_test}
-use Rattle.num_integer.proofs.Multinomials.{checked_last, checked_next, multinomial_next}
+use Rattle.num_integer.proofs.Multinomials.{IterationFits, HasFittingMultinomial, checked_last, iteration_fits, multinomial_next}
 use Rattle.num_integer.proofs.checked.coefficients.multinomial.Goals as goal
+use Rattle.num_integer.proofs.checked.coefficients.multinomial.Given.{Over}
+use Rattle.num_integer.proofs.checked.coefficients.multinomial.Goals.{After-count-item}
+
+-- each number of an iteration fits if the multinomial of all counts does
+fitting : (g : Over) (c : After-count-item g) → HasFittingMultinomial g.T.Number.fits g.T.Number.value c.args.k.now
+    → IterationFits g.T.Number.fits (g.T.Number.value c.loop-count.multinomial) (g.T.Number.value c.loop-count.total) (g.T.Number.value c.count-item.result)
+fitting g c = iteration_fits c.loop-count.invariant c.loop-count-test.true c.count-item.is g.met.T.Integer.range_law c.requires.counts_in_range
 
 pub returns-in_err-total : goal.returns-in_err-total
-returns-in_err-total g c =
-    rw c.from_residual.ensures (λ h. c.in_err-total.ensures (multinomial_next g.met.T.Integer.range_law h.1 c.loop-count-test.true c.count-item.is c.requires.counts_in_range h.0 c.loop-count.invariant).1.total_in_range)
+returns-in_err-total g c = rw c.from_residual.ensures (λ all_fit. c.in_err-total.ensures (fitting g (goal.at.returns-in_err-total g c).After-count-item all_fit).total)
 
 pub returns-in_err-binomial : goal.returns-in_err-binomial
 returns-in_err-binomial g c =
     let up = from_test c.is_negative.ensures c.if-is_negative.false in
     let none = rw c.in_ok-total.ensures.1.1 at c.in_err-binomial.ensures in
-    rw c.from_residual-in_err-binomial.ensures (λ h.
-    none (omega (arith, ints, c.loop-count.invariant.total_from_zero), up, (multinomial_next g.met.T.Integer.range_law h.1 c.loop-count-test.true c.count-item.is c.requires.counts_in_range h.0 c.loop-count.invariant).0))
+    rw c.from_residual-in_err-binomial.ensures (λ all_fit.
+    none (omega (arith, ints, c.loop-count.invariant.total_from_zero), up, (fitting g (goal.at.returns-in_err-binomial g c).After-count-item all_fit).ways))
 
 pub returns-in_err-multinomial : goal.returns-in_err-multinomial
-returns-in_err-multinomial g c = rw c.from_residual-in_err-multinomial.ensures (λ h.
-    c.in_err-multinomial.ensures (rw (c.in_ok-binomial.ensures.1.1, c.in_ok-total.ensures.1.1)
-    (multinomial_next g.met.T.Integer.range_law h.1 c.loop-count-test.true c.count-item.is c.requires.counts_in_range h.0 c.loop-count.invariant).1.in_range))
+returns-in_err-multinomial g c = rw c.from_residual-in_err-multinomial.ensures (λ all_fit.
+    c.in_err-multinomial.ensures (rw (c.in_ok-binomial.ensures.1.1, c.in_ok-total.ensures.1.1) (fitting g (goal.at.returns-in_err-multinomial g c).After-count-item all_fit).multinomial))
 
 pub loop-count-preserved : goal.loop-count-preserved
 loop-count-preserved g c =
-    checked_next c.loop-count.invariant c.loop-count-test.true c.count-item.is (from_test c.is_negative.ensures c.if-is_negative.false)
+    multinomial_next c.loop-count.invariant c.loop-count-test.true c.count-item.is (from_test c.is_negative.ensures c.if-is_negative.false)
     c.in_ok-total.ensures.1.0 c.in_ok-total.ensures.1.1 c.in_ok-binomial.ensures.1.1 c.in_ok-multinomial.ensures.1.0 c.in_ok-multinomial.ensures.1.1
 
 pub returns : goal.returns

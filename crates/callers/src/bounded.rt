@@ -1,0 +1,125 @@
+//! Types of `bounded_integers`: minutes of a day, and amounts in cents.
+
+ghost use Rattle.std.specs.Prelude.{◌≡◌, ◌↔◌, ◌≢◌, ◌≤◌, ◌+ℤ◌, ◌-ℤ◌, ◌*ℤ◌, ◌<ℤ◌, ◌≤ℤ◌, IfSome, IsSome, IsTrue, MatchOption, MatchResult, int_div, negsuc, neg_ℤ, pos, refl};
+ghost use Rattle.std.proofs.Common.{lit≤};
+ghost use Rattle.num_integer.specs.Between.{Between};
+ghost use Rattle.num_integer.specs.Division.{IsCeiled, IsFloored, IsMultiple, IsQuotient};
+ghost use Rattle.num_integer.specs.Divisors.{IsGreatestCommonDivisor, IsLeastCommonMultiple};
+ghost use Rattle.num_integer.specs.Range.{EachFits};
+ghost use Rattle.bounded_integers.specs.Ranges.{natural_range, signed_range};
+
+use bounded_integers::{Bounded, BoundedError, Range, SignedRange};
+use modular::sum_modulo;
+use num_integer::{Average, Integer, checked};
+
+/// The range of the minutes of a day.
+pub struct MinutesRange;
+
+impl Range for MinutesRange {
+    const LOW: i64 = 0;
+
+    ghost LOW = { pos 0 };
+
+    const HIGH: i64 = 1439;
+
+    ghost HIGH = { pos 1439 };
+
+    ghost range_law = { natural_range 1439 (lit≤ tt) (lit≤ tt) };
+}
+
+/// A minute of a day, or a number of minutes that is less than a day.
+pub type Minutes = Bounded<MinutesRange>;
+
+/// The range of amounts, in cents.
+pub struct CentsRange;
+
+impl Range for CentsRange {
+    const LOW: i64 = -1_000_000_000_000;
+
+    ghost LOW = { negsuc 999999999999 };
+
+    const HIGH: i64 = 1_000_000_000_000;
+
+    ghost HIGH = { pos 1000000000000 };
+
+    ghost range_law = { signed_range 1000000000000 (lit≤ tt) (lit≤ tt) };
+}
+
+impl SignedRange for CentsRange {
+    ghost sign_law = { refl };
+}
+
+/// An amount of at most ten thousand million, in cents.
+pub type Cents = Bounded<CentsRange>;
+
+/// Returns the first departure at or after a minute, or `None` if there is none on that day or the interval is 0. One
+/// leaves at midnight, and one after each interval.
+pub fn next_departure(from: Minutes, interval: Minutes) -> Option<Minutes>
+    ensures { MatchOption result
+        (¬ ((interval.number ≢ pos 0) × EachFits (Between (pos 0) (pos 1439)) (IsMultiple IsCeiled from.number interval.number)))
+        (λ minute. IsMultiple IsCeiled from.number interval.number minute.number) }
+{
+    checked::next_multiple_of(from, interval)
+}
+
+/// Returns the number of minutes after which two lines leave together again, or `None` if that is a day or more.
+pub fn minutes_to_meeting(a: Minutes, b: Minutes) -> Option<Minutes>
+    ensures { IfSome result (λ minutes. IsLeastCommonMultiple a.number b.number minutes.number) }
+{
+    checked::lcm(a, b)
+}
+
+/// Returns the largest step of which both are multiples.
+pub fn common_step_of(a: Minutes, b: Minutes) -> Minutes
+    ensures { IsGreatestCommonDivisor a.number b.number result.number }
+{
+    a.gcd(&b)
+}
+
+/// Returns the minute in the middle, rounded down.
+pub fn middle(from: Minutes, end: Minutes) -> Minutes
+    ensures { IsQuotient IsFloored (from.number +ℤ end.number) (pos 2) result.number }
+{
+    from.average_floor(&end)
+}
+
+/// Reads a minute that a user has written.
+pub fn minute_of(number: i64) -> Option<Minutes>
+    ensures { MatchOption result (¬ (Between (pos 0) (pos 1439) number)) (λ minute. minute.number ≡ number) }
+{
+    Minutes::try_from(number).ok()
+}
+
+/// Returns the balance after a payment, or `None` if it is out of range.
+pub fn balance_after(balance: Cents, payment: Cents) -> Option<Cents>
+    ensures { MatchOption result
+        (¬ (Between (negsuc 999999999999) (pos 1000000000000) (balance.number -ℤ payment.number)))
+        (λ after. after.number ≡ balance.number -ℤ payment.number) }
+{
+    checked::difference(balance, payment)
+}
+
+/// Returns the amount of money that is owed after a credit. It is the amount with the other sign.
+pub fn owed(credit: Cents) -> Cents
+    ensures { result.number ≡ neg_ℤ credit.number }
+{
+    -credit
+}
+
+/// Returns the price of an item and of its delivery. Each is at most a million, so the sum is in range.
+pub fn with_delivery(price: Cents, delivery: Cents) -> Cents
+    requires price { Between (pos 0) (pos 100000000) price.number }
+    requires delivery { Between (pos 0) (pos 100000000) delivery.number }
+    ensures { result.number ≡ price.number +ℤ delivery.number }
+{
+    price + delivery
+}
+
+/// Splits an amount into equal parts, rounded down, and what is left.
+pub fn equal_parts(amount: Cents, people: Cents) -> (Cents, Cents)
+    requires { pos 0 <ℤ people.number }
+    ensures parts { IsQuotient IsFloored amount.number people.number result.0.number }
+    ensures whole { amount.number ≡ (result.0.number *ℤ people.number) +ℤ result.1.number }
+{
+    amount.div_mod_floor(&people)
+}

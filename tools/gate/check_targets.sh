@@ -1,0 +1,81 @@
+#!/usr/bin/env bash
+# Compares other targets with this machine: what each call for C returns for 20,000 random arguments, by checksums of all that it returns.
+# The tests in C and those of the crate run there too. cargo makes the archives, and Rattle makes one for ARM64 if `rt ci` has left the
+# proved libraries. The crate is compiled without std for bare ARM and for WebAssembly.
+#
+# usage: tools/gate/check_targets.sh [--all]
+#
+# i686 needs no emulator on x86-64. With --all it takes the targets that need qemu too, and compares the table of docs/PLATFORMS.md with
+# those that passed. `tools/gate/install_packages.sh --all` installs what is missing. Prints a line for each check and for each program
+# that the machine lacks, and a count at the end.
+set -uo pipefail
+cd "$(dirname "$0")/../.." || exit
+source tools/gate/lib.sh
+export CARGO_TARGET_DIR=$work/target
+cargo=$PWD/bindings/cargo compiler=cc emulator=env
+calls=$(tools/cellarcove make symbols | wc -l)
+
+# for_target FOLDER TARGET LIBRARIES COMMAND [WORD..]: cargo runs in a folder of a copy of the sources.
+for_target() { (cd "$work/$1" && "$cargo" "${@:2}"); }
+
+# cargo's own archive has the multiplication and division of 128 bits, which C lacks on 32 bits.
+by_cargo() {
+    for_target rust/c "$1" core,compiler_builtins rustc --release --lib --crate-type staticlib &&
+        mv "$CARGO_TARGET_DIR/$1/release/libcellarcove_c.a" "$work/$1.a"
+}
+
+by_rattle() {
+    calls_over_proved "$work/rattle.a" --target "$1" && "$compiler" -I bindings/c -c bindings/c/library.c -o "$work/library.o" &&
+        ar rs "$work/rattle.a" "$work/library.o"
+}
+
+# runs FILE NAME: links a program in C with the archive of this name, and runs it.
+runs() {
+    "$compiler" -std=c11 -O2 -Wall -Wextra -Werror -static -I bindings/c "$1" "$work/personality.c" "$work/$2.a" -o "$work/program" &&
+        "$emulator" "$work/program"
+}
+
+sums() { runs "$work/checksums.c" "$1" >"$work/$1.sums" && [ "$(wc -l <"$work/$1.sums")" -eq "$calls" ]; }
+same() { sums "$1" && diff "$work/here.sums" "$work/$1.sums"; }
+
+# returns_the_same NAME: the archive of this name does.
+returns_the_same() {
+    check "what it returns, by $calls calls 20,000 times each" same "$1"
+    check 'the tests in C' runs bindings/c/test.c "$1"
+}
+
+# on TARGET PREFIX EMULATOR: all checks of a target, with the row of a table if they pass.
+on() {
+    local compiler=$2-gcc emulator=$3 before=$failed key=${1//-/_}
+    has "$compiler" "$1" && has "$emulator" "$1" || return 0
+    export "CARGO_TARGET_${key^^}_LINKER=$compiler" "CARGO_TARGET_${key^^}_RUNNER=$emulator" "CARGO_TARGET_${key^^}_RUSTFLAGS=-C target-feature=+crt-static"
+    check "the archive for $1" by_cargo "$1"
+    returns_the_same "$1"
+    check_tests 'the tests of the crate' for_target rust "$1" std,panic_unwind test --release --all-features --tests
+    rm -rf "$CARGO_TARGET_DIR"
+    [ "$failed" -ne "$before" ] || echo "| \`$1\` | $(rustc --print cfg --target "$1" | sed -nE 's/^target_(endian|pointer_width)="(.*)"/\2/p' | paste -sd '|' | sed 's/|/ | /') | ${emulator/env/itself} |" >>"$work/rows"
+}
+
+mkdir "$work/docs" && cp docs/ERRORS.md "$work/docs" && cp -r CHANGELOG.md rust "$work"
+echo 'void rust_eh_personality(void) {}' >"$work/personality.c"
+tools/cellarcove make checksums >"$work/checksums.c"
+check 'the crate for bare ARM, without std' for_target rust thumbv7em-none-eabihf core check --lib --no-default-features
+check 'the crate for WebAssembly, without std' for_target rust wasm32-unknown-unknown core check --lib --no-default-features
+check 'the archive for this machine' bindings/build --cargo "$work/here"
+mv "$work/here/libcellarcove_c.a" "$work/here.a"
+check 'its checksums' sums here
+on i686-unknown-linux-gnu i686-linux-gnu env
+if [ "${1:-}" = --all ]; then
+    on armv7-unknown-linux-gnueabihf arm-linux-gnueabihf qemu-arm-static
+    on aarch64-unknown-linux-gnu aarch64-linux-gnu qemu-aarch64-static
+    on riscv64gc-unknown-linux-gnu riscv64-linux-gnu qemu-riscv64-static
+    on s390x-unknown-linux-gnu s390x-linux-gnu qemu-s390x-static
+    on powerpc-unknown-linux-gnu powerpc-linux-gnu qemu-ppc-static
+    compiler=aarch64-linux-gnu-gcc emulator=qemu-aarch64-static
+    if command -v rt >/dev/null; then
+        check "Rattle's archive for ARM64" by_rattle aarch64-unknown-linux-gnu
+        returns_the_same rattle
+    fi
+    check 'the table of docs/PLATFORMS.md' diff <(grep -E '^\| `.*(itself|qemu-.*) \|$' docs/PLATFORMS.md) "$work/rows"
+fi
+finish

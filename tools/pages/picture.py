@@ -1,0 +1,52 @@
+"""Draws docs/trust.svg from the first table of docs/TRUST.md: how one knows that each step from a definition to what runs is right. In
+the table stands the number of lines of tools/checks/erased.py."""
+import re
+from collections.abc import Iterator
+
+from tools import ROOT
+
+PLACES = {'what you mean': (0, 0), 'definitions': (1, 0), 'contracts': (2, 0), 'Rattle source': (3, 0), 'C++, Python': (0, 1), 'C': (1, 1),
+          'compiled by Rattle': (2, 1), 'Rust source': (3, 1), 'compiled by rustc': (2, 2), 'WebAssembly': (3, 2), 'JavaScript': (2, 3)}
+COLOURS = {'proved': '#1a7f37', 'checked': '#0969da', 'tested': '#9a6700', 'trusted': '#cf222e'}
+ROW = re.compile(r'^\| ([^|]+) \| ([^|]+) \| \*\*(\w+)\*\*([^|]*) \|', re.M)
+WIDE, HIGH, ACROSS, DOWN = 144, 40, 224, 92         # of a box, and from one to the next
+HEAD = """<svg xmlns="http://www.w3.org/2000/svg" viewBox="0 0 {wide} {high}" font-family="sans-serif" font-size="14" text-anchor="middle">
+<title>From what you mean to what runs</title>
+<desc>The first table of TRUST.md has the same as text.</desc>
+<rect width="100%" height="100%" fill="#ffffff"/>"""
+MARKER = '<marker id="{0}" viewBox="0 0 8 8" refX="8" refY="4" markerWidth="8" markerHeight="8" orient="auto"><path d="M0 0 8 4 0 8z" fill="{1}"/></marker>'
+
+
+def centre(name: str) -> tuple[float, float]:
+    column, row = PLACES[name]
+    return 16 + WIDE / 2 + ACROSS * column, 16 + HIGH / 2 + DOWN * row
+
+
+def arrow(start: str, end: str, kind: str, more: str) -> Iterator[str]:
+    """An arrow from the edge of one box to that of another, with its words in the middle."""
+    (x, y), (to_x, to_y) = centre(start), centre(end)
+    across, down = to_x - x, to_y - y
+    edge = min(size / 2 / abs(way) for size, way in ((WIDE, across), (HIGH, down)) if way)
+    ends = [f'{place:.0f}' for place in (x + across * edge, y + down * edge, to_x - across * edge, to_y - down * edge)]
+    yield (f'<line x1="{ends[0]}" y1="{ends[1]}" x2="{ends[2]}" y2="{ends[3]}" stroke="{COLOURS[kind]}" stroke-width="2" '
+           f'marker-end="url(#{kind})"/>')
+    yield (f'<text x="{(x + to_x) / 2:.0f}" y="{(y + to_y) / 2 + (5 if down else -6):.0f}" fill="{COLOURS[kind]}" font-size="12" stroke="#ffffff" '
+           f'stroke-width="4" paint-order="stroke">{kind}{more}</text>')
+
+
+def picture(page: str) -> str:
+    rows = ROW.findall(page)
+    columns, lines = (max(place[axis] for place in PLACES.values()) for axis in (0, 1))
+    parts = [HEAD.format(wide=32 + WIDE + ACROSS * columns, high=32 + HIGH + DOWN * lines), *(MARKER.format(*pair) for pair in COLOURS.items())]
+    parts += (part for row in rows for part in arrow(*row))
+    for name in PLACES:
+        x, y = centre(name)
+        parts.append(f'<rect x="{x - WIDE / 2:.0f}" y="{y - HIGH / 2:.0f}" width="{WIDE}" height="{HIGH}" rx="6" fill="#f6f8fa" stroke="#57606a"/>')
+        parts.append(f'<text x="{x:.0f}" y="{y + 5:.0f}" fill="#1f2328">{name}</text>')
+    return '\n'.join([*parts, '</svg>', ''])
+
+
+def made() -> dict[str, str]:
+    lines = (ROOT / 'tools/checks/erased.py').read_text().count('\n')
+    page = re.sub(r'(?<=\*\*checked\*\* by )\d+', str(lines), (ROOT / 'docs/TRUST.md').read_text())
+    return {'docs/TRUST.md': page, 'docs/trust.svg': picture(page)}
