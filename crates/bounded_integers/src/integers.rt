@@ -22,7 +22,7 @@ impl<R: Range> Integer for Bounded<R> {
     }
 
     fn div_floor(&self, other: &Bounded<R>) -> Bounded<R> {
-        Bounded::new(self.number.div_floor(&other.number))
+        Bounded::new(Integer::div_floor(&self.number, &other.number))
     }
 
     fn mod_floor(&self, other: &Bounded<R>) -> Bounded<R> {
