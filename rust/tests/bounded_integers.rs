@@ -119,7 +119,7 @@ fn small_numbers_are_as_at_i64() {
         assert_eq!((x < y, x == y), (a < b, a == b));
         assert_eq!(x.is_multiple_of(&y), Integer::is_multiple_of(&a, &b));
         if b != 0 {
-            assert_eq!(checked::div_floor(x, y), within(a.div_floor(&b)));
+            assert_eq!(checked::div_floor(x, y), within(Integer::div_floor(&a, &b)));
             assert_eq!(x.mod_floor(&y).number(), a.mod_floor(&b));
             assert_eq!((x % y).number(), a % b);
             let pair = checked::div_rem(x, y).map(|(q, r)| (q.number(), r.number()));
