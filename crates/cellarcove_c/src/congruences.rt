@@ -168,7 +168,11 @@ pub extern "C" fn cellarcove_next_congruent_u64(from: u64, residue: u64, modulus
 ///
 /// `BAD_MODULUS` if `modulus` is not positive. `NOT_FITTING` if the number does not fit.
 #[unsafe(no_mangle)]
-pub extern "C" fn cellarcove_previous_congruent_i64(to: i64, residue: i64, modulus: i64) -> I64Answer
+pub extern "C" fn cellarcove_previous_congruent_i64(
+    to: i64,
+    residue: i64,
+    modulus: i64,
+) -> I64Answer
     ensures { I64Congruent modulus (IsPreviousCongruent to residue modulus) result }
 {
     I64Answer::of(
@@ -181,7 +185,11 @@ pub extern "C" fn cellarcove_previous_congruent_i64(to: i64, residue: i64, modul
 ///
 /// `BAD_MODULUS` if `modulus` is 0. `NOT_FITTING` if the number is negative.
 #[unsafe(no_mangle)]
-pub extern "C" fn cellarcove_previous_congruent_u64(to: u64, residue: u64, modulus: u64) -> U64Answer
+pub extern "C" fn cellarcove_previous_congruent_u64(
+    to: u64,
+    residue: u64,
+    modulus: u64,
+) -> U64Answer
     ensures { U64Congruent (pos modulus) (IsPreviousCongruent (pos to) (pos residue) (pos modulus)) result }
 {
     U64Answer::of(

@@ -10,7 +10,12 @@ ghost use Rattle.num_integer.specs.Range.{EachFits};
 use num_integer::{Average, Integer, Roots, binomial, div_ceil, div_mod_floor, div_rem, gcd, lcm};
 
 /// Returns the quotient rounded down and its remainder, at two types.
-pub fn div_mod_floor_at_two_types<S: Integer, T: Integer>(n: S, d: S, m: T, e: T) -> ((S, S), (T, T))
+pub fn div_mod_floor_at_two_types<S: Integer, T: Integer>(
+    n: S,
+    d: S,
+    m: T,
+    e: T,
+) -> ((S, S), (T, T))
     requires first_in_range { S.fits (S.value n) × S.fits (S.value d) }
     requires second_in_range { T.fits (T.value m) × T.fits (T.value e) }
     requires same_number { S.value n ≡ T.value m }

@@ -75,7 +75,10 @@ fn come_from_both_ends(mut days: Days, dates: &[Parts]) -> bool {
         let (found, place) = if taken % 2 == 0 {
             (days.next(), taken / 2)
         } else {
-            (days.next_back(), dates.len().wrapping_sub(taken.div_ceil(2)))
+            (
+                days.next_back(),
+                dates.len().wrapping_sub(taken.div_ceil(2)),
+            )
         };
         same &= parts(found) == dates.get(place).copied();
     }
