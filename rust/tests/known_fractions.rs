@@ -306,8 +306,10 @@ fn powers_of_fractions() {
     }
 }
 
+type Signs = (bool, bool, bool, bool);
+
 /// The parts of a fraction, its sign, and whether it is positive, negative, 0, and an integer.
-static SIGNS: [(Parts, i64, (bool, bool, bool, bool)); 10] = [
+static SIGNS: [(Parts, i64, Signs); 10] = [
     ((MIN, 1), -1, (false, true, false, true)),
     ((MIN, MAX), -1, (false, true, false, false)),
     ((-3, 2), -1, (false, true, false, false)),
