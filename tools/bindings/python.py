@@ -24,7 +24,7 @@ OBJECTS = {'i64': 'PyLong_FromLongLong', 'u64': 'PyLong_FromUnsignedLongLong', '
 # The class of a result, and the scalar result of the stubs.
 CLASSES = {'Bezout': ('class_gcd', 'ExtendedGcd'), 'Solutions': ('class_solutions', 'Solutions'), 'IsoWeek': ('class_week', 'IsoWeek')}
 SHAPES = {'Fraction': 'f', 'Date': 'd'}
-MODULI = {'m', 'n', 'step', 'p', 'q', 'period'}  # the parameters whose 0 is the reason of `BAD_MODULUS`
+MODULI = {'m', 'n', 'modulus', 'p', 'q', 'period'}  # the parameters whose 0 is the reason of `BAD_MODULUS`
 SEEN_TO = 'there is not one part for each weight, or if '  # a reason of a status that Python never meets, since it makes the parts
 DIVIDES = ('division', 'products')  # the modules whose parameters `y` and `d` are divisors
 # What says, before there is room for the numbers that a call writes, whether it has a result.

@@ -2450,7 +2450,7 @@ static void many_next_congruent_u64(Py_ssize_t count, char *const *in, const Py_
 static const form form_next_congruent_u64 = {"QQQ", "QB", true, one_next_congruent_u64, many_next_congruent_u64};
 
 static const call call_next_congruent = {"next_congruent", 3, {"start", "residue", "modulus"}, "nnn",
-    (const bool[]){false, false, false}, (const bool[]){true, true, true}, NULL, &form_next_congruent_i64, &form_next_congruent_u64};
+    (const bool[]){false, false, true}, (const bool[]){true, true, true}, NULL, &form_next_congruent_i64, &form_next_congruent_u64};
 
 static PyObject *py_next_congruent(PyObject *module, PyObject *const *args, Py_ssize_t count, PyObject *names) {
     (void)module;
@@ -2496,7 +2496,7 @@ static void many_previous_congruent_u64(Py_ssize_t count, char *const *in, const
 static const form form_previous_congruent_u64 = {"QQQ", "QB", true, one_previous_congruent_u64, many_previous_congruent_u64};
 
 static const call call_previous_congruent = {"previous_congruent", 3, {"end", "residue", "modulus"}, "nnn",
-    (const bool[]){false, false, false}, (const bool[]){true, true, true}, NULL, &form_previous_congruent_i64, &form_previous_congruent_u64};
+    (const bool[]){false, false, true}, (const bool[]){true, true, true}, NULL, &form_previous_congruent_i64, &form_previous_congruent_u64};
 
 static PyObject *py_previous_congruent(PyObject *module, PyObject *const *args, Py_ssize_t count, PyObject *names) {
     (void)module;
@@ -2542,7 +2542,7 @@ static void many_count_congruent_u64(Py_ssize_t count, char *const *in, const Py
 static const form form_count_congruent_u64 = {"QQQQ", "QB", true, one_count_congruent_u64, many_count_congruent_u64};
 
 static const call call_count_congruent = {"count_congruent", 4, {"start", "end", "residue", "modulus"}, "nnnn",
-    (const bool[]){false, false, false, false}, (const bool[]){true, true, true, true}, NULL, &form_count_congruent_i64, &form_count_congruent_u64};
+    (const bool[]){false, false, false, true}, (const bool[]){true, true, true, true}, NULL, &form_count_congruent_i64, &form_count_congruent_u64};
 
 static PyObject *py_count_congruent(PyObject *module, PyObject *const *args, Py_ssize_t count, PyObject *names) {
     (void)module;
