@@ -1,7 +1,9 @@
 """What Python knows of the exports: the table of calls in C, and the stubs."""
+import itertools
 import re
 import textwrap
 from collections.abc import Callable, Sequence
+from typing import Any
 
 from tools import ROOT
 from tools.bindings.exports import EXPORTS, Call, Field, c_type, filled, listed, without_returns
@@ -59,15 +61,16 @@ def divides(call: Call) -> list[bool]:
     return [parameter.name in divisors for parameter in call.parameters for _ in EXPORTS().leaves(parameter.kind)]
 
 
+def grouped(call: Call, numbers: Sequence[Any]) -> list[Any]:
+    """The arguments that are made of the numbers of the cells: a number, or a tuple of those of a fraction or a date."""
+    rest, counts = iter(numbers), [len(EXPORTS().leaves(parameter.kind)) for parameter in call.parameters]
+    return [next(rest) if count == 1 else tuple(itertools.islice(rest, count)) for count in counts]
+
+
 def arguments(call: Call, number: Callable[[int, str], str]) -> str:
     """The arguments in C, made of the numbers of the cells."""
-    place, made = 0, []
-    for parameter in call.parameters:
-        leaves = EXPORTS().leaves(parameter.kind)
-        values = [number(place + k, leaf) for k, (_, leaf) in enumerate(leaves)]
-        place += len(leaves)
-        made.append(values[0] if len(leaves) == 1 else f'({c_type(parameter.kind)}){{{", ".join(values)}}}')
-    return ', '.join(made)
+    given = zip(call.parameters, grouped(call, [number(k, kind) for k, kind in enumerate(cells(call))]))
+    return ', '.join(made if isinstance(made, str) else f'({c_type(parameter.kind)}){{{", ".join(made)}}}' for parameter, made in given)
 
 
 def object_of(call: Call) -> str:
