@@ -18,7 +18,7 @@ from typing import NamedTuple
 
 from tools import ROOT, counted
 from tools.bindings.exports import EXPORTS
-from tools.erase.prose import anchor
+from tools.erase.prose import Anchors
 from tools.erase.source import Source
 
 Found = Iterator[tuple[str, bool]]      # places, each with whether it passed
@@ -30,7 +30,7 @@ BLOCK = re.compile(r'^ *```(rust|antt|crates|console)\n(.*?)(?:^ *```$|\Z)', re.
 IMPORT = re.compile(r'(?:pub )?((?:ghost )?use .*);')
 CODE = re.compile(r'^ *```.*?^ *```$|`[^`\n]*`', re.M | re.S)
 LINK = re.compile(r'\]\(([^()\s]+)\)')
-HEADING = re.compile(r'#{1,6} (.*)')
+HEADING = re.compile(r'^#{1,6} (.*)$', re.M)
 NAMED = re.compile(r'((?:`\w+`(?:,| and|, and)? )*(?:of )?)`(crates/[\w/]+\.(?:rt|antt))`')
 MESSAGE = re.compile(r'[a-z`].* .*')
 OF_OPERATORS = 'attempt to '            # how a message of Rust's own operators begins
@@ -113,15 +113,7 @@ def has_stored_run() -> bool:
 def anchors_of(page: pathlib.Path) -> set[str]:
     """The anchors of a page, as the browser of the repository makes them of its headings."""
     text = page.read_text() if page.suffix == '.md' else ''
-    found: set[str] = set()
-    counts: dict[str, int] = {}
-    for line in re.sub(r'^ *```.*?^ *```$', '', text, flags=re.M | re.S).split('\n'):
-        heading = HEADING.fullmatch(line)
-        if heading:
-            slug = anchor(heading.group(1))
-            counts[slug] = counts.get(slug, -1) + 1
-            found.add(f'{slug}-{counts[slug]}' if counts[slug] else slug)
-    return found
+    return set(map(Anchors().of, HEADING.findall(re.sub(r'^ *```.*?^ *```$', '', text, flags=re.M | re.S))))
 
 
 def broken_links(page: pathlib.Path) -> Iterator[str]:

@@ -65,3 +65,12 @@ def within_columns(text: str) -> str:
 def anchor(title: str) -> str:
     """The fragment that a title has, in the documentation of Rust and in the browser of a repository."""
     return re.sub(r'[^\w\- ]', '', title).replace(' ', '-').lower()
+
+
+class Anchors(dict[str, int]):
+    """How often the titles of a page have an anchor. In the browser of a repository each but the first has a number behind it."""
+
+    def of(self, title: str) -> str:
+        slug = anchor(title)
+        count = self[slug] = self.get(slug, -1) + 1
+        return f'{slug}-{count}' if count else slug
