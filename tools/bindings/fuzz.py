@@ -2,8 +2,6 @@
 fractions and the dates of Python (by_python.py). The package `cellarcove` makes the calls, as it is installed: over arrays, with and
 without outputs, and of one number.
 
-    tools/cellarcove check fuzz [--small] [--seed N] [--minutes M]
-
 It prints each call that is wrong, and at the end how many calls it made of how many exports. Its status is 1 if a call was
 wrong, or if by_python.py does not say what an export returns. First it wants of some calls what another returns, and each has to be
 found."""

@@ -1,8 +1,6 @@
 """Prints calls with random arguments, with corners, and those of the literal lines of rows.txt, and what each returns by the integers, the
 fractions and the dates of Python (by_python.py), for the tests of JavaScript.
 
-    tools/cellarcove make rows SEED COUNT [SECONDS]
-
 A line is an array of JSON: the name of the call in C; its form, if it is one of arrays, or an empty text; the arguments; the status; and
 the numbers of the result. An argument is a number, as a text; or an array of the parts of a struct, or of the items of a list. A row of
 arrays has an array of arguments for each item, and so of statuses and of results. Each call has COUNT rows of numbers, and a row for the

@@ -1,13 +1,11 @@
 """Takes the contracts out of the libraries, and makes one Cargo crate of plain Rust.
 
-    tools/cellarcove make rust     crates/NAME/src/*.rt and rust/by_hand/*  ->  rust/src/*
-
-Code stays token by token, with its comments. What goes: `ghost` items, members and
-fields, clauses, `final`, attributes of proofs, `#[cfg(test)]` items, labels that nothing names, and the traits that are of
-contracts alone. What changes: the first words of paths, the head of `fmt`, copies in `integer_core` (copies.py), and comments,
-which gain sections (documentation.py). What is added: `#[must_use]` of public calls that only return, `#[track_caller]` on the way to
-a panic (callers.py), and what is by hand (additions.py). No function of the library has a name here. A form that is not
-known here is rejected by file and line, and then nothing is made. tools/tests has examples of both."""
+Code stays token by token, with its comments. What goes: `ghost` items, members and fields, clauses, `final`, attributes of
+proofs, `#[cfg(test)]` items, labels that nothing names, and the traits that are of contracts alone. What changes: the first
+words of paths, the head of `fmt`, copies in `integer_core` (copies.py), and comments, which gain sections (documentation.py).
+What is added: `#[must_use]` of public calls that only return, `#[track_caller]` on the way to a panic (callers.py), and what is
+by hand (additions.py). No function of the library has a name here. A form that is not known here is rejected by file and line,
+and then nothing is made. tools/tests has examples of both."""
 import subprocess
 import tempfile
 from collections.abc import Iterable, Mapping

@@ -1,10 +1,8 @@
 """Takes the contracts out of the exports for C, and makes a Cargo package over the crate of plain Rust.
 
-    tools/cellarcove make exports   crates/cellarcove_c/src/*.rt and rust/by_hand/exports_head.rs  ->  rust/c/src/*.rs
-
-Code is erased as crate.py does it. What else changes: paths lead to the crate
-`cellarcove`; a slice becomes a pointer and a length, of which the body makes the slice, in an unsafe block; and functions that only
-state laws go. A form that is not known here is rejected by file and line, and then nothing is made."""
+Code is erased as crate.py does it. What else changes: paths lead to the crate `cellarcove`; a slice becomes a pointer and a length,
+of which the body makes the slice, in an unsafe block; and functions that only state laws go. A form that is not known here is
+rejected by file and line, and then nothing is made."""
 from collections.abc import Iterator
 
 from tools import ROOT
