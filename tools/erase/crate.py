@@ -15,8 +15,8 @@ from tools import ROOT as REPOSITORY, write
 from tools.erase import copies, documentation
 from tools.erase.additions import Additions
 from tools.erase.callers import Callers
-from tools.erase.deletion import GHOST_NAMES, Deletion
-from tools.erase.library import AT_ROOT, CRATES, ROOT, WITHIN, Module, RustLibrary
+from tools.erase.deletion import GHOST_NAMES
+from tools.erase.library import AT_ROOT, CRATES, ROOT, WITHIN, RustLibrary
 from tools.erase.prose import within_columns
 from tools.erase.source import Item, Unknown
 
@@ -28,14 +28,9 @@ RATTLE = {'ghost', 'requires', 'ensures', 'final', 'prove', 'Drop'}
 LOOPS = ('while', 'for', 'loop', '{')
 
 
-class Eraser(Deletion):
+class Eraser(documentation.Comments):
     """A file of a crate of the library."""
     root = 'crate'                              # how its code names the root of the Rust crate
-
-    def __init__(self, module: Module, library: RustLibrary, page: documentation.Page) -> None:
-        super().__init__(module.source)
-        self.module, self.library, self.page, self.crate = module, library, page, module.crate
-        self.words = {module.source.at(k) for k in range(len(module.source.code))}
 
     # ---- items
 
@@ -44,8 +39,9 @@ class Eraser(Deletion):
             self.put_before(item.first, '#[must_use]\n')
         if item.kind == 'mod' and item.public and not self.library.is_open(self.library.modules[self.crate, (*self.module.path, item.name)]):
             self.write(item.word - 1, 'pub(crate)')
-        documentation.add_sections(self, item, owner)
-        copies.write(self, item, owner)
+        self.add_sections(item, owner)
+        if self.crate == copies.CLONING:
+            copies.write(self, item, owner)
         if item.kind == 'struct':
             self.struct(item)
 
@@ -155,7 +151,7 @@ class Eraser(Deletion):
             text = self.texts[self.source.code[k]]
             if text and (self.at(k) in RATTLE or self.kind(k) in ('sign', 'word') and not self.at(k).isascii()):
                 self.refuse(k, f'`{self.at(k)}`, which is left over')
-        return ''.join(documentation.linked(self, token.text) if token.kind == 'line' and text == token.text else text
+        return ''.join(self.linked(token.text) if token.kind == 'line' and text == token.text else text
                        for token, text in zip(self.source.tokens, self.texts))
 
 
