@@ -95,35 +95,28 @@ class Eraser(documentation.Comments):
 
     def struct(self, item: Item) -> None:
         """A struct without bounds, which its methods have. Where a public one has an invariant, no other crate may change its fields."""
-        self.drop_bounds(item.word + 2)
-        has_invariant = any(field.ghost for field in item.fields)
-        for field in item.fields:
-            if field.public and not field.ghost and has_invariant and self.library.place_of(self.module, item) is not None:
-                self.write(field.place - 1, 'pub(crate)' if self.crate in AT_ROOT else f'pub(in crate::{self.crate})')
-
-    def drop_bounds(self, k: int) -> None:
-        """Drops the bounds of the types in `<>` from `k` on, if there are any."""
-        last = self.source.angle(k) - 1
+        k, last = item.word + 2, self.source.angle(item.word + 2) - 1
         while k < last:
             stop = self.source.next_field(k + 1, last)
             if self.kind(k + 1) == 'word' and self.at(k + 2) == ':':
                 self.drop(k + 2, stop - 1)
             k = stop
+        has_invariant = any(field.ghost for field in item.fields)
+        for field in item.fields:
+            if field.public and not field.ghost and has_invariant and self.library.place_of(self.module, item) is not None:
+                self.write(field.place - 1, 'pub(crate)' if self.crate in AT_ROOT else f'pub(in crate::{self.crate})')
 
     # ---- code
 
     def word(self, k: int) -> None:
         if self.kind(k) == 'label':
             self.label(k)
-        if self.is_macro(k) and self.at(k) not in MACROS:
+        is_macro = self.source.is_sign(k + 1, '!') and self.source.code[k + 1] == self.source.code[k] + 1 and self.at(k + 2) in ('(', '[', '{')
+        if self.kind(k) == 'word' and is_macro and self.at(k) not in MACROS:
             self.refuse(k, f'the macro `{self.at(k)}!`')
         super().word(k)
         if self.kind(k) == 'word' and self.texts[self.source.code[k]] == self.at(k):
             self.path(k)
-
-    def is_macro(self, k: int) -> bool:
-        mark = self.source.code[k] + 1
-        return self.kind(k) == 'word' and self.at(k + 1) == '!' and self.source.code[k + 1] == mark and self.at(k + 2) in ('(', '[', '{')
 
     def label(self, k: int) -> None:
         """Drops the label of a loop that nothing in it names."""
