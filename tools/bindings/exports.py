@@ -39,6 +39,11 @@ class Status(NamedTuple):
     number: int
     doc: str
 
+    @property
+    def reason(self) -> str:
+        """Its comment within a sentence."""
+        return self.doc[0].lower() + self.doc[1:].rstrip('.')
+
 
 class Struct(NamedTuple):
     name: str
