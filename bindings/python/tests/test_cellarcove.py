@@ -126,12 +126,6 @@ class Errors(unittest.TestCase):
         yield from (DivisionByZero(status) for status in (Status.OUTSIDE, Status.BAD_MODULUS, Status.ZERO_DENOMINATOR))
         yield NotFitting(Status.NOT_FITTING)
 
-    def test_classes(self):
-        self.assertTrue(issubclass(Refused, ValueError))
-        self.assertTrue(issubclass(DivisionByZero, ZeroDivisionError) and issubclass(DivisionByZero, Refused))
-        self.assertTrue(issubclass(NotFitting, OverflowError) and issubclass(NotFitting, Refused))
-        self.assertFalse(issubclass(Refused, (ArithmeticError, ZeroDivisionError)))
-
     def test_copies(self):
         """A copy, and what another process gets, is the same error."""
         for error in self.each():
