@@ -4,6 +4,7 @@
 
 import array
 import ast
+import contextlib
 import copy
 import ctypes
 import datetime
@@ -204,10 +205,8 @@ class Names(unittest.TestCase):
                 continue
             for first in odd:
                 for others in ((), (first,), (first, 1), (first, 1, 1), (1, first, 1, 1), (first, 1, 1, 1, first), (1,) * 9):
-                    try:
+                    with contextlib.suppress(TypeError, ValueError, OverflowError, ZeroDivisionError):
                         call(first, *others)
-                    except (TypeError, ValueError, OverflowError, ZeroDivisionError):
-                        pass
 
 
 if __name__ == '__main__':
