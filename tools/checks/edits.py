@@ -1,4 +1,4 @@
-"""Reads the seeded bugs of both suites, crates/NAME/must-fail/*.edit and crates/NAME/must-fail-release/*.edit, and proves
+"""Reads the mutants of both suites, crates/NAME/must-fail/*.edit and crates/NAME/must-fail-release/*.edit, and proves
 nothing. The first line of each says what is wrong, in one of three forms. Each file that it names is there, each old text
 stands in that file exactly once where the pairs above have been applied, and its new text is another. Prints a line for each
 that is not so, and a count at the end.

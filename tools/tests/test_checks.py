@@ -84,9 +84,9 @@ def test_slips_of_axioms(old: str, new: str, has: int, lacks: int) -> None:
     assert (found.count(True), found.count(False)) == (has, lacks)
 
 
-# ---- first lines of seeded bugs: their forms, and false ones
+# ---- first lines of mutants: their forms, and false ones
 
-BUG = ROOT / 'crates/integer_core/must-fail-release/all_are_even.edit'
+MUTANT = ROOT / 'crates/integer_core/must-fail-release/all_are_even.edit'
 
 
 @pytest.mark.parametrize('line', ['wrong: is_even(3) is true.', 'wrong: at is_even(3) it returns true.', 'wrong (not run): at is_even(3).',
@@ -98,8 +98,8 @@ def test_forms(line: str) -> None:
 
 @pytest.mark.skipif(not os.environ.get('CI'), reason='it builds a crate, so only the gate runs it')
 def test_lines() -> None:
-    texts, lines = edits.apply(BUG.parent.parent, BUG)[1], samples.cases('first_lines')
-    bugs = [wrong_lines.Bug(number, BUG, edits.form_of(line.rstrip()), texts) for number, (_, line) in enumerate(lines)]
-    wrong_lines.judge(bugs)
-    for bug, (told, line) in zip(bugs, lines):
-        assert (bug.told or 'nothing').startswith(told), f'{line}: {bug.told}'
+    texts, lines = edits.apply(MUTANT.parent.parent, MUTANT)[1], samples.cases('first_lines')
+    mutants = [wrong_lines.Mutant(number, MUTANT, edits.form_of(line.rstrip()), texts) for number, (_, line) in enumerate(lines)]
+    wrong_lines.judge(mutants)
+    for mutant, (told, line) in zip(mutants, lines):
+        assert (mutant.told or 'nothing').startswith(told), f'{line}: {mutant.told}'
