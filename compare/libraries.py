@@ -108,8 +108,6 @@ def model_of(given: str, words: str) -> Callable[..., Result]:
     return lambda ends, *arguments: model.RESULTS[name](ends, *[arguments[given.index(letter)] for letter in letters])
 
 
-# ---- the calls of modular
-
 def next_common_solution(ends: Pair, a: int, m: int, b: int, n: int) -> Numbers:
     found = model.RESULTS["next_common_solution"](ends, b, a, m, b, n)
     return (BEYOND,) if found == model.NOT_FITTING else found
@@ -134,8 +132,6 @@ def residue_lines(calls: str, types: Iterable[str] = TYPES) -> Iterator[Line]:
             yield name, "ChineseRemainder", of_two_moduli(TYPES[name], model.RESULTS["chinese_remainder"])
             yield name, "NextSolution", of_two_moduli(TYPES[name], next_common_solution)
 
-
-# ---- the calls of ratio64
 
 # Of these, that there is no result is counted too.
 COUNTED = {"Negation", "Magnitude", "Reciprocal", "Power", "Sum", "Difference", "Product", "Quotient"}
@@ -174,8 +170,6 @@ def fraction_lines() -> Iterator[Line]:
         for call, words in CALLS["two_fractions"].items():
             yield bits, call, of_fractions(call, words, (((*x, *y), x, y, 0) for x in few for y in few))
 
-
-# ---- the calls of calendar
 
 def day(n: int) -> Numbers:
     own = model.of_number(n)

@@ -87,8 +87,6 @@ def positive(number: int, status: int = OUTSIDE) -> int:
 modulus = partial(positive, status=BAD_MODULUS)
 
 
-# ---- division
-
 def ceil(x: int, y: int) -> int:
     return -(-x // y)
 

@@ -39,8 +39,6 @@ class Wrong(Exception):
     """A call returns something else than it should."""
 
 
-# ---- arguments
-
 def number(kind: str, width: int) -> int:
     """A number of a type: most have as many bits as the width, and some are small, or beside an end of the type."""
     low, high = RANGES[kind]
@@ -79,8 +77,6 @@ def as_object(value: Any) -> Any:
     except (OverflowError, ValueError):
         return SimpleNamespace(year=value[0], month=value[1], day=value[2])
 
-
-# ---- results
 
 def plain(result: Any) -> tuple[int, ...]:
     """The numbers of a result."""
@@ -241,8 +237,6 @@ def of_package(name: str, forms: list[Call]) -> int:
         done += sum(alone(name, forms, numbers) for numbers in list(zip(*taken))[:ONE_BY_ONE])
     return done
 
-
-# ---- the run
 
 # Pairs of calls that differ at few arguments.
 EXCHANGED = (('div_floor', 'div_ceil'), ('average_floor', 'average_ceil'), ('gcd', 'lcm'), ('sum_modulo', 'difference_modulo'),

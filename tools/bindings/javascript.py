@@ -47,12 +47,6 @@ def table() -> str:
     return filled('table.js', version=VERSION, statuses=statuses, structs=structs, calls=calls)
 
 
-def module() -> str:
-    """The module, whose functions have names that a reader and a bundler see."""
-    pairs = (f'export const {camel(name)} = call({camel(name)!r}), {of_try(name)} = attempt({camel(name)!r});\n' for name in EXPORTS().forms())
-    return filled('cellarcove.js', calls=''.join(pairs))
-
-
 # ---- types
 
 def comment_of(call: Call) -> str:
@@ -121,4 +115,7 @@ def types() -> str:
 
 
 def made() -> dict[str, str]:
-    return {'bindings/js/table.js': table(), 'bindings/js/cellarcove.js': module(), 'bindings/js/cellarcove.d.ts': types()}
+    # the functions of the module have names that a reader and a bundler see
+    names = (f'export const {camel(name)} = call({camel(name)!r}), {of_try(name)} = attempt({camel(name)!r});\n' for name in EXPORTS().forms())
+    return {'bindings/js/table.js': table(), 'bindings/js/cellarcove.js': filled('cellarcove.js', calls=''.join(names)),
+            'bindings/js/cellarcove.d.ts': types()}

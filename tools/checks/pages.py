@@ -41,7 +41,7 @@ CLASS = re.compile(r'^class (\w+)\(((?:\w+Error|Refused)\b[\w, ]*)\):', re.M)
 RAISED = re.compile(r'\b(\w+Error)\(|\bPyExc_(\w+)|\b(PyErr_NoMemory|PyObject_GetAttr)\(')
 RAISED_BY = {'PyErr_NoMemory': 'MemoryError', 'PyObject_GetAttr': 'AttributeError'}
 UNSEEN = {'KeyError', 'AttributeError'}  # the package would lack one of its own classes, and a call raises TypeError in its place
-SHOWN_EXCEPTION = re.compile(r'^\| (\w+) \| (.*?) *\|', re.M)
+SHOWN_EXCEPTION = re.compile(r'^\| `(\w+)` \| (.*?) *\|', re.M)
 NO_CODE = re.compile(r'^ *//.*$|#!?\[(?:[^\[\]]|\[[^\[\]]*\])*\]', re.M)
 COMMAND = re.compile(r'(?:intcalc|cargo run --example \w+)(?: [^;|&]*)?|echo \$\?')
 
@@ -58,8 +58,6 @@ def blocks(text: str) -> Iterator[Block]:
     for found in BLOCK.finditer(text):
         yield Block(text.count('\n', 0, found.start()) + 1, found[1], unindented(found[2]).split('\n')[:-1])
 
-
-# ---- blocks that quote a file
 
 def unindented(text: str) -> str:
     return '\n'.join(line.lstrip(' ') for line in text.split('\n'))
@@ -100,15 +98,6 @@ def files() -> Files:
     return Files(read(('src',), '.rt') + plain, read(('src', 'specs', 'proofs'), '.antt'), (ROOT / 'crates.txt').read_text())
 
 
-def has_stored_run() -> bool:
-    """Whether README.md has the command of the stored run, and what it prints."""
-    text, program = (ROOT / 'README.md').read_text(), ROOT / 'crates' / 'intcalc'
-    words, printed = (program / 'args').read_text().split(), (program / 'stdout').read_text().rstrip('\n')
-    return f"rt run -- {' '.join(words)})" in text and f'prints `{printed}`' in text
-
-
-# ---- links
-
 @functools.cache
 def anchors_of(page: pathlib.Path) -> set[str]:
     """The anchors of a page, as the browser of the repository makes them of its headings."""
@@ -125,8 +114,6 @@ def broken_links(page: pathlib.Path) -> Iterator[str]:
             yield link
 
 
-# ---- files that a page names
-
 def absent_names(text: str, texts: dict[str, str]) -> Iterator[str]:
     """The files that a page names and that are not there, and the names that are not in them. `texts` has the files."""
     for names, file in NAMED.findall(' '.join(text.split())):
@@ -141,8 +128,6 @@ def look(patterns: tuple[str, ...], failed: str, wrong: Callable[[pathlib.Path],
         found = list(wrong(page))
         yield f'{" ".join([page.relative_to(ROOT).as_posix(), *found])}: {failed}', not found
 
-
-# ---- messages, statuses and exceptions
 
 def messages_in(code: str) -> set[str]:
     """The messages of the panics and the errors in the text of a file of Rust, except those that are put together: each string of
@@ -175,8 +160,8 @@ def exceptions_in(package: str, driver: str) -> set[str]:
 
 def rows_on(page: str) -> set[str]:
     """The statuses that a page shows, and the exceptions, each with the classes that it is one of too."""
-    exceptions = SHOWN_EXCEPTION.findall(page.partition('\n## Exceptions')[2].replace('`', ''))
-    return {f'{number} CELLARCOVE_{name}' for number, name in SHOWN_STATUS.findall(page)} | {' '.join(row) for row in exceptions}
+    exceptions = SHOWN_EXCEPTION.findall(page.partition('\n## Exceptions')[2])
+    return {f'{number} CELLARCOVE_{name}' for number, name in SHOWN_STATUS.findall(page)} | {' '.join(row).replace('`', '') for row in exceptions}
 
 
 def compared(printed: set[str], shown: set[str]) -> Found:
@@ -207,10 +192,11 @@ def compare() -> Found:
         for block in blocks(page.read_text()):
             if block.kind != 'console':
                 yield f'{name}:{block.line}: in no file', there.has(block)
-    yield 'README.md: the stored run: in no file', has_stored_run()
+    # README.md has the command of the stored run, and what it prints
+    text, program = (ROOT / 'README.md').read_text(), ROOT / 'crates' / 'intcalc'
+    words, printed = (program / 'args').read_text().split(), (program / 'stdout').read_text().rstrip('\n')
+    yield 'README.md: the stored run: in no file', f"rt run -- {' '.join(words)})" in text and f'prints `{printed}`' in text
 
-
-# ---- sessions with the program
 
 def steps(block: Block) -> list[tuple[int, str, list[str]]]:
     """The commands of a session, each with the number of its line and the lines that it prints."""

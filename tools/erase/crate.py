@@ -32,8 +32,6 @@ class Eraser(documentation.Comments):
     """A file of a crate of the library."""
     root = 'crate'                              # how its code names the root of the Rust crate
 
-    # ---- items
-
     def dress(self, item: Item, owner: Item | None) -> None:
         if self.only_returns(item, owner):
             self.put_before(item.first, '#[must_use]\n')
@@ -105,8 +103,6 @@ class Eraser(documentation.Comments):
         for field in item.fields:
             if field.public and not field.ghost and has_invariant and self.library.place_of(self.module, item) is not None:
                 self.write(field.place - 1, 'pub(crate)' if self.crate in AT_ROOT else f'pub(in crate::{self.crate})')
-
-    # ---- code
 
     def word(self, k: int) -> None:
         if self.kind(k) == 'label':

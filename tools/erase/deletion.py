@@ -35,8 +35,6 @@ class Deletion:
         after = self.source.code[last] + 1
         self.texts[after] = self.texts[after].replace('\n', '', 1)
 
-    # ---- items
-
     def items(self, items: Iterable[Item], owner: Item | None = None) -> None:
         for item in items:
             self.item(item, owner)
@@ -99,8 +97,6 @@ class Deletion:
 
     def use(self, item: Item) -> None:
         """A use."""
-
-    # ---- code
 
     def walk(self, k: int, last: int) -> None:
         while k <= last:

@@ -26,8 +26,6 @@ SECTIONS = ('Examples', 'Panics', 'Errors')
 IN_PLAIN_RUST, IN_RATTLE = 'In plain Rust, ', 'In Rattle, '
 
 
-# ---- the comments of the sources
-
 def sections_of(lines: list[str]) -> dict[str, list[str]]:
     """The lines of a comment by the heads of its sections, without blank lines at their ends. Those before the first stand below ''."""
     found: dict[str, list[str]] = {'': []}
@@ -52,8 +50,6 @@ def of_rattle(lines: list[str]) -> list[str]:
         found += ['', *['Errors:', ''] * (name == 'Errors'), *part]
     return found[1:]
 
-
-# ---- contracts
 
 class Page:
     """What the modules of definitions have: the words that are cited, of which those of the toolchain are explained by hand, and by the
@@ -84,8 +80,6 @@ def clauses_of(source: Source, item: Item) -> list[str]:
     texts = (' '.join(source.text(clause.first, clause.last).rstrip(';').split()) for clause in clauses)
     return [text for text in texts if says_more(text)]
 
-
-# ---- what an item has
 
 class Comments(Deletion):
     """A file of a crate of the library, whose comments become those of the Rust crate."""
@@ -186,8 +180,6 @@ class Comments(Deletion):
         label = 'Laws' if item.kind == 'trait' else 'Contract'
         return [f'[{label}](crate::definitions::contracts#{anchor(title)})']
 
-
-# ---- the modules `definitions` and `definitions::contracts`
 
 def pages(page: Page, by_hand: pathlib.Path) -> dict[str, tuple[str, str]]:
     """The file of the modules and the pages that are their documentation: what each is made from, and its text. Call it after the

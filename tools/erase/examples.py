@@ -31,8 +31,6 @@ def sentences(source: Source, item: Item) -> list[tuple[str, str]]:
     return found
 
 
-# ---- the lines before the block
-
 def paragraphs(lines: list[str]) -> list[list[str]]:
     """The lines of a comment by paragraph."""
     return [part.split('\n') for part in re.split('\n\n+', '\n'.join(lines).strip('\n')) if part]
@@ -48,8 +46,6 @@ def without_examples(lines: list[str]) -> list[str]:
             found += ['', *(paragraph if rest == text else wrapped(rest))]
     return found[1:] or lines
 
-
-# ---- the block
 
 @functools.cache
 def methods(library: RustLibrary) -> dict[str, set[tuple[Place, str]]]:

@@ -98,8 +98,6 @@ class Source:
             line += text.count('\n', at, end)
             at = end
 
-    # ---- places
-
     def kind(self, k: int) -> str:
         return self.tokens[self.code[k]].kind if 0 <= k < len(self.code) else ''
 
@@ -210,8 +208,6 @@ class Source:
         pairs = (path.partition(' as ')[::2] for path in text.split(',') if path)
         paths = [(tuple(path.removesuffix('::self').split('::')), name) for path, name in pairs]
         return [(path, name or path[-1]) for path, name in paths]
-
-    # ---- items
 
     def items(self, k: int = 0, last: int | None = None) -> list[Item]:
         """The items from `k` on, to the place `last`."""

@@ -49,8 +49,6 @@ class Page:
         self.lines: list[str | list[Definition]] = [f'# `{name}`', '']
         self.anchors = Anchors()
 
-    # ---- what it shows
-
     def place(self, module: Module, item: Item) -> Place | None:
         """The place of the public module from which a caller imports an item, or the type of an implementation, or None."""
         if item.kind == 'impl':
@@ -72,19 +70,11 @@ class Page:
                     places.setdefault(place, []).append((module, item))
         return sorted(places.items(), key=lambda place: (FIRST.index(place[0]) if place[0] in FIRST else len(FIRST), place[0]))
 
-    def imports(self, place: Place, shown: Shown) -> str:
-        """The line by which a caller imports the items of a place."""
-        names = sorted({item.name for _, item in shown if item.kind != 'impl'})
-        listed = names[0] if len(names) == 1 else '{' + ', '.join(names) + '}'
-        return f"use {'::'.join((self.name,) + place)}::{listed};"
-
     def head(self, place: Place, shown: Shown) -> list[str]:
         """The head of the file of a place. That of the root is the head of the page."""
         files = [module for module in self.library.modules.values() if module.path == place]
         own = [module for module in files if module.crate == self.name] or [module for module, _ in shown if module.path == place]
         return own[0].source.head() if own and place else []
-
-    # ---- how it grows
 
     def heading(self, level: int, text: str) -> str:
         self.add('#' * level + ' ' + text, '')
@@ -134,12 +124,6 @@ def head_of(source: Source, item: Item) -> str:
     return dedented(source, item.first, item.last)
 
 
-def doc_of(source: Source, item: Item) -> list[str]:
-    """The doc comment of an item. Its links are those of the documentation of the Rust crate, so here they are names."""
-    text = re.sub(r'\[(`[^`]+`)\](?:\([^)]*\))?', r'\1', '\n'.join(source.doc(item)))
-    return of_rattle(text.replace('`crate::', '`').split('\n'))
-
-
 class Reference:
     """All pages: the items first, which name the words that the definitions are then made of."""
 
@@ -148,8 +132,6 @@ class Reference:
         self.pages = {name: Page(library, name) for name in NAMES}
         self.anchors: dict[tuple[str, str, str], str] = {}
         self.calls: list[tuple[str, str, str, str, str]] = []
-
-    # ---- words
 
     def links(self, page: Page, text: str, imports: Imports) -> None:
         """Adds the line of links to the words of a text."""
@@ -161,8 +143,6 @@ class Reference:
         def link(word: Definition) -> str:
             return f'[`{word.name}`]({"" if word.crate == page.name else word.crate + ".md"}#{self.anchors[word.key]})'
         return '\n'.join(line if isinstance(line, str) else '\n'.join(wrapped(f'Words: {", ".join(map(link, line))}.', 110)) for line in page.lines)
-
-    # ---- items
 
     def items_of(self, page: Page) -> None:
         page.add(*page.modules[0].source.head(), '', IN_RANGE, '')
@@ -177,10 +157,15 @@ class Reference:
                 page.heading(2, f"`{'::'.join((page.name,) + place)}`")
             page.add(*page.head(place, shown), '')
             if page.name not in BY_FILE:
-                page.block('rust', '\n'.join(wrapped(page.imports(place, shown), 100, '    ')))
+                names = sorted({item.name for _, item in shown if item.kind != 'impl'})
+                listed = names[0] if len(names) == 1 else f'{{{", ".join(names)}}}'
+                page.block('rust', '\n'.join(wrapped(f'use {"::".join((page.name, *place))}::{listed};', 100, '    ')))
             for module, item in shown:
                 for block in self.blocks(module.source, item):
                     self.block(page, place, module, *block)
+        if (CRATES / page.name / 'specs' / 'Laws.antt').is_file():
+            for name in self.specs.read(page.name, 'Laws')[0]:
+                self.specs.cite_word(name, page.name, 'specs.Laws')
 
     def blocks(self, source: Source, item: Item) -> Iterator[Block]:
         """What the page shows of an item: a title, what has its doc comment, its code, and the items whose imports count."""
@@ -199,7 +184,9 @@ class Reference:
             yield f'`{item.name}::{inner.name}`', inner, head_of(source, inner), item.items
 
     def block(self, page: Page, place: Place, module: Module, title: str, item: Item, code: str, inner: list[Item]) -> None:
-        doc, anchor = doc_of(module.source, item), page.heading(3, title)
+        # the links of a comment are those of the documentation of the Rust crate, so here they are names
+        text = re.sub(r'\[(`[^`]+`)\](?:\([^)]*\))?', r'\1', '\n'.join(module.source.doc(item))).replace('`crate::', '`')
+        doc, anchor = of_rattle(text.split('\n')), page.heading(3, title)
         page.add(*doc, '')
         page.block('rust', code)
         if item.kind in ('struct', 'enum'):
@@ -209,8 +196,6 @@ class Reference:
         if item.kind == 'fn' and page.name not in BY_FILE:
             self.calls.append((item.name, title.strip('`'), '::'.join((page.name, *place)), f'{page.name}.md#{anchor}', first_sentence(doc)))
         self.links(page, code, imports_of(module.source, module.items) | imports_of(module.source, inner))
-
-    # ---- definitions, laws and lemmas
 
     def definitions_of(self, page: Page) -> None:
         crate = page.name
@@ -228,11 +213,6 @@ class Reference:
                 if word.key in self.specs.cited:
                     self.anchors[word.key] = page.word(3, name, word.comment, word.text)
                     self.links(page, word.text, self.specs.names(word))
-
-    def laws_of(self, page: Page) -> None:
-        if (CRATES / page.name / 'specs' / 'Laws.antt').is_file():
-            for name in self.specs.read(page.name, 'Laws')[0]:
-                self.specs.cite_word(name, page.name, 'specs.Laws')
 
     def lemmas_of(self, page: Page) -> None:
         crate, file = page.name, CRATES / page.name / 'proofs' / 'ForCallers.antt'
@@ -253,10 +233,8 @@ class Reference:
             for name, lemma in lemmas(text).items():
                 page.word(4, name, *lemma)
 
-    # ---- the pages
-
     def made(self) -> dict[str, str]:
-        for add in (self.items_of, self.laws_of, self.definitions_of, self.lemmas_of):
+        for add in (self.items_of, self.definitions_of, self.lemmas_of):
             for page in self.pages.values():
                 add(page)
         pages = {f'{name}.md': self.text(page) for name, page in self.pages.items()}

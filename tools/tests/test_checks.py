@@ -10,8 +10,6 @@ from tools.erase.source import Source
 from tools.tests import samples
 
 
-# ---- rust_docs: the made comments and pages
-
 @pytest.mark.parametrize('wanted, text', samples.cases('rust_docs'))
 def test_lacks(wanted: str, text: str) -> None:
     source = Source(Path('lib.rs'), text)
@@ -32,8 +30,6 @@ def test_dead_links(tmp_path: Path) -> None:
         'index.html leads to words/index.html#odd, which is not there', 'words/index.html leads to ../index.html#half, which is not there']
 
 
-# ---- guards: the calls that are taken out, and what is written for them
-
 def test_calls_that_are_taken_out(tmp_path: Path) -> None:
     golden, sources = dict(samples.cases('guards')), tmp_path / 'rust' / 'src'
     write(tmp_path / 'rust', golden)
@@ -46,8 +42,6 @@ def test_calls_that_are_taken_out(tmp_path: Path) -> None:
     assert (sources / 'lib.rs').read_text() == '\nmod guards;\nmod roots;\n\nmod taken_out;\n'
     assert (sources / 'guards.rs').read_text() == golden['src/guards.rs']
 
-
-# ---- laws that stand in no clause
 
 @pytest.fixture(name='root')
 def repository(tmp_path: Path) -> Path:
@@ -68,8 +62,6 @@ def test_slips_of_laws(root: Path, head: str, slip: str) -> None:
     assert any(line.startswith(f'{file}: ') and line.endswith(f' ensures `{law}`') for line in failed)
 
 
-# ---- trust: what docs/TRUST.md says of the axioms, and what a run printed
-
 SAID, LOG = (text for _, text in samples.cases('trust'))
 
 
@@ -83,8 +75,6 @@ def test_slips_of_axioms(old: str, new: str, has: int, lacks: int) -> None:
     found = [passed for _, passed in trust.compared(SAID.replace(old, new), trust.facts_of(LOG.replace(old, new)))]
     assert (found.count(True), found.count(False)) == (has, lacks)
 
-
-# ---- first lines of mutants: their forms, and false ones
 
 MUTANT = ROOT / 'crates/integer_core/must-fail-release/all_are_even.edit'
 

@@ -22,8 +22,6 @@ IsoCalendarDate = type(datetime.date(1970, 1, 1).isocalendar())
 LISTED = pathlib.Path(__file__).with_suffix('.txt')
 
 
-# ---- what is beyond 64 bits
-
 class Beyond:
     """A number that the package has not."""
 
@@ -57,8 +55,6 @@ def bounded(call):
             return BEYOND
     return within
 
-
-# ---- the calls in the place of those of Python
 
 class Rounded(Fraction):
     """A fraction that the package rounds, and for which it finds the nearest with a small denominator."""
@@ -123,8 +119,6 @@ class Day(datetime.date):
 
 Day.min, Day.max = Day.of(datetime.date.min), Day.of(datetime.date.max)
 
-
-# ---- the count
 
 class Counting:
     """The assertions of a test, each counted by itself."""
@@ -191,8 +185,6 @@ for assertion in ('assertEqual', 'assertNotEqual', 'assertTrue', 'assertFalse', 
                   'assertIsInstance', 'assertAlmostEqual', 'assertTypedEquals'):
     setattr(Counting, assertion, counted(assertion))
 
-
-# ---- the tests
 
 def cases():
     """The tests, each of a class whose calls are those of the package, with the number of assertions that fail."""
