@@ -7,7 +7,8 @@ those of tools/bindings/by_python.py, with which the exports are compared too.
 import tomllib
 from collections.abc import Callable, Iterable, Iterator, Sequence
 from fractions import Fraction
-from itertools import combinations
+from itertools import combinations, groupby
+from operator import itemgetter
 
 from tools import ROOT
 from tools.bindings import by_python as model
@@ -211,16 +212,15 @@ def ranked_choices() -> Iterator[tuple[Sequence[int], Numbers]]:
             yield from (((rank,), choice) for rank, choice in enumerate(choices))
 
 
-def line(key: str | int, call: str, answered: Answered) -> str:
-    """A line, laid out as rt fmt does it."""
-    columns = [str(key), call, str(answered.count), str(answered.checksum)]
-    text = ", ".join(columns)
-    return f"    ({text}),\n" if len(text) <= 60 else "".join(["    (\n", *(f"        {part},\n" for part in columns), "    ),\n"])
-
-
 def table(name: str, key_type: str, calls: str, lines: Iterable[Line]) -> str:
-    texts = [line(key, f"{calls}::{call}", answered) for key, call, answered in lines]
-    return f"\npub(crate) const {name}: [LibraryLine<{key_type}, {calls}>; {len(texts)}] = [\n{''.join(texts)}];\n"
+    """The lines of a library, under the types or the numbers of bits: three in a row."""
+    found = list(lines)
+    text = f"\npub(crate) const {name}: [LibraryLine<{key_type}, {calls}>; {len(found)}] = lines! {{ {calls}:\n"
+    for key, of_key in groupby(found, key=itemgetter(0)):
+        texts = [f"{call} {answered.count} {answered.checksum}" for _, call, answered in of_key]
+        rows = [", ".join(texts[first:first + 3]) for first in range(0, len(texts), 3)]
+        text += f"    {key}:\n        " + ",\n        ".join(rows) + ";\n"
+    return text + "};\n"
 
 
 def made() -> dict[str, str]:

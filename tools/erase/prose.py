@@ -6,7 +6,7 @@ from collections.abc import Iterator
 
 COLUMNS = 100                                   # of a line of Rust
 WIDTH = 96                                      # of the lines of a comment in Rust, before it is indented
-LINK = re.compile(r'\[[^\]]*\]\(')
+WHOLE = re.compile(r'`[^`]*`|\[[^\]]*\]\(')      # a span of code, or a link up to its target
 HEAD = re.compile(r' *(?:///|//!|//)|')         # the margin and the sign of a line of a comment, or an empty text
 # What begins a line that is no part of a paragraph, or the first of one.
 ALONE = re.compile(r'$|#|\||</?\w|```|@')
@@ -14,8 +14,9 @@ ITEM = re.compile(r'(- |\d+\. )')
 
 
 def wrapped(text: str, width: int = WIDTH, indent: str = '') -> list[str]:
-    """The lines of a text, broken at spaces that are not within a link. `indent` is that of the lines after the first."""
-    text = LINK.sub(lambda link: link.group().replace(' ', '\0'), text)
+    """The lines of a text, broken at spaces that are neither in a span of code nor in a link. `indent` is that of the lines after
+    the first."""
+    text = WHOLE.sub(lambda whole: whole.group().replace(' ', '\0'), text)
     lines = textwrap.wrap(text, width, subsequent_indent=indent, break_on_hyphens=False, break_long_words=False)
     return [line.replace('\0', ' ') for line in lines]
 

@@ -260,7 +260,7 @@ if builds_by_cargo; then
 fi
 if has cc C; then
     check 'a call in the place of another' other_call_is_found
-    for page in README.md docs/C.md docs/COOKBOOK.md; do
+    for page in README.md docs/COOKBOOK.md; do
         check "the example of $page" page_holds "$page" c cc -std=c11
     done
     check 'the installed library' installs

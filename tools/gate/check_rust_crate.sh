@@ -114,7 +114,9 @@ check_dependents() {
 }
 
 # The lines of a list: type, call, number of inputs and checksum.
-sums() { awk -F '[(), ]+' '$2 == "Line" { print $3, $4, $5 + $6, $7 }' "$1"; }
+sums() {
+    grep -oE '^ +[IU][a-z0-9]+:$|[A-Z][A-Za-z]+( [0-9]+){3}' "$1" | awk '/:/ { type = $1; next } { print type, $1, $2 + $3, $4 }'
+}
 
 checksums() {
     at compare cargo run --release --features cellarcove >"$work/list" || return 1
