@@ -35,8 +35,7 @@ has_packages() {
 # cargo's shared library has the exports alone, a name for the loader, and no need that nothing meets.
 is_shared_library() {
     local library=$CARGO_TARGET_DIR/release/libcellarcove_c.so
-    diff <({ tools/cellarcove make symbols && printf 'cellarcove_%s\n' built_by version; } | sort) \
-        <(nm --dynamic --defined-only "$library" | awk '{ print $3 }' | sort) &&
+    exports_its_calls --dynamic "$library" &&
         readelf -d "$library" | grep -q 'SONAME.*libcellarcove_c.so.[0-9]' && ! nm --dynamic --undefined-only "$library" | grep -v ' w '
 }
 

@@ -1,5 +1,5 @@
-//! Each call on pairs of numbers of each own type, against the same call at `i64`: it returns the same, if each number of
-//! the result is in the type, and else the operands are outside its domain.
+//! Each call on pairs of numbers of each own type, compared with the same call at `i64`. If each number of that result is in
+//! range, the call returns the same; otherwise the operands do not meet its precondition.
 
 use super::calls::Call;
 use super::ends::Ends;

@@ -308,7 +308,7 @@ fn of_form<F: Form>(ask: Ask) -> Option<Numbers> {
     of_signed::<Own<F>>(ask)
 }
 
-/// The result of the call at the type, or `None` outside the domain of the call.
+/// The result of the call at the type, or `None` if the operands do not meet its precondition.
 pub(crate) fn result(
     alloc: Global,
     it: Type,

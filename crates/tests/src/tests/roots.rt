@@ -40,7 +40,7 @@ fn check_number(rt: &impl Abort, alloc: Global, (it, x, degree, root): (Type, i1
     has_root(rt, alloc, it, x, degree, root);
 }
 
-/// Checks that the root has the sign of the number, and the largest magnitude whose power is at most that of the number.
+/// Checks that the root has the sign of the number, and the largest magnitude whose power is at most the number's.
 pub(super) fn check_root(rt: &impl Abort, alloc: Global, it: Type, x: i128, n: u32) {
     let operand = signed_magnitude_of(x);
     let root = result(alloc, it, Root, &[operand, (false, u128::from(n))]);
@@ -57,7 +57,7 @@ pub(super) fn check_root(rt: &impl Abort, alloc: Global, it: Type, x: i128, n: u
     holds_at(rt, is_root, &("nth_root", x, n));
 }
 
-/// Checks that the call has no root of this degree in its domain.
+/// Checks that the precondition of a root of this degree does not hold.
 pub(super) fn has_no_root(
     rt: &impl Abort,
     alloc: Global,
