@@ -107,7 +107,7 @@ static LARGEST_ROWS: [(Type, u128); 8] = [
     (I64, 66),
 ];
 
-/// The largest coefficient of a row is in its middle. It fits in the first row of each line, and not in the row after it.
+/// The largest coefficient of a row is in its middle: that of the largest row fits, and that of the next row does not.
 static MIDDLES: &[&str] = &[
     "u8 binomial_fits: 10 5 = true, 11 5 = false",
     "i8 binomial_fits: 9 4 = true, 10 5 = false",
