@@ -99,73 +99,93 @@ make_files() {
 
 # ---- each file, in an empty folder
 
-# empty NAME: makes an empty folder of that name, and prints it.
-empty() { rm -rf "$work/tried/$1" && mkdir -p "$work/tried/$1" && echo "$work/tried/$1"; }
-
-tries_the_crate() {
-    local there words=()
-    there=$(empty crate) && tar -xzf "$files/cellarcove-$version.crate" -C "$there" || return 1
-    [ "$quick" = no ] || words=(--test own_type --test modules --test cookbook)
-    (cd "$there/cellarcove-$version" && cargo build --offline --all-features && cargo test --offline --all-features "${words[@]}")
-}
-
-# with_python NAME FILE: a fresh environment of the Python that has hatchling, in which a file is installed without the net. Prints its Python.
-with_python() {
-    local there
-    there=$(empty "$1") && "$(builder)" -m venv --system-site-packages "$there/environment" >&2 &&
-        CELLARCOVE_ARCHIVE='' "$there/environment/bin/python" -m pip install --quiet --disable-pip-version-check --no-index \
-            --no-build-isolation "$2" >&2 && echo "$there/environment/bin/python"
-}
-
-tries_the_wheel() (
-    local python here=$work/one/clone words=(--minutes 1 --small)
-    [ "$quick" = no ] || words=(--minutes 0.05)
-    python=$(with_python wheel "$files"/*.whl) && cd "$(empty nowhere)" && "$python" "$here/bindings/python/tests/test_cellarcove.py" &&
-        "$python" "$here/tools/cellarcove" check fuzz "${words[@]}"
+# alone COMMAND..: a function of this script runs without a net and without `rt`, in a process of its own.
+alone() (
+    export CARGO_NET_OFFLINE=true files machine quick root=$PWD version work
+    mapfile -t names < <(compgen -A function)
+    export -f "${names[@]}"
+    unshare -rnm bash -c '{ ! kit=$(rt doc) || mount -t tmpfs none "${kit%/*}"; } && ip link set lo up && "$@"' - "$@"
 )
 
+# enters NAME [FILE]: an empty folder has all files, or what an archive has.
+enters() {
+    local there=$work/tried/$1
+    rm -rf "$there" && mkdir -p "$there" || return 1
+    [ $# -gt 1 ] || cp "$files"/* "$there"
+    [ $# -eq 1 ] || tar -xzf "$files/$2" -C "$there"
+    takes_debian "$there" && cd "$there" || return 1
+}
+
+# lines NAME LANGUAGE: the first block of a language in a part of README.md. These lines are run word for word.
+lines() { block <(sed -n "/^\*\*$1\*\*/,\$p" "$root/README.md") "$2"; }
+
+lines_of_rust() {
+    enters rust && cargo init --quiet --name mine && bash -e <(lines Rust sh) &&
+        { echo 'fn main() {' && lines Rust rust && echo '}'; } >src/main.rs && cargo run
+}
+
+lines_of_python() {
+    enters python && "$(builder)" -m venv e && source e/bin/activate && bash -e <(lines Python sh) && lines Python python >mine.py &&
+        python mine.py 2>&1 | grep -F 'NotFitting: NOT_FITTING'
+}
+
+# Those of docs/C.md too, for C++.
+lines_of_c() {
+    enters c && lines C c >mine.c && bash -e <(lines C sh) && ./a.out | grep -x "it doesn't fit" && block "$root/docs/C.md" cpp >mine.cpp &&
+        bash -e <(block "$root/docs/C.md" sh) && ./a.out | grep -x 2024-04-01
+}
+
+lines_of_javascript() { enters javascript && bash -e <(lines JavaScript sh) && lines JavaScript js >mine.mjs && node mine.mjs; }
+
+tries_the_crate() {
+    local words=()
+    [ "$quick" = no ] || words=(--test own_type --test modules --test cookbook)
+    enters crate "cellarcove-$version.crate" && cd cellarcove-* && cargo build --all-features && cargo test --all-features "${words[@]}"
+}
+
+# with_python FILE: a fresh environment of the Python that has hatchling, in which a file is installed.
+with_python() {
+    "$(builder)" -m venv --system-site-packages e && source e/bin/activate &&
+        CELLARCOVE_ARCHIVE='' pip install --quiet --disable-pip-version-check --no-index --no-build-isolation "$1"
+}
+
+tries_the_wheel() {
+    local here=$work/one/clone words=(--minutes 1 --small)
+    [ "$quick" = no ] || words=(--minutes 0.05)
+    enters wheel && with_python ./*.whl && python "$here/bindings/python/tests/test_cellarcove.py" && python "$here/tools/cellarcove" check fuzz "${words[@]}"
+}
+
 tries_the_source_distribution() {
-    local python there
-    python=$(with_python source "$files/cellarcove-$version.tar.gz") && there=$(empty unpacked) && tar -xzf "$files/cellarcove-$version.tar.gz" -C "$there" &&
-        (cd "$there" && "$python" -c 'import cellarcove; assert cellarcove.BUILT_BY == "cargo"' && "$python" cellarcove-*/tests/test_cellarcove.py)
+    enters sdist "cellarcove-$version.tar.gz" && with_python "$files/cellarcove-$version.tar.gz" &&
+        python -c 'import cellarcove; assert cellarcove.BUILT_BY == "cargo"' && python cellarcove-*/tests/test_cellarcove.py
 }
 
 # A program in C, built by what pkg-config says and nothing else, with the shared library and then with the archive.
 tries_c() {
-    local there flags top=cellarcove-c-$version
-    there=$(empty c) && tar -xzf "$files/$top-$machine.tar.gz" -C "$there" && cp "$work/one/clone/bindings/c/test.c" "$there" || return 1
-    flags=$(PKG_CONFIG_PATH=$there/$top/lib/pkgconfig pkg-config --cflags --libs cellarcove) && read -ra flags <<<"$flags" &&
-        (cd "$there" && cc test.c "${flags[@]}" -o shared && LD_LIBRARY_PATH=$top/lib ./shared &&
-            rm "$top"/lib/*.so* && cc test.c "${flags[@]}" -o static && ./static)
+    local flags top=cellarcove-c-$version
+    enters pkg-config "$top-$machine.tar.gz" && cp "$work/one/clone/bindings/c/test.c" . || return 1
+    flags=$(PKG_CONFIG_PATH=$PWD/$top/lib/pkgconfig pkg-config --cflags --libs cellarcove) && read -ra flags <<<"$flags" &&
+        cc test.c "${flags[@]}" -o shared && LD_LIBRARY_PATH=$top/lib ./shared && rm "$top"/lib/*.so* && cc test.c "${flags[@]}" -o static && ./static
 }
 
-# The package, installed by npm without the net and imported by its name, passes its tests, with a minute of random calls.
-tries_the_package_for_npm() {
-    local there minutes=1
+# tries_javascript [WORD..]: the package passes its tests, with a minute of random calls. With words for Node, it has the WebAssembly that
+# Rattle made.
+tries_javascript() {
+    local minutes=1
     [ "$quick" = no ] || minutes=0.05
-    there=$(empty npm) && (cd "$there" && npm install --offline --no-audit --no-fund "$files/cellarcove-$version.tgz" &&
-        echo "import {lcm} from 'cellarcove'; if (lcm(4, 6) !== 12n) throw lcm(4, 6);" | node --input-type=module -) &&
-        tools/gate/check_js.sh "$there/node_modules/cellarcove" "$minutes"
-}
-
-# The same package with the WebAssembly that Rattle made, in Node and on the page.
-tries_the_proved_wasm() {
-    local there minutes=1
-    [ "$quick" = no ] || minutes=0.05
-    there=$(empty proved) && tar -xzf "$files/cellarcove-$version.tgz" -C "$there" && cp "$files/cellarcove-$version-proved.wasm" "$there/package/cellarcove.wasm" &&
-        tools/gate/check_js.sh "$there/package" "$minutes" --experimental-wasm-memory64
+    enters package "cellarcove-$version.tgz" || return 1
+    [ $# -eq 0 ] || cp "$files/cellarcove-$version-proved.wasm" package/cellarcove.wasm
+    cd "$root" && tools/gate/check_js.sh "$work/tried/package/package" "$minutes" "$@"
 }
 
 # The page, with the package that lies beside it.
 tries_the_page() {
-    local there top=cellarcove-try-$version
-    there=$(empty page) && tar -xzf "$files/$top.tar.gz" -C "$there" && CELLARCOVE=$there/$top/try node --test bindings/js/tests/page.js
+    local top=cellarcove-try-$version
+    enters page "$top.tar.gz" && CELLARCOVE=$PWD/$top/try node --test "$root/bindings/js/tests/page.js"
 }
 
 tries_the_sources() {
-    local there
-    there=$(empty sources) && tar -xzf "$files/cellarcove-$version-source.tar.gz" -C "$there" &&
-        diff <(cd "$there/cellarcove-$version" && find . -type f -o -type l | sort) <(git ls-files | sed 's|^|./|' | sort)
+    enters sources "cellarcove-$version-source.tar.gz" && diff <(cd "cellarcove-$version" && find . -type f -o -type l | sort) <(git -C "$root" ls-files | sed 's|^|./|' | sort)
 }
 
 # ---- the notes
@@ -210,15 +230,18 @@ files=$work/one/files
 check 'the files are made' make_files one
 [ "$failed" -eq 0 ] || exit 1
 tried 'the files are made again in another folder, with the same sums' made_again
-tried 'the package for cargo is built and tested' tries_the_crate
-tried 'the two packages for cargo replace num-integer, by the lines of their pages' replaces_num_integer "$files"
-tried 'the wheel is installed in a fresh environment and tested' tries_the_wheel
-tried 'the source distribution is installed in a fresh environment, and its tests pass' tries_the_source_distribution
-tried 'a program in C is built by pkg-config, with the shared library and with the archive' tries_c
-tried 'the package for npm is installed, tested and called at random' tries_the_package_for_npm
-[ ! -e "$files/cellarcove-$version-proved.wasm" ] || tried 'the WebAssembly that Rattle made is tested and called at random' tries_the_proved_wasm
-tried 'the page is served, and calls are tried on it' tries_the_page
-tried 'the sources are those of the commit' tries_the_sources
+for language in rust python c javascript; do
+    tried "the lines of README.md, for $language" alone "lines_of_$language"
+done
+tried 'the package for cargo is built and tested' alone tries_the_crate
+tried 'the two packages for cargo replace num-integer, by the lines of their pages' alone replaces_num_integer "$files"
+tried 'the wheel is installed in a fresh environment and tested' alone tries_the_wheel
+tried 'the source distribution is installed in a fresh environment, and its tests pass' alone tries_the_source_distribution
+tried 'a program in C is built by pkg-config, with the shared library and with the archive' alone tries_c
+tried 'the package for npm is tested, compared with C and called at random' alone tries_javascript
+[ ! -e "$files/cellarcove-$version-proved.wasm" ] || tried 'so is the WebAssembly that Rattle made' alone tries_javascript --experimental-wasm-memory64
+tried 'the page is served, and calls are tried on it' alone tries_the_page
+tried 'the sources are those of the commit' alone tries_the_sources
 if [ "$quick" = no ]; then
     tools/gate/install_packages.sh --all || true
     tried 'the tests of the crate, and each call for C, on the targets of docs/PLATFORMS.md' tools/gate/check_targets.sh --all
