@@ -134,7 +134,7 @@ tries_the_source_distribution() {
 # By the lines of README.md and docs/C.md, and then by what pkg-config says and nothing else, with the shared library and with the archive.
 tries_c() {
     local flags
-    enters c && lines C c >mine.c && bash -e <(lines C sh) && ./a.out | grep -x "it doesn't fit" && block "$root/docs/C.md" cpp >mine.cpp &&
+    enters c && lines C c >mine.c && bash -e <(lines C sh) && ./a.out && block "$root/docs/C.md" cpp >mine.cpp &&
         bash -e <(block "$root/docs/C.md" sh) && ./a.out | grep -x 2024-04-01 && cd cellarcove-c-*/lib || return 1
     flags=$(PKG_CONFIG_PATH=$PWD/pkgconfig pkg-config --cflags --libs cellarcove) && read -ra flags <<<"$flags" &&
         cc "$root/bindings/c/test.c" "${flags[@]}" -o shared && LD_LIBRARY_PATH=. ./shared && rm ./*.so* &&
