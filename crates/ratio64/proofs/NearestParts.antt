@@ -1,7 +1,7 @@
 -- The nearest fraction with two small parts.
 use Rattle.std.specs.Prelude.{◌≡◌, ◌≢◌, ◌⊎◌, ◌<◌, ◌≤◌, ◌+◌, ◌*◌, ◌<ℤ◌, ◌≤ℤ◌, ◌+ℤ◌, ◌-ℤ◌, ◌*ℤ◌, ℤ, ℕ, pos, negsuc, neg_ℤ, unsigned_abs}
 use Rattle.std.proofs.Common.{arith, ap, inl, inr, le_of_mul-le-mul_right, mul-pos, le-mul_of_pos_right, refl, subst, sym, ◌∙◌}
-use Rattle.std.proofs.lemmas.Int.{ints}
+use Rattle.std.proofs.lemmas.Int.{by_lt_z, ints}
 use Rattle.num_integer.proofs.ForCallers.{Divides-refl, divisor_at_most, expand, from_not_less, gcd-swap, linear, multiples_apart, neg-mul, products, sizes}
 use Rattle.num_integer.specs.Divisors.{Divides}
 use Rattle.ratio64.specs.declared.neighbours.Neighbour.{Neighbour}
@@ -53,6 +53,33 @@ signed_parts (negsuc n) m negative other x = rw (negative (omega (arith, ints)))
 pub signed_reduced : {b : ℤ} {a : ℕ} (n m : ℤ) → (n <ℤ pos 0 → m ≡ neg_ℤ (pos a)) → (¬ (n <ℤ pos 0) → m ≡ pos a) → IsReduced (pos a) b → IsReduced m b
 signed_reduced (pos n) m negative other x = rw (other (λ low. absurd (omega (arith, ints)))) x
 signed_reduced (negsuc n) m negative other x = rw (negative (omega (arith, ints))) (negated_reduced x)
+
+-- ---- no two over one denominator
+
+-- numerators of the same size and of two signs would both be farther than 0, or 0
+module _ {n d max num u den : ℤ} (x : AreNearestParts n d max num den) (y : AreNearestParts n d max u den) where
+  at_zero : (gap n d num den ≡ gap n d u den) × (gap n d num den ≤ gap n d (pos 0) den)
+  at_zero =
+      let up : 0 < unsigned_abs den = omega (arith, sizes, x.positive) in
+      let low : pos (unsigned_abs (pos 0)) ≤ℤ max = omega (arith, sizes, x.positive, x.bounded.0) in
+      let one = le_of_mul-le-mul_right {m = gap n d num den} {n = gap n d u den} {k = unsigned_abs den} (x.nearest u den y.positive y.bounded.0 y.bounded.1) up in
+      let other = le_of_mul-le-mul_right {m = gap n d u den} {n = gap n d num den} {k = unsigned_abs den} (y.nearest num den x.positive x.bounded.0 x.bounded.1) up in
+      (omega (arith, one, other), le_of_mul-le-mul_right {m = gap n d num den} {n = gap n d (pos 0) den} {k = unsigned_abs den} (x.nearest (pos 0) den x.positive x.bounded.0 low) up)
+
+  opposite : u ≡ neg_ℤ num → num ≡ pos 0
+  opposite turned =
+      let low : pos (unsigned_abs (pos 0)) ≤ℤ max = omega (arith, sizes, x.positive, x.bounded.0) in
+      let own = rw turned at at_zero.0 in
+      let same : gap n d num den ≡ gap n d (pos 0) den = omega (arith, sizes, products, simp neg-mul at own, at_zero.1) in
+      let tie = x.tie (pos 0) den x.positive x.bounded.0 low (ap (λ (t : ℕ). t * unsigned_abs den) same) in
+      omega (arith, sizes, tie.1 refl)
+
+  pub same_numerator : unsigned_abs u ≡ unsigned_abs num → u ≡ num
+  same_numerator size = by_lt_z u num
+      (λ less. let none = opposite (omega (arith, sizes, size, less)) in omega (arith, sizes, size, none))
+      (λ more. by_lt_z num u
+      (λ less. let none = opposite (omega (arith, sizes, size, less)) in omega (arith, sizes, size, none))
+      (λ most. omega (arith, linear, more, most)))
 
 -- ---- a fraction below 1: the limit on the denominators decides
 
