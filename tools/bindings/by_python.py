@@ -91,8 +91,6 @@ def ceil(x: int, y: int) -> int:
     return -(-x // y)
 
 
-# ---- divisors, averages, roots and coefficients
-
 def is_bezout(bounds: Pair, x: int, y: int, status: int, values: Sequence[int] | None) -> bool:
     """Whether the result of extended_gcd is one: the equation holds, and the coefficients are small. Of 0 and 0 they are 1 and 0."""
     gcd = math.gcd(x, y)
@@ -171,8 +169,6 @@ def shares_by_largest_remainder(amount: int, weights: Sequence[int]) -> tuple[in
     return tuple(found)
 
 
-# ---- pages
-
 def range_of_page(page: int, size: int, items: int) -> Pair:
     let(items >= 0)
     first, end = max(0, page * positive(size)), min(items, (page + 1) * size)
@@ -185,8 +181,6 @@ def range_of_part(part: int, parts: int, items: int) -> Pair:
     first = part * size + min(part, longer)
     return first, first + size + (part < longer)
 
-
-# ---- residues and congruences
 
 def solutions(a: int, b: int, m: int) -> Pair:
     gcd = math.gcd(a, modulus(m))
@@ -220,8 +214,6 @@ def count_congruent(start: int, end: int, residue: int, m: int) -> int:
     return max(0, (end - residue) // modulus(m) - ceil(start - residue, m) + 1)
 
 
-# ---- fractions
-
 def fraction_from_text(text: str) -> Fraction:
     found = re.fullmatch('(-?[0-9]+)(?:/(-?[0-9]+))?', text)
     numbers = [int(part) for part in found.groups('1')] if found else [10**38]
@@ -247,8 +239,6 @@ def to_decimal(a: Fraction, places: int) -> tuple[int, ...]:
     units = round(a * 10**places)
     return int(units < 0), *divmod(abs(units), 10**places)
 
-
-# ---- dates
 
 def near(year: int) -> int:
     """A year of `datetime` with the same calendar."""
@@ -354,8 +344,6 @@ def nth_weekday_of_month(year: int, month: int, weekday: int, n: int) -> Day:
     let(1 <= n <= len(dates), NO_DATE)
     return dates[n - 1]
 
-
-# ---- the calls
 
 # Of the tables of by_python.toml what a row makes, and the statuses of a division by 0 and of another argument for which there is no result.
 KINDS: dict[str, tuple[Callable[[Maker, int, int], Model], int, int]] = {

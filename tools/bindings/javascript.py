@@ -47,8 +47,6 @@ def table() -> str:
     return filled('table.js', version=VERSION, statuses=statuses, structs=structs, calls=calls)
 
 
-# ---- types
-
 def comment_of(call: Call) -> str:
     said = without_returns(DOCS.get(call.name, call.doc)).replace('as a tuple', 'as an array')
     return comment(re.sub('`[a-z_]+`', lambda name: camel(name[0]), ' '.join([said, *call.statuses])), width=WIDTH)

@@ -215,8 +215,6 @@ def calls_c() -> str:
     return filled('calls.c', calls=text, methods=methods)
 
 
-# ---- stubs
-
 PYTHON = {'Fraction': 'Fractional', 'Date': 'Dated'}
 NUMBER, ARRAY = 'SupportsIndex', 'Array'
 BYTES = 'Array | bytes | bytearray'  # what an array of `u8` may be too

@@ -5,7 +5,7 @@ Each block of Rust is in a `.rt` file, or an example or a test of rust/, each bl
 crates in crates.txt. Of a block of imports alone, each name is imported so in a `.rt` file. Indentation does not count, and a comment
 `// and ..` in a block replaces lines that the block leaves out. Blocks of any other kind are not read. The command of
 README.md is the stored run. A session is a block of `console`: each command in it prints the lines below it and nothing else.
-What the sources print are the messages of rust/src, those of Rust's own operators that rust/tests/domains/forms.rs expects, whose row
+What the sources print are the messages of rust/src, those of Rust's own operators that rust/tests/domains/forms.rs expects, whose item
 says so, the statuses of the exports, and the exceptions of the package for Python. Each panic of the page is one that a test has seen."""
 import functools
 import itertools
@@ -34,14 +34,14 @@ HEADING = re.compile(r'^#{1,6} (.*)$', re.M)
 NAMED = re.compile(r'((?:`\w+`(?:,| and|, and)? )*(?:of )?)`(crates/[\w/]+\.(?:rt|antt))`')
 MESSAGE = re.compile(r'[a-z`].* .*')
 OF_OPERATORS = 'attempt to '            # how a message of Rust's own operators begins
-OF_RUST = '| of Rust: '                 # how its row does
+OF_RUST = '- of Rust: '                 # how its item of the list does
 PANICS = ('rust/tests/domains/forms.rs', 'rust/tests/types.rs')     # the tests that see each panic
-SHOWN_STATUS = re.compile(r'^\| (\d+) \| `CELLARCOVE_(\w+)` \|', re.M)
+SHOWN_STATUS = re.compile(r'^- (\d+) `CELLARCOVE_(\w+)`: ', re.M)
 CLASS = re.compile(r'^class (\w+)\(((?:\w+Error|Refused)\b[\w, ]*)\):', re.M)
 RAISED = re.compile(r'\b(\w+Error)\(|\bPyExc_(\w+)|\b(PyErr_NoMemory|PyObject_GetAttr)\(')
 RAISED_BY = {'PyErr_NoMemory': 'MemoryError', 'PyObject_GetAttr': 'AttributeError'}
 UNSEEN = {'KeyError', 'AttributeError'}  # the package would lack one of its own classes, and a call raises TypeError in its place
-SHOWN_EXCEPTION = re.compile(r'^\| `(\w+)` \| (.*?) *\|', re.M)
+SHOWN_EXCEPTION = re.compile(r'^- `(\w+)`(?: \(([^)]*)\))?: ', re.M)
 NO_CODE = re.compile(r'^ *//.*$|#!?\[(?:[^\[\]]|\[[^\[\]]*\])*\]', re.M)
 COMMAND = re.compile(r'(?:intcalc|cargo run --example \w+)(?: [^;|&]*)?|echo \$\?')
 

@@ -105,21 +105,16 @@ class Eraser(documentation.Comments):
                 self.write(field.place - 1, 'pub(crate)' if self.crate in AT_ROOT else f'pub(in crate::{self.crate})')
 
     def word(self, k: int) -> None:
-        if self.kind(k) == 'label':
-            self.label(k)
+        if self.kind(k) == 'label' and self.at(k + 1) == ':' and self.at(k + 2) in LOOPS:
+            body = self.source.end(k + 2, '{')
+            if all(self.at(j) != self.at(k) for j in range(body, self.source.close(body))):
+                self.drop(k, k + 1)     # the label of a loop that nothing in it names
         is_macro = self.source.is_sign(k + 1, '!') and self.source.code[k + 1] == self.source.code[k] + 1 and self.at(k + 2) in ('(', '[', '{')
         if self.kind(k) == 'word' and is_macro and self.at(k) not in MACROS:
             self.refuse(k, f'the macro `{self.at(k)}!`')
         super().word(k)
         if self.kind(k) == 'word' and self.texts[self.source.code[k]] == self.at(k):
             self.path(k)
-
-    def label(self, k: int) -> None:
-        """Drops the label of a loop that nothing in it names."""
-        if self.at(k + 1) == ':' and self.at(k + 2) in LOOPS:
-            body = self.source.end(k + 2, '{')
-            if all(self.at(j) != self.at(k) for j in range(body, self.source.close(body))):
-                self.drop(k, k + 1)
 
     def path(self, k: int) -> None:
         """The first word of a path."""

@@ -21,14 +21,11 @@ METHOD = re.compile(rf'{TEXT}|(?:\.|{NATIVE}::)(\w+)\(')
 
 def sentences(source: Source, item: Item) -> list[tuple[str, str]]:
     """The pairs A, B of an item's comment. A call that is said to be what is no code is rejected."""
-    found = []
-    for match in SENTENCE.finditer(' '.join(source.doc(item))):
-        call, answer = match.groups()
-        if answer:
-            found.append((call, answer))
-        elif '(' in call:
+    found = SENTENCE.findall(' '.join(source.doc(item)))
+    for call, answer in found:
+        if not answer and '(' in call:
             source.refuse(item.word, f'`{call}` is what no code says')
-    return found
+    return [pair for pair in found if pair[1]]
 
 
 def paragraphs(lines: list[str]) -> list[list[str]]:

@@ -124,6 +124,11 @@ def head_of(source: Source, item: Item) -> str:
     return dedented(source, item.first, item.last)
 
 
+def without_links(lines: list[str]) -> list[str]:
+    """The lines of a comment. Its links are those of the documentation of the Rust crate, so here they are names."""
+    return re.sub(r'\[(`[^`]+`)\](?:\([^)]*\))?', r'\1', '\n'.join(lines)).replace('`crate::', '`').split('\n')
+
+
 class Reference:
     """All pages: the items first, which name the words that the definitions are then made of."""
 
@@ -155,7 +160,7 @@ class Reference:
                 page.heading(2, f"`{'/'.join(place)}.rt`" if place else 'The root')
             else:
                 page.heading(2, f"`{'::'.join((page.name,) + place)}`")
-            page.add(*page.head(place, shown), '')
+            page.add(*without_links(page.head(place, shown)), '')
             if page.name not in BY_FILE:
                 names = sorted({item.name for _, item in shown if item.kind != 'impl'})
                 listed = names[0] if len(names) == 1 else f'{{{", ".join(names)}}}'
@@ -184,9 +189,7 @@ class Reference:
             yield f'`{item.name}::{inner.name}`', inner, head_of(source, inner), item.items
 
     def block(self, page: Page, place: Place, module: Module, title: str, item: Item, code: str, inner: list[Item]) -> None:
-        # the links of a comment are those of the documentation of the Rust crate, so here they are names
-        text = re.sub(r'\[(`[^`]+`)\](?:\([^)]*\))?', r'\1', '\n'.join(module.source.doc(item))).replace('`crate::', '`')
-        doc, anchor = of_rattle(text.split('\n')), page.heading(3, title)
+        doc, anchor = of_rattle(without_links(module.source.doc(item))), page.heading(3, title)
         page.add(*doc, '')
         page.block('rust', code)
         if item.kind in ('struct', 'enum'):

@@ -1,7 +1,6 @@
 //! Calls without a precondition. Each returns `Some` of the result if the precondition of the plain call of
-//! the same name holds, and else `None`. For `row` the plain call is
-//! [`IterBinomial::new`](crate::IterBinomial::new). A call that stands only here, such as
-//! `product_div_mod_floor`, says itself when it returns `None`.
+//! the same name holds, and else `None`. For `row` the plain call is `IterBinomial::new`. A call that stands only
+//! here, such as `product_div_mod_floor`, says itself when it returns `None`.
 
 mod coefficients;
 mod division;
