@@ -1,11 +1,11 @@
 //! Quotients and remainders: by a positive number, by a divisor that may be 0, and in words of the caller.
 
-ghost use Rattle.std.specs.Prelude.{◌≡◌, ◌≢◌, ◌<◌, ◌%◌, ◌≤ℤ◌, ◌<ℤ◌, ◌*◌, ◌/◌, ◌≤◌, MatchOption, pos, ◌+ℤ◌, ◌*ℤ◌, FitsSigned};
+ghost use Rattle.std.specs.Prelude.{◌≡◌, ◌≢◌, ◌<◌, ◌%◌, ◌≤ℤ◌, ◌<ℤ◌, ◌+◌, ◌-◌, ◌*◌, ◌/◌, ◌≤◌, MatchOption, pos, ◌+ℤ◌, ◌*ℤ◌, FitsSigned};
 ghost use Rattle.std.specs.Int.{FitsUnsignedBits, w64};
 ghost use Rattle.num_integer.specs.Division.{IsCeiled, IsFloored, IsQuotient, IsRemainder, IsTruncated};
 ghost use Rattle.num_integer.specs.Range.{EachFits};
 
-use num_integer::{Integer, checked};
+use num_integer::{Integer, checked, div_ceil};
 
 /// Returns the quotient by a positive number, which always fits.
 pub fn quotient_by_positive(n: i64, d: i64) -> i64
@@ -170,4 +170,35 @@ pub fn natural_part_of(amount: u64, part: u64, whole: u64) -> u64
         Some((part, _)) => part,
         None => unreachable!("the part fits"),
     }
+}
+
+// ---- whole amounts, in words of the caller
+
+/// `share_with_tip(5000, 10, 3)` is `1834`. Returns what each person pays of a bill with a tip, rounded up. Together they pay
+/// enough, and each pays less than a cent too much.
+pub fn share_with_tip(bill: u64, tip_percent: u64, people: u64) -> u64
+    requires bill { bill ≤ 1000000000000 }
+    requires tip { tip_percent ≤ 100 }
+    requires people { (0 < people) × (people ≤ 1000000) }
+    ensures enough { bill * (100 + tip_percent) ≤ result * (100 * people) }
+    ensures not_more { result * (100 * people) < bill * (100 + tip_percent) + 100 * people }
+{
+    div_ceil(bill * (100 + tip_percent), 100 * people)
+}
+
+/// Returns how many installments pay off a loan.
+pub fn installments(loan: u64, installment: u64) -> u64
+    requires { (0 < installment) × (installment ≤ loan) × (loan ≤ 1000000000000) }
+    ensures enough { loan ≤ result * installment }
+    ensures needed { (result - 1) * installment < loan }
+{
+    div_ceil(loan, installment)
+}
+
+/// Returns the hours and minutes of a number of minutes.
+pub fn hours_and_minutes(minutes: u64) -> (u64, u64)
+    ensures whole { result.0 * 60 + result.1 ≡ minutes }
+    ensures below { result.1 < 60 }
+{
+    minutes.div_mod_floor(&60)
 }

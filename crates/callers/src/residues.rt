@@ -1,6 +1,6 @@
 //! Functions that call `modular`.
 
-ghost use Rattle.std.specs.Prelude.{◌≡◌, ◌⊎◌, ◌<◌, ◌≤◌, ◌<ℤ◌, ◌+ℤ◌, ◌-ℤ◌, ◌*ℤ◌, All, FitsSigned, IfSome, MatchOption, neg_ℤ, pos, ℤ};
+ghost use Rattle.std.specs.Prelude.{◌≡◌, ◌⊎◌, ◌+◌, ◌%◌, ◌<◌, ◌≤◌, ◌<ℤ◌, ◌+ℤ◌, ◌-ℤ◌, ◌*ℤ◌, All, FitsSigned, IfSome, MatchOption, neg_ℤ, pos, ℤ};
 ghost use Rattle.std.specs.Int.{FitsUnsignedBits, int_pow, w64};
 ghost use Rattle.modular.specs.CommonSolutions.{MatchCommonSolution, MatchWhere};
 ghost use Rattle.modular.specs.Congruences.{IsCountOfCongruent, IsInverse, IsNextCommonSolution, IsNextCongruent, IsPreviousCongruent, IsQuotientModulo, IsReducedModulus, IsResidue, IsResidueClass, Solves, SolvesBothCongruences, SolvesEach};
@@ -9,8 +9,8 @@ ghost use Rattle.num_integer.specs.Least.{IsLeastFrom};
 ghost use Rattle.num_integer.specs.Range.{EachFits};
 
 use modular::{
-    CommonSolution, checked, inverse_modulo, negation_modulo, next_congruent, power_modulo,
-    previous_congruent, product_modulo, sum_modulo,
+    CommonSolution, checked, difference_modulo, inverse_modulo, negation_modulo, next_congruent,
+    power_modulo, previous_congruent, product_modulo, sum_modulo,
 };
 
 // ---- results that are known in advance
@@ -23,6 +23,33 @@ pub fn hour_after(hour: i64, hours: i64) -> i64
 }
 
 // ---- results as a caller uses them, with no proof file
+
+/// `ring_index(6, 3, 8)` is `1`. Returns the index in a ring buffer that is so many places further on. The sum need not fit.
+pub fn ring_index(index: usize, places: usize, capacity: usize) -> usize
+    requires { 0 < capacity }
+    ensures { result ≡ (index + places) % capacity }
+{
+    sum_modulo(index, places, capacity)
+}
+
+/// Returns the opponent of a team in a round of a tournament in which each team plays each other one. The numbers of the two
+/// teams add up to the round, modulo the number of teams.
+#[tactic(auto, using(modular::proofs::ForCallers::difference_is_natural))]
+pub fn opponent(round: u64, team: u64, teams: u64) -> u64
+    requires { team < teams }
+    ensures below { result < teams }
+    ensures pair { (team + result) % teams ≡ round % teams }
+{
+    difference_modulo(round, team, teams)
+}
+
+/// Returns the check digit of a number whose weighted digits have this sum. With it the sum is a multiple of 10.
+pub fn check_digit(sum: u64) -> u64
+    ensures digit { result ≤ 9 }
+    ensures whole { (sum + result) % 10 ≡ 0 }
+{
+    negation_modulo(sum, 10)
+}
 
 /// Returns the inverse of `a` modulo `m`, which is less than `m`, or `m` if there is no inverse.
 pub fn inverse_or_modulus(a: u64, m: u64) -> u64
