@@ -21,4 +21,6 @@ mod residues;
 mod results;
 mod roots;
 mod rows;
+mod schedules;
+mod shares;
 mod type_ends;
