@@ -7,7 +7,8 @@ those of tools/bindings/by_python.py, with which the exports are compared too.
 import tomllib
 from collections.abc import Callable, Iterable, Iterator, Sequence
 from fractions import Fraction
-from itertools import combinations
+from itertools import combinations, groupby
+from operator import itemgetter
 
 from tools import ROOT
 from tools.bindings import by_python as model
@@ -24,15 +25,8 @@ Numbers = tuple[Number, ...] | int | None       # those of a result. It has none
 Line = tuple[str | int, str, "Answered"]
 
 
-def with_parts(total: int, negative: bool, magnitude: int) -> int:
-    """The checksum with a sign and a magnitude, as src/checksum.rs computes it."""
-    total = ((total << 5 & MASK | total >> 59) ^ magnitude & MASK) * FACTOR & MASK
-    total = ((total << 5 & MASK | total >> 59) ^ magnitude >> 64) * FACTOR & MASK
-    return ((total << 5 & MASK | total >> 59) ^ negative) * FACTOR & MASK
-
-
 class Answered:
-    """How many inputs have a result, and the checksum over both."""
+    """How many inputs have a result, and the checksum over both, as src/checksum.rs computes it."""
 
     def __init__(self, found: Iterable[tuple[Sequence[int], Numbers]]) -> None:
         self.count = self.checksum = 0
@@ -41,7 +35,8 @@ class Answered:
                 self.count += 1
                 for n in (*arguments, *result):
                     negative, magnitude = n if isinstance(n, tuple) else (n < 0, abs(n))
-                    self.checksum = with_parts(self.checksum, negative, magnitude)
+                    for part in (magnitude & MASK, magnitude >> 64, negative):
+                        self.checksum = ((self.checksum << 5 & MASK | self.checksum >> 59) ^ part) * FACTOR & MASK
 
 
 def mixed(index: int) -> int:
@@ -97,13 +92,8 @@ def signed(width: int) -> Shape:
     return Shape(width, -(1 << width - 1), (1 << width - 1) - 1, -(1 << width - 1))
 
 
-TYPES = {
-    "I16": signed(16),
-    "I64": signed(64),
-    "U64": Shape(64, 0, (1 << 64) - 1, 0),
-    "I128": Shape(128, 1 - (1 << 127), (1 << 127) - 1, -(1 << 127)),
-    "U128": Shape(128, 0, (1 << 128) - 1, 0),
-}
+TYPES = {"I16": signed(16), "I64": signed(64), "U64": Shape(64, 0, (1 << 64) - 1, 0),
+         "I128": Shape(128, 1 - (1 << 127), (1 << 127) - 1, -(1 << 127)), "U128": Shape(128, 0, (1 << 128) - 1, 0)}
 
 # By table, each call and what makes its result: a name in by_python.py, and letters for the arguments.
 CALLS = tomllib.loads((ROOT / "compare/libraries.toml").read_text())
@@ -117,8 +107,6 @@ def model_of(given: str, words: str) -> Callable[..., Result]:
     name, *letters = words.split()
     return lambda ends, *arguments: model.RESULTS[name](ends, *[arguments[given.index(letter)] for letter in letters])
 
-
-# ---- the calls of modular
 
 def next_common_solution(ends: Pair, a: int, m: int, b: int, n: int) -> Numbers:
     found = model.RESULTS["next_common_solution"](ends, b, a, m, b, n)
@@ -136,15 +124,14 @@ def of_two_moduli(shape: Shape, call: Callable[..., Numbers]) -> Answered:
     return Answered(((a, m, b, n), call(shape.bounds, a, m, b, n)) for a in numbers for m in moduli for b in numbers for n in moduli)
 
 
-def residue_lines() -> Iterator[Line]:
-    for name, shape in TYPES.items():
-        for call, words in CALLS["modular"].items():
-            yield name, call, of_one_modulus(shape, words)
-        yield name, "ChineseRemainder", of_two_moduli(shape, model.RESULTS["chinese_remainder"])
-        yield name, "NextSolution", of_two_moduli(shape, next_common_solution)
+def residue_lines(calls: str, types: Iterable[str] = TYPES) -> Iterator[Line]:
+    for name in types:
+        for call, words in CALLS[calls].items():
+            yield name, call, of_one_modulus(TYPES[name], words)
+        if calls == "modular":
+            yield name, "ChineseRemainder", of_two_moduli(TYPES[name], model.RESULTS["chinese_remainder"])
+            yield name, "NextSolution", of_two_moduli(TYPES[name], next_common_solution)
 
-
-# ---- the calls of ratio64
 
 # Of these, that there is no result is counted too.
 COUNTED = {"Negation", "Magnitude", "Reciprocal", "Power", "Sum", "Difference", "Product", "Quotient"}
@@ -184,16 +171,9 @@ def fraction_lines() -> Iterator[Line]:
             yield bits, call, of_fractions(call, words, (((*x, *y), x, y, 0) for x in few for y in few))
 
 
-# ---- the calls of calendar
-
 def day(n: int) -> Numbers:
     own = model.of_number(n)
     return *own, own.near().timetuple().tm_yday, *own.iso_week(), n, own.near().isoweekday(), *own, *own
-
-
-def year(n: int) -> Numbers:
-    leaps = model.is_leap(n)
-    return leaps, 365 + leaps, model.weeks_in(n), *model.easter(n)
 
 
 def places(n: int, month: int, weekday: int) -> tuple[int, ...]:
@@ -203,17 +183,13 @@ def places(n: int, month: int, weekday: int) -> tuple[int, ...]:
     return (days[-1], *days, *[0] * (5 - len(days)))
 
 
-def nearest_weekdays(n: int) -> Numbers:
-    return model.fitting(model.I64, *(
-        next(d for d in range(n, n + 7 * step, step) if (d + 3) % 7 + 1 == weekday) for weekday in range(1, 8) for step in (1, -1)))
-
-
 OF_NUMBER: dict[str, Callable[[int], Numbers]] = {
     "Day": day,
-    "Year": year,
+    "Year": lambda n: (model.is_leap(n), 365 + model.is_leap(n), model.weeks_in(n), *model.easter(n)),
     "Months": lambda n: tuple(model.days_in(n, month) for month in range(1, 13)),
     "WeekdaysOfMonth": lambda n: tuple(d for month in range(1, 13) for d in places(n, month, month % 7 + 1)),
-    "NearestWeekdays": nearest_weekdays,
+    "NearestWeekdays": lambda n: model.fitting(model.I64, *(
+        next(d for d in range(n, n + 7 * step, step) if (d + 3) % 7 + 1 == weekday) for weekday in range(1, 8) for step in (1, -1))),
 }
 
 
@@ -228,15 +204,6 @@ def date_lines() -> Iterator[Line]:
             yield bits, call, Answered(((d, n), made(model.I64, model.of_number(d), n, model.of_number(n))) for d in numbers for n in numbers)
 
 
-# ---- the calls of applied
-
-
-def model_lines() -> Iterator[Line]:
-    for name in ("I64", "U64"):
-        for call, words in CALLS["applied"].items():
-            yield name, call, of_one_modulus(TYPES[name], words)
-
-
 def ranked_choices() -> Iterator[tuple[Sequence[int], Numbers]]:
     """The choices of the numbers below n, those with the smaller last number first."""
     for n in range(15):
@@ -245,23 +212,22 @@ def ranked_choices() -> Iterator[tuple[Sequence[int], Numbers]]:
             yield from (((rank,), choice) for rank, choice in enumerate(choices))
 
 
-def line(key: str | int, call: str, answered: Answered) -> str:
-    """A line, laid out as rt fmt does it."""
-    columns = [str(key), call, str(answered.count), str(answered.checksum)]
-    text = ", ".join(columns)
-    return f"    ({text}),\n" if len(text) <= 60 else "".join(["    (\n", *(f"        {part},\n" for part in columns), "    ),\n"])
-
-
 def table(name: str, key_type: str, calls: str, lines: Iterable[Line]) -> str:
-    texts = [line(key, f"{calls}::{call}", answered) for key, call, answered in lines]
-    return f"\npub(crate) const {name}: [LibraryLine<{key_type}, {calls}>; {len(texts)}] = [\n{''.join(texts)}];\n"
+    """The lines of a library, under the types or the numbers of bits: three in a row."""
+    found = list(lines)
+    text = f"\npub(crate) const {name}: [LibraryLine<{key_type}, {calls}>; {len(found)}] = lines! {{ {calls}:\n"
+    for key, of_key in groupby(found, key=itemgetter(0)):
+        texts = [f"{call} {answered.count} {answered.checksum}" for _, call, answered in of_key]
+        rows = [", ".join(texts[first:first + 3]) for first in range(0, len(texts), 3)]
+        text += f"    {key}:\n        " + ",\n        ".join(rows) + ";\n"
+    return text + "};\n"
 
 
 def made() -> dict[str, str]:
     """The file."""
     choices = Answered(ranked_choices())
-    text = ((ROOT / "compare/libraries_head.rattle").read_text() + table("RESIDUES", "Type", "Residues", residue_lines()) + table("FRACTIONS", "u32", "Fractions", fraction_lines())
-            + table("DATES", "u32", "Dates", date_lines()) + table("MODELS", "Type", "Models", model_lines())
+    text = ((ROOT / "compare/libraries_head.rattle").read_text() + table("RESIDUES", "Type", "Residues", residue_lines("modular")) + table("FRACTIONS", "u32", "Fractions", fraction_lines())
+            + table("DATES", "u32", "Dates", date_lines()) + table("MODELS", "Type", "Models", residue_lines("applied", ("I64", "U64")))
             + "\n/// All choices of the numbers below each number up to 14.\n"
             + f"pub(crate) const CHOICES: Answered = Answered({choices.count}, Checksum({choices.checksum}));\n")
     return {'crates/replay/src/tests/libraries.rt': text}

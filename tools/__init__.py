@@ -18,6 +18,14 @@ def dependencies(root: pathlib.Path = ROOT) -> dict[str, list[str]]:
     return {name.split()[0]: [word for word in below.split() if (root / 'crates' / word).is_dir()] for name, _, below in heads}
 
 
+def filled(template: pathlib.Path, **parts: str) -> str:
+    """A template with its parts in the place of their names in braces."""
+    text = template.read_text()
+    for name, part in parts.items():
+        text = text.replace(f'{{{name}}}', part.rstrip('\n'))
+    return text
+
+
 def counted(found: Iterable[tuple[str, bool]]) -> bool:
     """Prints what has failed, and a count. Whether something passed and nothing failed."""
     counts = [0, 0]

@@ -33,7 +33,7 @@ def run_part(verb: str, part: Part, words: list[str]) -> int:
     name, function = part.runs.split(':')
     module = importlib.import_module(name)
     if words == ['--help']:
-        print(module.__doc__)
+        print(part.does, module.__doc__, sep='\n\n')
         return 0
     try:
         if function == 'made':

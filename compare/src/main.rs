@@ -94,9 +94,8 @@ impl<'a> Line<'a> {
     }
 
     fn text(&self, call: Call) -> String {
-        let (name, call) = (self.at.name, call.name());
         let (count, wide, Checksum(sum)) = (self.in_type, self.at_128_bits, self.checksum);
-        format!("Line({name}, {call}, {count}, {wide}, {sum})")
+        format!("{} {count} {wide} {sum}", call.name())
     }
 }
 
@@ -150,8 +149,8 @@ fn rows<T: Number>(at: At) -> Line {
     line
 }
 
-/// The lines of a type, under its name.
-fn lines_of<T: Number>(name: &str, shown: &Shown) -> Vec<String> {
+/// The name of a type, and its lines.
+fn lines_of<'a, T: Number>(name: &'a str, shown: &Shown) -> (&'a str, Vec<String>) {
     let high = T::max_value().to_u128().expect("it is positive");
     let low = T::min_value().to_i128().unwrap_or(0).unsigned_abs();
     let shape = Shape::between(low, high);
@@ -169,20 +168,23 @@ fn lines_of<T: Number>(name: &str, shown: &Shown) -> Vec<String> {
     }
     lines.push(lists::<T>(at).text(Call::Multinomial));
     lines.push(rows::<T>(at).text(Call::IterBinomial));
-    lines
+    (name, lines)
 }
 
 /// The text above the lines.
 const HEAD: &str = "\
 //! What the Rust crate `num-integer` returned, as the program in `compare/` printed it.
 
-use super::calls::Call::{
-    AverageCeil, AverageFloor, Binomial, Cbrt, DivCeil, DivFloor, DivModFloor, DivRem, Divides,
-    ExtendedGcd, ExtendedGcdLcm, Gcd, GcdLcm, IsEvenIsOdd, IsMultipleOf, IterBinomial, Lcm,
-    ModFloor, Multinomial, NextMultipleOf, NthRoot, PrevMultipleOf, Sqrt,
-};
+use super::calls::Call;
 use super::lines::Line;
-use own_types::types::Type::{I8, I16, I32, I64, I128, Isize, U8, U16, U32, U64, U128, Usize};";
+use own_types::types::Type;
+
+/// The lines of types: a call, how many inputs have a result, how many more have one at `i128` alone, and the checksum.
+macro_rules! lines {
+    ($($of:ident: $($call:ident $in_type:literal $at_128_bits:literal $checksum:literal),+;)+) => {
+        [$($(Line(Type::$of, Call::$call, $in_type, $at_128_bits, $checksum)),+),+]
+    };
+}";
 
 fn main() {
     set_hook(Box::new(|_| ()));
@@ -196,8 +198,7 @@ fn main() {
         lines_of::<i64>("I64", &shown),
         lines_of::<i128>("I128", &shown),
         lines_of::<isize>("Isize", &shown),
-    ]
-    .concat();
+    ];
     let unsigned = [
         lines_of::<u8>("U8", &shown),
         lines_of::<u16>("U16", &shown),
@@ -205,14 +206,17 @@ fn main() {
         lines_of::<u64>("U64", &shown),
         lines_of::<u128>("U128", &shown),
         lines_of::<usize>("Usize", &shown),
-    ]
-    .concat();
-    let (first, all) = (signed.len(), signed.len() + unsigned.len());
-    println!("\n/// How many lines are of signed types. They come first.");
-    println!("pub(crate) const SIGNED: usize = {first};");
-    println!("\npub(crate) static LINES: [Line; {all}] = [");
-    for line in signed.iter().chain(&unsigned) {
-        println!("    {line},");
+    ];
+    print_table("The lines of the signed types.", "SIGNED", &signed);
+    print_table("Those of the unsigned types.", "UNSIGNED", &unsigned);
+}
+
+/// Prints the lines, three in a row.
+fn print_table(doc: &str, name: &str, types: &[(&str, Vec<String>)]) {
+    println!("\n/// {doc}\npub(crate) static {name}: &[Line] = &lines! {{");
+    for (of, lines) in types {
+        let rows: Vec<String> = lines.chunks(3).map(|row| row.join(", ")).collect();
+        println!("    {of}:\n        {};", rows.join(",\n        "));
     }
-    println!("];");
+    println!("}};");
 }

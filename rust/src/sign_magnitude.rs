@@ -12,8 +12,8 @@ pub fn parts_of<T: NativeInteger<Magnitude = u64>>(number: T) -> (bool, u64) {
     (is_negative(number), number.magnitude())
 }
 
-/// Returns the sign and the magnitude of `a * b`, which need not fit. `parts_of_product(-100i8,
-/// 100)` is `(true, 10000)`.
+/// Returns the sign and the magnitude of `a * b`, which need not fit.
+/// `parts_of_product(-100i8, 100)` is `(true, 10000)`.
 pub fn parts_of_product<T: NativeInteger<Magnitude = u64>>(a: T, b: T) -> (bool, u128) {
     let (a, b) = (parts_of(a), parts_of(b));
     (a.0 != b.0, u128::from(a.1) * u128::from(b.1))

@@ -437,6 +437,46 @@ fn nearest_fractions() {
     }
 }
 
+/// The parts of a fraction, a limit on both parts, and the parts of the nearest fraction. Python's `Fraction` found them by trial: for each
+/// larger part up to the limit, the two smaller parts beside the fraction.
+static BOTH_LIMITED: [(Parts, i64, Parts); 25] = [
+    ((314159, 100000), 120, (22, 7)),
+    ((314159, 100000), 355, (355, 113)),
+    ((100000, 314159), 120, (7, 22)),
+    ((-314159, 100000), 127, (-22, 7)),
+    ((3, 10), 5, (1, 3)),
+    ((10, 3), 5, (3, 1)),
+    ((3, 2), 1, (1, 1)),
+    ((3, 2), 2, (1, 1)),
+    ((-3, 2), 2, (-1, 1)),
+    ((-1, 2), 1, (0, 1)),
+    ((1, 100), 50, (0, 1)),
+    ((100, 1), 50, (50, 1)),
+    ((0, 1), 1, (0, 1)),
+    ((8, 3), 7, (5, 2)),
+    ((7, 5), 6, (4, 3)),
+    ((-7, 5), 7, (-7, 5)),
+    ((MAX, 2), 1000, (1000, 1)),
+    ((MIN, 3), 1000, (-1000, 1)),
+    ((MIN, 1), 5, (-5, 1)),
+    ((1, MAX), 1000, (0, 1)),
+    ((2718281828, 1000000000), 1000, (878, 323)),
+    ((MAX, MAX - 1), 1000, (1, 1)),
+    ((MIN, MAX), 1000, (-1, 1)),
+    ((1618033988, 1000000000), 233, (233, 144)),
+    ((1618033988, 1000000000), 232, (144, 89)),
+];
+
+#[test]
+fn nearest_parts() {
+    for &(given, max, expected) in &BOTH_LIMITED {
+        holds_at(max > 0, &max);
+        let nearest = ratio(given).limit_parts(max);
+        let found = (nearest.num(), nearest.den());
+        holds_at(found == expected, &("limit_parts", given, max));
+    }
+}
+
 /// A string, and the parts of the fraction that it is read as. The last rows have parts of 37, 38, 39 and 40 digits.
 static READ: [(&str, Result<Parts, ParseRatioError>); 35] = [
     ("3", Ok((3, 1))),

@@ -159,6 +159,35 @@ fn nearest_fractions() {
     }
 }
 
+/// The nearest fraction of two small parts by trial. Of two the one of the smaller denominator, and then the one nearer to 0.
+fn nearest_parts_by_trial(x: Parts, max: i64) -> Parts {
+    let key = |&(num, den): &Parts| (den, num.abs());
+    let mut candidates: Vec<Parts> = (1..=max)
+        .flat_map(|den| (-max..=max).map(move |num| (num, den)))
+        .collect();
+    candidates.sort_by_key(key);
+    let is_nearer =
+        |y: Parts, z: Parts| gap(x, y) * z.1.unsigned_abs() < gap(x, z) * y.1.unsigned_abs();
+    candidates
+        .into_iter()
+        .reduce(|best, y| if is_nearer(y, best) { y } else { best })
+        .expect("the limit is positive")
+}
+
+#[test]
+fn nearest_parts() {
+    for (_, x) in fractions() {
+        for max in 1..=12 {
+            let nearest = x.limit_parts(max);
+            assert_eq!(
+                parts(&nearest),
+                nearest_parts_by_trial(parts(&x), max),
+                "{x} {max}"
+            );
+        }
+    }
+}
+
 /// The answer equals a fraction, or tells that it is none.
 fn is_answer(answer: Result<Ratio, RatioError>, num: i64, den: i64) -> bool {
     match answer {

@@ -10,6 +10,7 @@ import re
 import tomllib
 from collections.abc import Callable, Sequence
 from fractions import Fraction
+from functools import partial
 from pathlib import Path
 from typing import Any, NamedTuple
 
@@ -70,25 +71,25 @@ def model(make: Maker, by_zero: int, by_value: int) -> Model:
     return result
 
 
-def let(condition: bool, status: int = OUTSIDE) -> None:
+def let(condition: bool, status: int = OUTSIDE) -> bool:
     """Ends with the status if the condition does not hold."""
     if not condition:
         raise No(status)
+    return True
 
 
-# ---- division
+def positive(number: int, status: int = OUTSIDE) -> int:
+    """A number that has to be positive."""
+    let(number > 0, status)
+    return number
 
-def truncated(x: int, y: int) -> Pair:
-    """The quotient rounded toward zero, and its remainder."""
-    quotient = abs(x) // abs(y) * (1 if (x < 0) == (y < 0) else -1)
-    return quotient, x - quotient * y
+
+modulus = partial(positive, status=BAD_MODULUS)
 
 
 def ceil(x: int, y: int) -> int:
     return -(-x // y)
 
-
-# ---- divisors, averages, roots and coefficients
 
 def is_bezout(bounds: Pair, x: int, y: int, status: int, values: Sequence[int] | None) -> bool:
     """Whether the result of extended_gcd is one: the equation holds, and the coefficients are small. Of 0 and 0 they are 1 and 0."""
@@ -132,28 +133,9 @@ def ilog(x: int, base: int) -> int:
     return last(x.bit_length(), lambda degree: base**degree <= x)
 
 
-def reduced(x: int, y: int) -> Pair:
-    gcd = math.gcd(x, y) or 1
-    return truncated(x, gcd)[0], truncated(y, gcd)[0]
-
-
-def falling(n: int, k: int) -> int:
-    """The number of rows of k of n things. If it is above 2**64, it may be another such number."""
-    let(n >= 0 and k >= 0)
-    return 0 if k > n else math.prod(range(n, n - min(k, WIDEST_CHOICE), -1))
-
-
 def coefficient(n: int, k: int) -> int:
     """The number of choices of k of n things. If it is above 2**64, it may be another such number."""
-    let(n >= 0 and k >= 0)
-    if k > n:
-        return 0
-    k = min(k, n - k)
-    return 2**64 if k >= WIDEST_CHOICE else math.comb(n, k)
-
-
-def multinomial(counts: Sequence[int]) -> int:
-    return math.prod(coefficient(sum(counts[:place]), counts[place - 1]) for place in range(1, len(counts) + 1))
+    return 2**64 if min(k, n - k) >= WIDEST_CHOICE else math.comb(n, k)
 
 
 def rank(choice: Sequence[int], n: int) -> int:
@@ -187,23 +169,10 @@ def shares_by_largest_remainder(amount: int, weights: Sequence[int]) -> tuple[in
     return tuple(found)
 
 
-# ---- pages
-
-def positive(size: int) -> int:
-    """A page size, a number of parts or an alignment."""
-    let(size > 0)
-    return size
-
-
 def range_of_page(page: int, size: int, items: int) -> Pair:
     let(items >= 0)
     first, end = max(0, page * positive(size)), min(items, (page + 1) * size)
     return (first, end) if first < end else (items, items)
-
-
-def item_at(page: int, place: int, size: int) -> int:
-    let(0 <= place < size)
-    return page * size + place
 
 
 def range_of_part(part: int, parts: int, items: int) -> Pair:
@@ -211,17 +180,6 @@ def range_of_part(part: int, parts: int, items: int) -> Pair:
     size, longer = divmod(items, parts)
     first = part * size + min(part, longer)
     return first, first + size + (part < longer)
-
-
-# ---- residues and congruences
-
-def modulus(m: int) -> int:
-    let(m > 0, BAD_MODULUS)
-    return m
-
-
-def quotient_modulo(a: int, b: int, m: int) -> int:
-    return a * pow(b, -1, modulus(m)) % m
 
 
 def solutions(a: int, b: int, m: int) -> Pair:
@@ -248,10 +206,6 @@ def next_common_solution_of(start: int, congruences: Sequence[Pair]) -> int:
     return next_congruent(start, first, step)
 
 
-def next_common_solution(start: int, a: int, m: int, b: int, n: int) -> int:
-    return next_congruent(start, *chinese_remainder(a, m, b, n))
-
-
 def next_congruent(start: int, residue: int, m: int) -> int:
     return start + (residue - start) % modulus(m)
 
@@ -259,8 +213,6 @@ def next_congruent(start: int, residue: int, m: int) -> int:
 def count_congruent(start: int, end: int, residue: int, m: int) -> int:
     return max(0, (end - residue) // modulus(m) - ceil(start - residue, m) + 1)
 
-
-# ---- fractions
 
 def fraction_from_text(text: str) -> Fraction:
     found = re.fullmatch('(-?[0-9]+)(?:/(-?[0-9]+))?', text)
@@ -275,20 +227,10 @@ def away_from_zero(x: Fraction) -> int:
     return size if x >= 0 else -size
 
 
-def power(a: Fraction, exponent: int) -> Fraction:
-    let(abs(exponent) <= 64 or abs(a) in (0, 1), NOT_FITTING)
-    return Fraction(a ** (exponent % 2 + 2 if abs(a) == 1 else exponent))
-
-
-def over(make: Callable[[Fraction, int], Fraction]) -> Model:
+def over(make: Maker, by_zero: int, by_value: int) -> Model:
     """A call of a fraction and of a positive number, which is looked at first."""
-    made = model(make, ZERO_DENOMINATOR, OUTSIDE)
+    made = model(make, by_zero, by_value)
     return lambda bounds, pair, number: OUTSIDE if number <= 0 else made(bounds, pair, number)
-
-
-def to_parts(make: Callable[[Fraction], int]) -> Model:
-    """A call of a fraction and of a number of parts, to which it is rounded."""
-    return over(lambda a, count: Fraction(make(a * count), count))
 
 
 def to_decimal(a: Fraction, places: int) -> tuple[int, ...]:
@@ -297,8 +239,6 @@ def to_decimal(a: Fraction, places: int) -> tuple[int, ...]:
     units = round(a * 10**places)
     return int(units < 0), *divmod(abs(units), 10**places)
 
-
-# ---- dates
 
 def near(year: int) -> int:
     """A year of `datetime` with the same calendar."""
@@ -366,19 +306,8 @@ def months_between(start: Day, end: Day) -> int:
     return months - (start.plus_months(months) > end)
 
 
-def years_between(start: Day, end: Day) -> int:
-    years = end.year - start.year
-    return years - (start.plus_months(12 * years) > end)
-
-
-def date_from_year_day(year: int, day: int) -> Day:
-    found = of_number(Day(year, 1, 1).number() + day - 1)
-    let(found.year == year, NO_DATE)
-    return found
-
-
-def see_weekday(weekday: int) -> None:
-    let(1 <= weekday <= 7)
+def see_weekday(weekday: int) -> bool:
+    return let(1 <= weekday <= 7)
 
 
 def near_weekday(day: int, weekday: int, step: int) -> int:
@@ -390,11 +319,6 @@ def near_weekday(day: int, weekday: int, step: int) -> int:
 def weeks_in(year: int) -> int:
     """The number of weeks of ISO 8601 of a year."""
     return Day(year, 12, 28).iso_week()[1]
-
-
-def date_from_iso_week(year: int, week: int, weekday: int) -> Day:
-    see_weekday(weekday)
-    return dated(year, datetime.date.fromisocalendar(near(year), week, weekday))
 
 
 def easter(year: int) -> Day:
@@ -421,18 +345,12 @@ def nth_weekday_of_month(year: int, month: int, weekday: int, n: int) -> Day:
     return dates[n - 1]
 
 
-# ---- the calls
-
-# The statuses of a division by 0, and of another argument for which there is no result, by the tables of by_python.toml.
-STATUSES = {'numbers': (OUTSIDE, OUTSIDE), 'congruences': (BAD_MODULUS, NO_SOLUTION), 'fractions': (ZERO_DENOMINATOR, OUTSIDE), 'dates': (NO_DATE, NO_DATE)}
+# Of the tables of by_python.toml what a row makes, and the statuses of a division by 0 and of another argument for which there is no result.
+KINDS: dict[str, tuple[Callable[[Maker, int, int], Model], int, int]] = {
+    'numbers': (model, OUTSIDE, OUTSIDE), 'congruences': (model, BAD_MODULUS, NO_SOLUTION), 'fractions': (model, ZERO_DENOMINATOR, OUTSIDE),
+    'fractions_over': (over, ZERO_DENOMINATOR, OUTSIDE), 'dates': (model, NO_DATE, NO_DATE)}
 TABLES = tomllib.loads(Path(__file__).with_suffix('.toml').read_text())
-RESULTS: dict[str, Model] = {
-    **{name: model(eval(f'lambda {row}', globals()), *STATUSES[table]) for table, rows in TABLES.items() for name, row in rows.items()},
-    'fraction_limit_denominator': over(Fraction.limit_denominator),
-    'fraction_floor_to': to_parts(math.floor),
-    'fraction_ceil_to': to_parts(math.ceil),
-    'fraction_round_to': to_parts(away_from_zero),
-    'fraction_round_even_to': to_parts(round),
-    'fraction_to_decimal': lambda _, *given: model(to_decimal, ZERO_DENOMINATOR, OUTSIDE)(U64, *given),  # its integer part is below 2**64
-}
+RESULTS = {name: KINDS[table][0](eval(f'lambda {row}', globals()), *KINDS[table][1:]) for table, rows in TABLES.items() for name, row in rows.items()}
+# the integer part of a decimal number is below 2**64
+RESULTS['fraction_to_decimal'] = lambda _, *given: model(to_decimal, ZERO_DENOMINATOR, OUTSIDE)(U64, *given)
 PROPERTIES: dict[str, Callable[..., bool]] = {'extended_gcd': is_bezout}

@@ -71,17 +71,13 @@ def refusal(call: Call, parameters: list[Field]) -> list[str]:
     return [f'if (auto error = detail::error_of({", ".join(numbers)}); error != status::answer) {{', f'    return {returned};', '}']
 
 
-def body(call: Call) -> str:
-    """The statements of a form."""
-    called = f'{call.symbol}({", ".join(map(given, call.parameters))})'
-    last = [f'return static_cast<status>({called});'] if call.writes else [f'auto r = {called};', f'return {of(call)[1]};']
-    return '\n    '.join(refusal(call, call.parameters) + last)
-
-
 def plain_function(call: Call) -> str:
     """A function of one form."""
     parameters = ', '.join(taken(call, parameter) for parameter in call.parameters)
-    return f'{comment(call)}[[nodiscard]] inline {of(call)[0]} {call.name}({parameters}) {{\n    {body(call)}\n}}\n'
+    called = f'{call.symbol}({", ".join(map(given, call.parameters))})'
+    last = [f'return static_cast<status>({called});'] if call.writes else [f'auto r = {called};', f'return {of(call)[1]};']
+    body = '\n    '.join(refusal(call, call.parameters) + last)
+    return f'{comment(call)}[[nodiscard]] inline {of(call)[0]} {call.name}({parameters}) {{\n    {body}\n}}\n'
 
 
 def slice_functions(forms: list[Call]) -> str:
@@ -90,16 +86,13 @@ def slice_functions(forms: list[Call]) -> str:
     text = ''.join(plain_function(form) + '\n' for form in forms)
     if any(p.item == TEXT for p in call.parameters):
         return text.removesuffix('\n')
-    parameters, passed, types = [], [], []
+    parameters, types = list[str](), list[str]()
     for k, (p, q) in enumerate(zip(call.parameters, forms[-1].parameters)):
-        if p.item:
-            types.append(f'Items{k}')
-            parameters.append(f'{"" if p.is_written else "const "}Items{k} &{p.name}')
-            passed.append(f'{p.name}.data(), {p.name}.size()')
-        else:
-            types += [f'N{k}'] if p.kind != q.kind else []
-            parameters.append(f'N{k} {p.name}' if p.kind != q.kind else taken(call, p))
-            passed.append(p.name)
+        own = f'Items{k}' if p.item else f'N{k}' if p.kind != q.kind else ''
+        types += [own] if own else []
+        of_list = f'{"" if p.is_written else "const "}{own} &{p.name}'
+        parameters.append(of_list if p.item else f'{own} {p.name}' if own else taken(call, p))
+    passed = [f'{p.name}.data(), {p.name}.size()' if p.item else p.name for p in call.parameters]
     kinds = {p.name: list(dict.fromkeys(PLAIN[form.parameters[k].item] for form in forms)) for k, p in enumerate(call.parameters) if p.item}
     asserts = [f'static_assert(detail::has_items<decltype({name}), {", ".join(of_items)}>, "the items of {name} have to be {" or ".join(of_items)}");'
                for name, of_items in kinds.items()]
@@ -133,12 +126,7 @@ def hpp() -> str:
             text += lines_of('---- ' + found.headings[module].rstrip('.'), '//') + '\n'
         if name == 'fraction_new':
             continue  # it is `fraction::make`
-        signed = next((call for call in forms if call.form == 'i64'), None)
-        unsigned = next((call for call in forms if call.form == 'u64'), None)
-        if forms[0].has_slice:
-            text += slice_functions(forms)
-        else:
-            text += template(signed, unsigned) if signed and unsigned else plain_function(forms[0])
+        text += slice_functions(forms) if forms[0].has_slice else template(*forms) if len(forms) == 2 else plain_function(forms[0])
         text += '\n'
     return filled('cellarcove.hpp', statuses=statuses, calls=text)
 

@@ -5,8 +5,9 @@ from collections.abc import Iterator
 from pathlib import Path
 from typing import NamedTuple
 
-from tools.erase.source import Item, Source
+import tools
 from tools import ROOT
+from tools.erase.source import Item, Source
 
 SOURCES = ROOT / 'crates/cellarcove_c/src'
 VERSION = re.findall(r'^version = "(.*)"$', (ROOT / 'rust/Cargo.toml').read_text(), re.M)[0]
@@ -37,6 +38,11 @@ class Status(NamedTuple):
     name: str
     number: int
     doc: str
+
+    @property
+    def reason(self) -> str:
+        """Its comment within a sentence."""
+        return self.doc[0].lower() + self.doc[1:].rstrip('.')
 
 
 class Struct(NamedTuple):
@@ -162,11 +168,7 @@ def listed(name: str, sign: str) -> dict[str, str]:
 
 
 def filled(template: str, **parts: str) -> str:
-    """A template with its parts in the place of their names in braces."""
-    text = (Path(__file__).parent / 'templates' / template).read_text()
-    for name, part in parts.items():
-        text = text.replace(f'{{{name}}}', part.rstrip('\n'))
-    return text
+    return tools.filled(Path(__file__).parent / 'templates' / template, **parts)
 
 
 EXPORTS = functools.lru_cache(maxsize=1)(read)

@@ -2,8 +2,6 @@
 fractions and the dates of Python (by_python.py). The package `cellarcove` makes the calls, as it is installed: over arrays, with and
 without outputs, and of one number.
 
-    tools/cellarcove check fuzz [--small] [--seed N] [--minutes M]
-
 It prints each call that is wrong, and at the end how many calls it made of how many exports. Its status is 1 if a call was
 wrong, or if by_python.py does not say what an export returns. First it wants of some calls what another returns, and each has to be
 found."""
@@ -28,7 +26,7 @@ with contextlib.suppress(ImportError):  # the rows for JavaScript need only the 
 
 from tools.bindings.by_python import BAD_MODULUS, I64, NOT_FITTING, OUTSIDE, PROPERTIES, RESULTS, U64, ZERO_DENOMINATOR
 from tools.bindings.exports import EXPORTS, Call
-from tools.bindings.python import DIVIDES, LETTERS, MODULI, cells, public_calls, results
+from tools.bindings.python import DIVIDES, LETTERS, MODULI, cells, grouped, public_calls, results
 
 COUNT = 200                                     # elements of an array
 ONE_BY_ONE = 8                                  # of them, which are called alone too
@@ -40,8 +38,6 @@ MOST_SHOWN = 20
 class Wrong(Exception):
     """A call returns something else than it should."""
 
-
-# ---- arguments
 
 def number(kind: str, width: int) -> int:
     """A number of a type: most have as many bits as the width, and some are small, or beside an end of the type."""
@@ -60,16 +56,6 @@ def columns(call: Call) -> list[array.array[int]]:
     """Arrays of random numbers, one for each cell of a call."""
     width = random.randint(1, 64)
     return [array.array(LETTERS[kind], [number(kind, random.choice((width, 64))) for _ in range(COUNT)]) for kind in cells(call)]
-
-
-def grouped(call: Call, numbers: Sequence[Any]) -> list[Any]:
-    """The arguments that are made of the numbers of the cells: a number, or a tuple of those of a fraction or a date."""
-    place, found = 0, []
-    for parameter in call.parameters:
-        count = len(EXPORTS().leaves(parameter.kind))
-        found.append(numbers[place] if count == 1 else tuple(numbers[place:place + count]))
-        place += count
-    return found
 
 
 def small(call: Call) -> list[array.array[int]]:
@@ -91,8 +77,6 @@ def as_object(value: Any) -> Any:
     except (OverflowError, ValueError):
         return SimpleNamespace(year=value[0], month=value[1], day=value[2])
 
-
-# ---- results
 
 def plain(result: Any) -> tuple[int, ...]:
     """The numbers of a result."""
@@ -138,23 +122,28 @@ def of_arrays(name: str, call: Call, taken: list[array.array[int]], number_last:
     return count
 
 
-def in_ranges(call: Call, numbers: Sequence[int]) -> bool:
-    """Whether the numbers fit the cells of a call."""
-    return all(RANGES[kind][0] <= value <= RANGES[kind][1] for value, kind in zip(numbers, cells(call)))
+def flat(arguments: Any) -> Iterator[int]:
+    """All numbers of some arguments."""
+    for argument in arguments:
+        yield from flat(argument) if isinstance(argument, (list, tuple)) else [argument]
+
+
+def chosen(forms: list[Call], arguments: Sequence[Any]) -> Call | None:
+    """The form that a call of numbers has: one that fits the arguments, and the result if one does; or None."""
+    if len(forms) == 1:
+        return forms[0]
+    numbers = list(flat(given for given, p, q in zip(arguments, *(form.parameters for form in forms)) if p.kind != q.kind))
+    fit = [form for form in forms if all(RANGES[form.form][0] <= number <= RANGES[form.form][1] for number in numbers)]
+    return next((form for form in fit if RESULTS[form.name](RANGES[form.form], *arguments) != NOT_FITTING), fit[-1] if fit else None)
 
 
 def alone(name: str, forms: list[Call], numbers: Sequence[int]) -> int:
-    """A call of numbers that are no arrays, by the form that fits them: the unsigned one, and the signed one if its result does not fit."""
+    """A call of numbers that are no arrays, if a form fits them."""
     arguments = grouped(forms[0], numbers)
-    two = len(forms) == 2
-    follows = [value for value, kinds in zip(numbers, zip(*map(cells, forms))) if two and kinds[0] != kinds[1]]
-    call = next(form for form in forms if not two or (form.form == 'i64') == any(value < 0 for value in follows))
-    if not in_ranges(call, numbers):
-        return 0
-    if two and call.form == 'u64' and call.name in RESULTS and RESULTS[call.name](U64, *arguments) == NOT_FITTING and in_ranges(forms[0], numbers):
-        call = forms[0]
-    judge_one(name, call, [as_object(argument) for argument in arguments], arguments)
-    return 1
+    call = chosen(forms, arguments)
+    if call:
+        judge_one(name, call, [as_object(argument) for argument in arguments], arguments)
+    return bool(call)
 
 
 def listed(call: Call) -> list[Any]:
@@ -199,27 +188,19 @@ def with_lists(call: Call) -> list[Any]:
     return [items if parameter.item else number(parameter.kind, width) for parameter in call.parameters]
 
 
-def flat(arguments: Any) -> Iterator[int]:
-    """All numbers of some arguments."""
-    for argument in arguments:
-        yield from flat(argument) if isinstance(argument, (list, tuple)) else [argument]
-
-
 def of_slice(name: str, forms: list[Call]) -> int:
     """A call with a list, or with an array, whose type is that of the form; or with a text."""
-    call, in_buffer = random.choice(forms), random.random() < 0.5
-    arguments, lists = with_lists(call), [parameter.item for parameter in call.parameters if parameter.item]
+    form, in_buffer = random.choice(forms), random.random() < 0.5
+    arguments, lists = with_lists(form), [parameter.item for parameter in form.parameters if parameter.item]
     in_buffer &= lists[0] in RANGES
     given = list[Any](arguments)
     for place in (place for place, value in enumerate(arguments) if isinstance(value, list)):
         given[place] = array.array(LETTERS[lists[0]], given[place]) if in_buffer else iter(given[place]) if random.random() < 0.5 else given[place]
-    if len(forms) == 2 and not (in_buffer and lists == [call.form]):
-        numbers = list(flat(arguments[:1] if len(lists) == 2 else arguments))
-        call = next(form for form in forms if (form.form == 'i64') == any(value < 0 for value in numbers))
-        if not all(RANGES[call.form][0] <= value <= RANGES[call.form][1] for value in numbers):
-            return 0
-        if call.name in ('gcd_of', 'lcm_of') and random.random() < 0.5:
-            judge_one(call.name.removesuffix('_of'), call, arguments[0], arguments)
+    call = form if in_buffer and lists == [form.form] else chosen(forms, arguments)
+    if not call:
+        return 0
+    if call.name in ('gcd_of', 'lcm_of') and not in_buffer and random.random() < 0.5:
+        judge_one(call.name.removesuffix('_of'), call, arguments[0], arguments)
     judge_one(name, call, given, arguments)
     return 1
 
@@ -256,8 +237,6 @@ def of_package(name: str, forms: list[Call]) -> int:
         done += sum(alone(name, forms, numbers) for numbers in list(zip(*taken))[:ONE_BY_ONE])
     return done
 
-
-# ---- the run
 
 # Pairs of calls that differ at few arguments.
 EXCHANGED = (('div_floor', 'div_ceil'), ('average_floor', 'average_ceil'), ('gcd', 'lcm'), ('sum_modulo', 'difference_modulo'),
@@ -300,16 +279,14 @@ def check(words: list[str]) -> bool:
     if unknown or missed:
         print(f'tools/bindings/by_python.py does not say what these return: {unknown}; exchanged calls that are not found: {missed}')
         return False
-    runners: list[Callable[[], int]] = [partial(of_package, name, forms) for name, forms in public_calls()]
-    exports = sum(len(forms) for _, forms in public_calls())
+    pairs = [(name, form) for name, forms in public_calls() for form in forms]
     if options.small:
-        all_small = [partial(of_arrays, name, form, small(form)) for name, forms in public_calls() for form in forms if not form.has_slice]
-        done, wrong = run(options.seed, 0, all_small, MOST_SHOWN)
+        done, wrong = run(options.seed, 0, [partial(of_arrays, name, form, small(form)) for name, form in pairs if not form.has_slice], MOST_SHOWN)
         print(f'all small numbers: {done:,} calls; {wrong} runs are wrong')
         if wrong:
             return False
     begin = time.monotonic()
-    done, wrong = run(options.seed, options.minutes, runners, MOST_SHOWN)
+    done, wrong = run(options.seed, options.minutes, [partial(of_package, name, forms) for name, forms in public_calls()], MOST_SHOWN)
     spent = (time.monotonic() - begin) / 60
-    print(f'seed {options.seed}: {done:,} calls of {exports} exports in {spent:.1f} minutes, {done / spent:,.0f} a minute; {wrong} runs are wrong')
+    print(f'seed {options.seed}: {done:,} calls of {len(pairs)} exports in {spent:.1f} minutes, {done / spent:,.0f} a minute; {wrong} runs are wrong')
     return wrong == 0

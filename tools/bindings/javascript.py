@@ -34,29 +34,18 @@ def field(struct: str, name: str) -> str:
     return OF_WEEK.get(name, name) if struct == 'IsoWeekAnswer' else camel(FIELDS.get(name, name))
 
 
-def form(call: Call) -> list[str]:
-    """The symbol, the parameters and the result of a form."""
-    parameters = ' '.join(f'{camel(parameter.name)}:{parameter.kind}' for parameter in call.parameters)
-    return [call.symbol.removeprefix('cellarcove_'), parameters, call.result]
-
-
 def table() -> str:
     """The table that the module reads."""
     found = EXPORTS()
-    statuses = ''.join(f'  [{compact(status.name)}, {json.dumps(status.doc[0].lower() + status.doc[1:].rstrip("."))}],\n' for status in found.statuses)
+    statuses = ''.join(f'  [{compact(status.name)}, {json.dumps(status.reason)}],\n' for status in found.statuses)
     structs = ''.join(f'  {struct.name}: {compact([[field(struct.name, part.name), part.kind] for part in struct.fields])},\n'
                       for struct in in_order_of_need(found.structs))
-    calls = ''.join(f'  {camel(name)}: {compact([form(call) for call in forms])},\n' for name, forms in found.forms().items())
+    # of each form the symbol, the parameters and the result
+    calls = ''.join(f'  {camel(name)}: ' + compact([[
+        form.symbol.removeprefix('cellarcove_'), ' '.join(f'{camel(parameter.name)}:{parameter.kind}' for parameter in form.parameters), form.result,
+    ] for form in forms]) + ',\n' for name, forms in found.forms().items())
     return filled('table.js', version=VERSION, statuses=statuses, structs=structs, calls=calls)
 
-
-def module() -> str:
-    """The module, whose functions have names that a reader and a bundler see."""
-    pairs = (f'export const {camel(name)} = call({camel(name)!r}), {of_try(name)} = attempt({camel(name)!r});\n' for name in EXPORTS().forms())
-    return filled('cellarcove.js', calls=''.join(pairs))
-
-
-# ---- types
 
 def comment_of(call: Call) -> str:
     said = without_returns(DOCS.get(call.name, call.doc)).replace('as a tuple', 'as an array')
@@ -101,13 +90,6 @@ def taken(parameter: Field) -> str:
     return {'Fraction': 'Fractional', 'Date': 'Dated'}.get(parameter.kind, 'Integer')
 
 
-def of_array(parameter: Field, call: Call, wide: str) -> str:
-    """The type of a parameter that may have one."""
-    if parameter.kind in CLASSES:
-        return f'{taken(parameter)} | {CLASSES[parameter.kind]}Columns'
-    return f'Integer | {wide if parameter.kind == call.form else ARRAYS[parameter.kind]}'
-
-
 def declaration(name: str, forms: list[Call]) -> str:
     call = forms[0]
     shown = [(COUNT if parameter.is_written else camel(parameter.name), parameter) for parameter in call.taken]
@@ -115,7 +97,9 @@ def declaration(name: str, forms: list[Call]) -> str:
     text = f'{comment_of(call)}export function {camel(name)}({plain}): {result(call)};\n'
     if not call.has_slice:
         wide = 'T' if len(forms) == 2 else ARRAYS.get(call.form, '')
-        arrays = ', '.join(f'{word}: {of_array(parameter, call, wide)}' for word, parameter in shown)
+        kinds = [f'{taken(parameter)} | {CLASSES[parameter.kind]}Columns' if parameter.kind in CLASSES else
+                 f'Integer | {wide if parameter.kind == call.form else ARRAYS[parameter.kind]}' for _, parameter in shown]
+        arrays = ', '.join(f'{word}: {kind}' for (word, _), kind in zip(shown, kinds))
         text += f'export function {camel(name)}{"<T extends Integers>" * (len(forms) == 2)}({arrays}): {columns(call, wide)};\n'
     return text + f'export function {of_try(name)}({plain}): Attempt<{result(call)}>;\n'
 
@@ -123,11 +107,13 @@ def declaration(name: str, forms: list[Call]) -> str:
 def types() -> str:
     """The types of the module."""
     found = EXPORTS()
-    numbers = [str(status.number) for status in found.statuses]
     statuses = ''.join(f'  /** {status.doc} */\n  readonly {status.name}: {status.number};\n' for status in found.statuses)
-    return filled('cellarcove.d.ts', statuses=statuses, numbers=' | '.join(numbers[1:]),
+    return filled('cellarcove.d.ts', statuses=statuses, numbers=' | '.join(str(status.number) for status in found.statuses[1:]),
                   calls='\n'.join(declaration(name, forms) for name, forms in found.forms().items()))
 
 
 def made() -> dict[str, str]:
-    return {'bindings/js/table.js': table(), 'bindings/js/cellarcove.js': module(), 'bindings/js/cellarcove.d.ts': types()}
+    # the functions of the module have names that a reader and a bundler see
+    names = (f'export const {camel(name)} = call({camel(name)!r}), {of_try(name)} = attempt({camel(name)!r});\n' for name in EXPORTS().forms())
+    return {'bindings/js/table.js': table(), 'bindings/js/cellarcove.js': filled('cellarcove.js', calls=''.join(names)),
+            'bindings/js/cellarcove.d.ts': types()}

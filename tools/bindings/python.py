@@ -1,7 +1,9 @@
 """What Python knows of the exports: the table of calls in C, and the stubs."""
+import itertools
 import re
 import textwrap
 from collections.abc import Callable, Sequence
+from typing import Any
 
 from tools import ROOT
 from tools.bindings.exports import EXPORTS, Call, Field, c_type, filled, listed, without_returns
@@ -59,15 +61,16 @@ def divides(call: Call) -> list[bool]:
     return [parameter.name in divisors for parameter in call.parameters for _ in EXPORTS().leaves(parameter.kind)]
 
 
+def grouped(call: Call, numbers: Sequence[Any]) -> list[Any]:
+    """The arguments that are made of the numbers of the cells: a number, or a tuple of those of a fraction or a date."""
+    rest, counts = iter(numbers), [len(EXPORTS().leaves(parameter.kind)) for parameter in call.parameters]
+    return [next(rest) if count == 1 else tuple(itertools.islice(rest, count)) for count in counts]
+
+
 def arguments(call: Call, number: Callable[[int, str], str]) -> str:
     """The arguments in C, made of the numbers of the cells."""
-    place, made = 0, []
-    for parameter in call.parameters:
-        leaves = EXPORTS().leaves(parameter.kind)
-        values = [number(place + k, leaf) for k, (_, leaf) in enumerate(leaves)]
-        place += len(leaves)
-        made.append(values[0] if len(leaves) == 1 else f'({c_type(parameter.kind)}){{{", ".join(values)}}}')
-    return ', '.join(made)
+    given = zip(call.parameters, grouped(call, [number(k, kind) for k, kind in enumerate(cells(call))]))
+    return ', '.join(made if isinstance(made, str) else f'({c_type(parameter.kind)}){{{", ".join(made)}}}' for parameter, made in given)
 
 
 def object_of(call: Call) -> str:
@@ -113,16 +116,14 @@ def signature(name: str, forms: list[Call]) -> str:
 RAISED = {'NOT_FITTING': '`NotFitting`', 'ZERO_DENOMINATOR': '`DivisionByZero`'}
 
 
-def raised(call: Call, unsigned: Call | None) -> str:
+def raised(call: Call, unsigned: Call | None = None) -> str:
     """What a docstring says of the errors."""
-    by_zero = {'OUTSIDE': '`DivisionByZero`'} if call.module in DIVIDES else {}
-
-    def exception(status: re.Match[str]) -> str:
-        return 'Raises ' + (RAISED | by_zero).get(status[1], f'`Refused` with {status[0]}')
-    said = []
+    names = RAISED | ({'OUTSIDE': '`DivisionByZero`'} if call.module in DIVIDES else {})
+    others, said = {sentence.split('`')[1] for sentence in (unsigned or call).statuses}, list[str]()
     for sentence in call.statuses:
-        negative = unsigned is not None and not any(sentence.split('`')[1] == other.split('`')[1] for other in unsigned.statuses)
-        said.append(re.sub('^`([A-Z_]+)`', exception, sentence.replace(SEEN_TO, '').removesuffix('.') + ', which takes a negative number.' * negative + '.' * (not negative)))
+        _, status, rest = sentence.replace(SEEN_TO, '').removesuffix('.').split('`', 2)
+        end = '.' if status in others else ', which takes a negative number.'
+        said.append(f'Raises {names.get(status, f"`Refused` with `{status}`")}{rest}{end}')
     return ' '.join(said)
 
 
@@ -141,19 +142,11 @@ def split(doc: str) -> tuple[str, list[str]]:
 
 def docstring(name: str, forms: list[Call]) -> str:
     """What a call does, its errors, its arrays, and its examples, which the tests of the package run."""
-    call = forms[0]
-    parts = [split(without_returns(DOCS.get(name, call.doc)))[0], raised(call, forms[1] if len(forms) == 2 else None), 'It takes any count of numbers.' if name in OF_MANY else '']
-    text = ['\n'.join(textwrap.wrap(in_python(part), 88)) for part in parts if part]
+    parts = [split(without_returns(DOCS.get(name, forms[0].doc)))[0], raised(*forms), 'It takes any count of numbers.' * (name in OF_MANY)]
+    for old, new in PARAMETERS.items():
+        parts = [part.replace(f'`{old}`', f'`{new}`') for part in parts]
+    text = ['\n'.join(textwrap.wrap(part, 88)) for part in parts if part]
     return '\n\n'.join([*text, '\n'.join(f'>>> {given}\n{result}' for given, result in examples(name))])
-
-
-def in_python(text: str) -> str:
-    """A text with the names that the parameters have in Python."""
-    return re.sub('`(\\w+)`', lambda name: f'`{PARAMETERS.get(name[1], name[1])}`', text)
-
-
-def quoted(text: str) -> str:
-    return '\n    '.join('"' + line.replace('\\', '\\\\').replace('"', '\\"') + '\\n"' for line in text.split('\n'))
 
 
 def call_text(name: str, forms: list[Call]) -> str:
@@ -195,7 +188,8 @@ def written_text(name: str, call: Call) -> str:
 
 
 def method(name: str, forms: list[Call]) -> str:
-    doc = quoted(signature(name, forms) + '\n--\n\n' + docstring(name, forms))
+    lines = f'{signature(name, forms)}\n--\n\n{docstring(name, forms)}'.replace('\\', '\\\\').replace('"', '\\"').split('\n')
+    doc = '\n    '.join(f'"{line}\\n"' for line in lines)
     flags = 'METH_FASTCALL | METH_KEYWORDS' if not forms[0].has_slice else 'METH_FASTCALL' if len(forms[0].parameters) > 1 else 'METH_O'
     cast = '' if flags == 'METH_O' else '(PyCFunction)(void (*)(void))'
     return f'    {{"{name}", {cast}py_{name}, {flags},\n    {doc}}},\n'
@@ -220,8 +214,6 @@ def calls_c() -> str:
     methods += ''.join(method(alias, dict(named)[name]).replace(f'py_{alias}', f'py_{name}') for alias, name in ALIASES.items())
     return filled('calls.c', calls=text, methods=methods)
 
-
-# ---- stubs
 
 PYTHON = {'Fraction': 'Fractional', 'Date': 'Dated'}
 NUMBER, ARRAY = 'SupportsIndex', 'Array'

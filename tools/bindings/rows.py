@@ -1,8 +1,6 @@
 """Prints calls with random arguments, with corners, and those of the literal lines of rows.txt, and what each returns by the integers, the
 fractions and the dates of Python (by_python.py), for the tests of JavaScript.
 
-    tools/cellarcove make rows SEED COUNT [SECONDS]
-
 A line is an array of JSON: the name of the call in C; its form, if it is one of arrays, or an empty text; the arguments; the status; and
 the numbers of the result. An argument is a number, as a text; or an array of the parts of a struct, or of the items of a list. A row of
 arrays has an array of arguments for each item, and so of statuses and of results. Each call has COUNT rows of numbers, and a row for the
@@ -16,10 +14,10 @@ from collections.abc import Iterator, Sequence
 from typing import Any
 
 from tools import ROOT
-from tools.bindings.by_python import I64, NOT_FITTING, RESULTS, U64, Pair
+from tools.bindings.by_python import I64, NOT_FITTING, RESULTS
 from tools.bindings.exports import EXPORTS, Call
-from tools.bindings.fuzz import RANGES, columns, flat, grouped, with_lists
-from tools.bindings.python import RENAMED, cells, parameter_names
+from tools.bindings.fuzz import RANGES, chosen, columns, flat, with_lists
+from tools.bindings.python import RENAMED, cells, grouped, parameter_names
 
 ROWS = ROOT / 'bindings/python/tests/rows.txt'
 LITERAL = re.compile(r'(\w+)(\(.*\))  # (?:raises \w+: ([A-Z_]+)|(.*))')
@@ -27,20 +25,10 @@ CORNERS = 36  # rows of a call whose numbers are at an end of their types, or be
 STATUSES = {status.name: status.number for status in EXPORTS().statuses}
 
 
-def returned(call: Call, bounds: Pair, arguments: Sequence[Any]) -> Any:
-    """The numbers of a result, or the status. Of `extended_gcd` it is the first number, which says what the others can be."""
-    found = RESULTS['gcd' if call.name == 'extended_gcd' else call.name](bounds, *arguments)
-    return found if isinstance(found, int) else list(found)
-
-
-def wanted(forms: list[Call], arguments: Sequence[Any]) -> Any:
-    """What a call of numbers returns: by the signed form, or by the unsigned one if only that fits."""
-    call = forms[0]
-    if len(forms) == 1:
-        return returned(call, RANGES.get(call.form, I64), arguments)
-    wide = list(flat(given for given, p, q in zip(arguments, *(form.parameters for form in forms)) if p.kind != q.kind))
-    found = returned(call, I64, arguments) if all(I64[0] <= x <= I64[1] for x in wide) else NOT_FITTING
-    return returned(call, U64, arguments) if found == NOT_FITTING and all(0 <= x <= U64[1] for x in wide) else found
+def returned(call: Call | None, arguments: Sequence[Any]) -> tuple[int, list[int]]:
+    """The status, and the numbers of a result. Of `extended_gcd` it is the first number, which says what the others can be."""
+    found = RESULTS[call.name.removeprefix('extended_')](RANGES.get(call.form, I64), *arguments) if call else NOT_FITTING
+    return (found, []) if isinstance(found, int) else (0, list(found))
 
 
 def corners(call: Call) -> list[list[Any]]:
@@ -57,11 +45,8 @@ def rows(forms: list[Call], count: int) -> Iterator[list[Any]]:
     for call in forms * (not given):
         found = [grouped(call, numbers) for numbers in zip(*columns(call))]
         given += found[:count] + corners(call)
-        results = [returned(call, RANGES.get(call.form, I64), arguments) for arguments in found]
-        yield [call.name, call.form or 'i64', found, [it if isinstance(it, int) else 0 for it in results], [it if isinstance(it, list) else [] for it in results]]
-    for arguments in given:
-        result = wanted(forms, arguments)
-        yield [forms[0].name, '', arguments, result if isinstance(result, int) else 0, result if isinstance(result, list) else []]
+        yield [call.name, call.form or 'i64', found, *map(list, zip(*(returned(call, arguments) for arguments in found)))]
+    yield from ([forms[0].name, '', arguments, *returned(chosen(forms, arguments), arguments)] for arguments in given)
 
 
 def literal() -> Iterator[list[Any]]:

@@ -1,7 +1,5 @@
 """Makes a workspace of packages of other authors, in which a package of ours replaces num-integer.
 
-    tools/cellarcove make dependents REGISTRY PACKAGE OUT NAME..
-
 REGISTRY is a folder of sources, from which each package is copied. PACKAGE is the folder of the package that
 replaces the one of that name, for each of them and for what they depend on. Benches, and dev-dependencies that the
 registry does not have, are taken out of the manifests. A line for each package says what."""
@@ -9,10 +7,9 @@ import re
 import shutil
 import tomllib
 from pathlib import Path
-from string import Template
 
 from tools.erase.source import Unknown
-from tools import write
+from tools import filled, write
 
 WORKSPACE = Path(__file__).parent / 'templates' / 'dependents.toml'
 # A section of a manifest that may go, and what it has.
@@ -51,4 +48,4 @@ def make(words: list[str]) -> bool:
         take(registry, name, out)
     members = ', '.join(f'"{name}"' for name in names)
     patches = '\n'.join(f'{name} = {{ path = "{name}" }}' for name in names)
-    return write(out, {'Cargo.toml': Template(WORKSPACE.read_text()).substitute(members=members, num_integer=num_integer, patches=patches)})
+    return write(out, {'Cargo.toml': filled(WORKSPACE, members=members, num_integer=str(num_integer), patches=patches)})

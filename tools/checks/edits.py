@@ -1,4 +1,4 @@
-"""Reads the seeded bugs of both suites, crates/NAME/must-fail/*.edit and crates/NAME/must-fail-release/*.edit, and proves
+"""Reads the mutants of both suites, crates/NAME/must-fail/*.edit and crates/NAME/must-fail-release/*.edit, and proves
 nothing. The first line of each says what is wrong, in one of three forms. Each file that it names is there, each old text
 stands in that file exactly once where the pairs above have been applied, and its new text is another. Prints a line for each
 that is not so, and a count at the end.
@@ -19,6 +19,7 @@ FORMS = (
     rf'wrong: at (?P<call>.+) it overflows, which (?P<broken>{CLAUSE}) excludes, and (?P<clause>{CLAUSE}) asks for (?P<right>.+)\.',
     r'wrong \(not run: (?P<reason>[^()]+)\): .+\.',
 )
+PAIR = re.compile(r'file: ?(?P<file>.+)\n|old: ?(?P<old>.+)\nnew: ?(?P<new>.*)(?:\n|\Z)')
 
 
 class BadEdit(Exception):
@@ -49,24 +50,17 @@ def form_of(line: str) -> re.Match[str]:
 def apply(crate: Path, edit: Path) -> tuple[re.Match[str], dict[str, str]]:
     """Applies the pairs of the edit, one after the other, to copies of the files. Returns what the first line says, and the
     texts of the changed files by their names."""
-    first, *lines = edit.read_text(encoding='utf-8').splitlines()
-    said = form_of(first)
-    name, old = '', ''
-    texts: dict[str, str] = {}
-    for line in lines:
-        word, _, rest = line.partition(':')
-        rest = rest.removeprefix(' ')
-        if word == 'file' and not old:
-            name = rest
-        elif word == 'old' and not old and name and rest:
-            old = rest
-        elif word == 'new' and old:
-            texts[name] = replaced(crate, name, texts, old, rest)
-            old = ''
-        else:
-            raise BadEdit(f'this line is out of place: {line}')
-    if old or not texts:
-        raise BadEdit('it has no pair, or no new text for the last old one')
+    first, _, pairs = edit.read_text(encoding='utf-8').partition('\n')
+    said, name, at, texts = form_of(first), '', 0, dict[str, str]()
+    while at < len(pairs):
+        match = PAIR.match(pairs, at)
+        if not match or not (name or match['file']):
+            raise BadEdit(f'this line is out of place: {pairs[at:].splitlines()[0]}')
+        if match['old']:
+            texts[name] = replaced(crate, name, texts, match['old'], match['new'])
+        name, at = match['file'] or name, match.end()
+    if not texts:
+        raise BadEdit('it has no pair')
     return said, texts
 
 

@@ -1,8 +1,5 @@
 """Takes each guard of the crate of plain Rust out of a copy, one at a time, and sees that a test misses it.
 
-    tools/cellarcove check guards             each guard; status 1 if no test misses one
-    tools/cellarcove check guards --sample    a few of each kind
-
 A guard is a call of `check`, of `some`, or of another function that tools/checks/taken_out.rs has. In the copy each calls the function of
 that file, with a number, which the variable GUARD takes out: then `check` tests nothing, `some` has a value of zeros, and a sum, a number or a
 product wraps. So the copy is built once, in release, where Rust finds no overflow. The tests are those of rust/tests/domains that name

@@ -5,7 +5,7 @@ Each block of Rust is in a `.rt` file, or an example or a test of rust/, each bl
 crates in crates.txt. Of a block of imports alone, each name is imported so in a `.rt` file. Indentation does not count, and a comment
 `// and ..` in a block replaces lines that the block leaves out. Blocks of any other kind are not read. The command of
 README.md is the stored run. A session is a block of `console`: each command in it prints the lines below it and nothing else.
-What the sources print are the messages of rust/src, those of Rust's own operators that rust/tests/domains/forms.rs expects, whose row
+What the sources print are the messages of rust/src, those of Rust's own operators that rust/tests/domains/forms.rs expects, whose item
 says so, the statuses of the exports, and the exceptions of the package for Python. Each panic of the page is one that a test has seen."""
 import functools
 import itertools
@@ -13,12 +13,12 @@ import os
 import pathlib
 import re
 import subprocess
-from collections.abc import Iterable, Iterator
+from collections.abc import Callable, Iterable, Iterator
 from typing import NamedTuple
 
 from tools import ROOT, counted
 from tools.bindings.exports import EXPORTS
-from tools.erase.prose import anchor
+from tools.erase.prose import Anchors
 from tools.erase.source import Source
 
 Found = Iterator[tuple[str, bool]]      # places, each with whether it passed
@@ -30,18 +30,18 @@ BLOCK = re.compile(r'^ *```(rust|antt|crates|console)\n(.*?)(?:^ *```$|\Z)', re.
 IMPORT = re.compile(r'(?:pub )?((?:ghost )?use .*);')
 CODE = re.compile(r'^ *```.*?^ *```$|`[^`\n]*`', re.M | re.S)
 LINK = re.compile(r'\]\(([^()\s]+)\)')
-HEADING = re.compile(r'#{1,6} (.*)')
+HEADING = re.compile(r'^#{1,6} (.*)$', re.M)
 NAMED = re.compile(r'((?:`\w+`(?:,| and|, and)? )*(?:of )?)`(crates/[\w/]+\.(?:rt|antt))`')
 MESSAGE = re.compile(r'[a-z`].* .*')
 OF_OPERATORS = 'attempt to '            # how a message of Rust's own operators begins
-OF_RUST = '| of Rust: '                 # how its row does
+OF_RUST = '- of Rust: '                 # how its item of the list does
 PANICS = ('rust/tests/domains/forms.rs', 'rust/tests/types.rs')     # the tests that see each panic
-SHOWN_STATUS = re.compile(r'^\| (\d+) \| `CELLARCOVE_(\w+)` \|', re.M)
+SHOWN_STATUS = re.compile(r'^- (\d+) `CELLARCOVE_(\w+)`: ', re.M)
 CLASS = re.compile(r'^class (\w+)\(((?:\w+Error|Refused)\b[\w, ]*)\):', re.M)
 RAISED = re.compile(r'\b(\w+Error)\(|\bPyExc_(\w+)|\b(PyErr_NoMemory|PyObject_GetAttr)\(')
 RAISED_BY = {'PyErr_NoMemory': 'MemoryError', 'PyObject_GetAttr': 'AttributeError'}
 UNSEEN = {'KeyError', 'AttributeError'}  # the package would lack one of its own classes, and a call raises TypeError in its place
-SHOWN_EXCEPTION = re.compile(r'^\| `(\w+)` \| (.*?) *\|', re.M)
+SHOWN_EXCEPTION = re.compile(r'^- `(\w+)`(?: \(([^)]*)\))?: ', re.M)
 NO_CODE = re.compile(r'^ *//.*$|#!?\[(?:[^\[\]]|\[[^\[\]]*\])*\]', re.M)
 COMMAND = re.compile(r'(?:intcalc|cargo run --example \w+)(?: [^;|&]*)?|echo \$\?')
 
@@ -58,8 +58,6 @@ def blocks(text: str) -> Iterator[Block]:
     for found in BLOCK.finditer(text):
         yield Block(text.count('\n', 0, found.start()) + 1, found[1], unindented(found[2]).split('\n')[:-1])
 
-
-# ---- blocks that quote a file
 
 def unindented(text: str) -> str:
     return '\n'.join(line.lstrip(' ') for line in text.split('\n'))
@@ -100,28 +98,11 @@ def files() -> Files:
     return Files(read(('src',), '.rt') + plain, read(('src', 'specs', 'proofs'), '.antt'), (ROOT / 'crates.txt').read_text())
 
 
-def has_stored_run() -> bool:
-    """Whether README.md has the command of the stored run, and what it prints."""
-    text, program = (ROOT / 'README.md').read_text(), ROOT / 'crates' / 'intcalc'
-    words, printed = (program / 'args').read_text().split(), (program / 'stdout').read_text().rstrip('\n')
-    return f"rt run -- {' '.join(words)})" in text and f'prints `{printed}`' in text
-
-
-# ---- links
-
 @functools.cache
 def anchors_of(page: pathlib.Path) -> set[str]:
     """The anchors of a page, as the browser of the repository makes them of its headings."""
     text = page.read_text() if page.suffix == '.md' else ''
-    found: set[str] = set()
-    counts: dict[str, int] = {}
-    for line in re.sub(r'^ *```.*?^ *```$', '', text, flags=re.M | re.S).split('\n'):
-        heading = HEADING.fullmatch(line)
-        if heading:
-            slug = anchor(heading.group(1))
-            counts[slug] = counts.get(slug, -1) + 1
-            found.add(f'{slug}-{counts[slug]}' if counts[slug] else slug)
-    return found
+    return set(map(Anchors().of, HEADING.findall(re.sub(r'^ *```.*?^ *```$', '', text, flags=re.M | re.S))))
 
 
 def broken_links(page: pathlib.Path) -> Iterator[str]:
@@ -133,15 +114,6 @@ def broken_links(page: pathlib.Path) -> Iterator[str]:
             yield link
 
 
-def follow_links() -> Found:
-    """Each page with whether all of its links lead somewhere, and else the links that do not."""
-    for page in sorted({page for pattern in LINKED for page in ROOT.glob(pattern)}):
-        broken = list(broken_links(page))
-        yield ' '.join([page.relative_to(ROOT).as_posix(), *broken]), not broken
-
-
-# ---- files that a page names
-
 def absent_names(text: str, texts: dict[str, str]) -> Iterator[str]:
     """The files that a page names and that are not there, and the names that are not in them. `texts` has the files."""
     for names, file in NAMED.findall(' '.join(text.split())):
@@ -150,17 +122,12 @@ def absent_names(text: str, texts: dict[str, str]) -> Iterator[str]:
                 yield f'{file} {name}'.strip()
 
 
-def find_names() -> Found:
-    """Each page that names files of crates, with whether they are there and have the names, and else those that are not."""
-    texts = {file.relative_to(ROOT).as_posix(): file.read_text() for kind in ('src/**/*.rt', 'specs/**/*.antt', 'proofs/**/*.antt')
-             for file in ROOT.glob(f'crates/*/{kind}')}
-    for page in sorted({page for pattern in PAGES for page in ROOT.glob(pattern)}):
-        if NAMED.search(page.read_text()):
-            absent = list(absent_names(page.read_text(), texts))
-            yield ' '.join([page.relative_to(ROOT).as_posix(), *absent]), not absent
+def look(patterns: tuple[str, ...], failed: str, wrong: Callable[[pathlib.Path], Iterable[str]]) -> Found:
+    """Each page, with what is wrong on it, if anything is."""
+    for page in sorted({page for pattern in patterns for page in ROOT.glob(pattern)}):
+        found = list(wrong(page))
+        yield f'{" ".join([page.relative_to(ROOT).as_posix(), *found])}: {failed}', not found
 
-
-# ---- messages, statuses and exceptions
 
 def messages_in(code: str) -> set[str]:
     """The messages of the panics and the errors in the text of a file of Rust, except those that are put together: each string of
@@ -184,10 +151,6 @@ def panics(page: str, ours: set[str], seen: set[str]) -> Found:
     yield from compared({f'{message}, which a test has seen' for message in seen & shown}, {f'{message}, which a test has seen' for message in shown})
 
 
-def statuses_on(page: str) -> set[str]:
-    return {f'{number} CELLARCOVE_{name}' for number, name in SHOWN_STATUS.findall(page)}
-
-
 def exceptions_in(package: str, driver: str) -> set[str]:
     """The exceptions of the package for Python, each with the classes that it is one of too, and those of Python that it raises."""
     classes = dict(CLASS.findall(package))
@@ -195,8 +158,10 @@ def exceptions_in(package: str, driver: str) -> set[str]:
     return {f'{name} {bases}' for name, bases in classes.items()} | {f'{name} ' for name in raised - UNSEEN}
 
 
-def exceptions_on(page: str) -> set[str]:
-    return {f"{name} {also.replace('`', '')}" for name, also in SHOWN_EXCEPTION.findall(page.partition('\n## Exceptions')[2])}
+def rows_on(page: str) -> set[str]:
+    """The statuses that a page shows, and the exceptions, each with the classes that it is one of too."""
+    exceptions = SHOWN_EXCEPTION.findall(page.partition('\n## Exceptions')[2])
+    return {f'{number} CELLARCOVE_{name}' for number, name in SHOWN_STATUS.findall(page)} | {' '.join(row).replace('`', '') for row in exceptions}
 
 
 def compared(printed: set[str], shown: set[str]) -> Found:
@@ -215,8 +180,8 @@ def errors() -> Found:
     seen = set().union(*(messages_in(read(name)) for name in PANICS))
     yield from compared(ours | {message for message in seen if message.startswith(OF_OPERATORS)}, messages_on(' '.join(page.split())))
     yield from panics(page, ours, seen)
-    yield from compared({f'{status.number} CELLARCOVE_{status.name}' for status in EXPORTS().statuses}, statuses_on(page))
-    yield from compared(exceptions_in(read(package + 'cellarcove/__init__.py'), read(package + 'src/driver.h')), exceptions_on(page))
+    statuses = {f'{status.number} CELLARCOVE_{status.name}' for status in EXPORTS().statuses}
+    yield from compared(statuses | exceptions_in(read(package + 'cellarcove/__init__.py'), read(package + 'src/driver.h')), rows_on(page))
 
 
 def compare() -> Found:
@@ -226,11 +191,12 @@ def compare() -> Found:
         name = page.relative_to(ROOT).as_posix()
         for block in blocks(page.read_text()):
             if block.kind != 'console':
-                yield f'{name}:{block.line}', there.has(block)
-    yield 'README.md: the stored run', has_stored_run()
+                yield f'{name}:{block.line}: in no file', there.has(block)
+    # README.md has the command of the stored run, and what it prints
+    text, program = (ROOT / 'README.md').read_text(), ROOT / 'crates' / 'intcalc'
+    words, printed = (program / 'args').read_text().split(), (program / 'stdout').read_text().rstrip('\n')
+    yield 'README.md: the stored run: in no file', f"rt run -- {' '.join(words)})" in text and f'prints `{printed}`' in text
 
-
-# ---- sessions with the program
 
 def steps(block: Block) -> list[tuple[int, str, list[str]]]:
     """The commands of a session, each with the number of its line and the lines that it prints."""
@@ -267,18 +233,16 @@ def sessions(program: pathlib.Path, named: Iterable[tuple[str, str]]) -> Found:
                 yield f'{name}:{number}: {command}', printed == ''.join(line + '\n' for line in lines)
 
 
-def said(found: Iterable[tuple[str, bool]], failed: str) -> Found:
-    """The line of each place, with what is said if it fails."""
-    return ((f'{place}: {failed}', passed) for place, passed in found)
-
-
 def check(_: list[str]) -> bool:
-    return counted(itertools.chain(said(compare(), 'in no file'), said(follow_links(), 'leads nowhere'), said(find_names(), 'is not there'),
-                                   errors()))
+    texts = {file.relative_to(ROOT).as_posix(): file.read_text() for kind in ('src/**/*.rt', 'specs/**/*.antt', 'proofs/**/*.antt')
+             for file in ROOT.glob(f'crates/*/{kind}')}
+    return counted(itertools.chain(compare(), look(LINKED, 'leads nowhere', broken_links),
+                                   look(PAGES, 'is not there', lambda page: absent_names(page.read_text(), texts)), errors()))
 
 
 def check_sessions(words: list[str]) -> bool:
     program = pathlib.Path(words[0]).resolve()
     files = sorted((ROOT / 'rust/examples').glob('*.rs')) if program.is_dir() else [ROOT / name for name in SESSIONS]
     texts = ('\n'.join(Source(file, file.read_text()).head()) if program.is_dir() else file.read_text() for file in files)
-    return counted(said(sessions(program, zip((str(file.relative_to(ROOT)) for file in files), texts)), 'prints something else'))
+    found = sessions(program, zip((str(file.relative_to(ROOT)) for file in files), texts))
+    return counted((f'{command}: prints something else', passed) for command, passed in found)

@@ -1,9 +1,6 @@
 """Reads the made crate of plain Rust: each public function, type and trait has an example that runs, each public function that
 panics with the place of its caller says below `# Panics` when, and no line is wider than 100 columns, but for the first of a file. That each
-item has a comment, and each `Result` its `# Errors`, rustc and clippy see.
-
-    tools/cellarcove check rust_docs                 prints what lacks what, and a count; status 1 if anything does
-    tools/cellarcove check rust_docs --links DOC     reads the pages that rustdoc wrote: each link to a title leads to that title"""
+item has a comment, and each `Result` its `# Errors`, rustc and clippy see."""
 import pathlib
 import re
 from collections.abc import Iterator

@@ -1,17 +1,14 @@
 """Makes a package of num-integer's own tests, which runs them over the crate of plain Rust.
 
-    tools/cellarcove make upstream SOURCE CRATE OUT
-
 SOURCE is a folder of num-integer's sources, and CRATE the one of the crate. The tests of the library are what is left
 of src/lib.rs without its own items. In the package the crate has the name `num_integer`, so no test changes, with one
 exception: `x.is_multiple_of(&y)` of unsigned numbers, which std has since 1.87, becomes a path. What is left out is
 printed, with the reason."""
 import re
 from pathlib import Path
-from string import Template
 
 from tools.erase.source import Source
-from tools import write
+from tools import filled, write
 
 TEMPLATES = Path(__file__).parent / 'templates'
 # Attributes that go: of what the compiler has, and of tests, which are all that is left of the library.
@@ -41,7 +38,7 @@ def make(words: list[str]) -> bool:
     edition = re.search(r'^edition = "(\d+)"', (upstream / 'Cargo.toml').read_text(), re.M)
     library = Source(upstream / 'src/lib.rs', HAS_TYPE.sub('', (upstream / 'src/lib.rs').read_text()))
     keep_tests(library)
-    made = {'Cargo.toml': Template((TEMPLATES / 'upstream.toml').read_text()).substitute(edition=edition[1] if edition else '2015', crate=crate),
+    made = {'Cargo.toml': filled(TEMPLATES / 'upstream.toml', edition=edition[1] if edition else '2015', crate=str(crate)),
             'src/lib.rs': (TEMPLATES / 'upstream_head.rs').read_text() + METHOD.sub(
                 r'::num_integer::Integer::is_multiple_of(&(\1), &', IS_TEST.sub('', ''.join(library.texts)))}
     for name in ('tests/average.rs', 'tests/roots.rs'):

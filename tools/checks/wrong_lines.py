@@ -1,4 +1,4 @@
-"""Runs the first line of each seeded bug, crates/NAME/must-fail/*.edit and crates/NAME/must-fail-release/*.edit, as plain Rust: those of the
+"""Runs the first line of each mutant, crates/NAME/must-fail/*.edit and crates/NAME/must-fail-release/*.edit, as plain Rust: those of the
 crates of the names that are given, or all.
 
 ``wrong: at is_even(3) it returns true, and its clause asks for false.`` has a call and two values, which are expressions of Rust.
@@ -9,7 +9,7 @@ package num-traits of Debian.
 
 A call stands in a module of its own within the file that the edit changes. So it may name what is private there. A text in quotes is
 a `String` if the call ends with `.to_string()`. prelude/ has what else a line may name. Values are compared as `{:?}` prints them,
-and only the sources compute those that a line names. Two bugs are tried side by side. edits.py has the forms of the lines."""
+and only the sources compute those that a line names. Two mutants are tried side by side. edits.py has the forms of the lines."""
 import concurrent.futures
 import os
 import re
@@ -23,7 +23,7 @@ from pathlib import Path
 from tools.erase.deletion import GHOST_NAMES, Deletion
 from tools.erase.library import Library
 from tools.erase.source import Item, Source, Unknown
-from tools import DEBIAN, REGISTRY, ROOT, dependencies, write
+from tools import DEBIAN, REGISTRY, ROOT, dependencies, filled, write
 from tools.checks import edits
 
 PRELUDE = Path(__file__).parent / 'prelude'
@@ -33,7 +33,7 @@ SECONDS = '300'                                 # for a build and the calls of a
 OF_TRAITS = {'add_gives', 'cmp', 'eq', 'from_gives', 'from_str_gives', 'is_default', 'mul_gives', 'neg_gives', 'output', 'partial_cmp', 'rem_gives', 'steps',
              'sub_gives', 'try_from_gives'}
 TABLES = tomllib.loads((PRELUDE / 'preludes.toml').read_text())
-PACKAGE = '[package]\nname = "{name}"\nversion = "0.0.0"\nedition = "2021"\n[dependencies]\nnum-traits = "0.2"\n'
+TEMPLATES = PRELUDE.parent / 'templates'
 # What the library of Rattle has otherwise than that of Rust: imports of these are dropped, and prelude/intcalc.rs has them.
 OF_RATTLE = {'Args', 'Global'}
 
@@ -98,8 +98,8 @@ def place_of(name: str) -> str:
 
 
 @dataclass
-class Bug:
-    """A seeded bug: its file, what its first line says, and the files that it changes, with their texts. `told` is what is wrong
+class Mutant:
+    """A mutant: its file, what its first line says, and the files that it changes, with their texts. `told` is what is wrong
     with the line."""
     number: int
     edit: Path
@@ -123,15 +123,14 @@ class Bug:
         call, right = self.part('call'), self.part('right')
         values = [value + '.to_string()' if value.startswith('"') and call.endswith('.to_string()') else value
                   for value in (self.part('wrong') or right, right)]
-        return (f'\n#[test]\nfn line_{self.number}() {{\n    crate::line_values::show({self.number}, '
-                f'|| {call}, || {values[0]}, || {values[1]});\n}}\n')
+        return filled(TEMPLATES / 'wrong_line.rs', number=str(self.number), call=call, wrong=values[0], right=values[1])
 
 
-def module_of(bugs: Sequence[Bug]) -> str:
-    """The module with the lines of some bugs of one file."""
-    tests = ''.join(bug.test() for bug in bugs)
-    preludes = ''.join(of_prelude(file) for name, files in TABLES['preludes'].get(bugs[0].crate, {}).items() if name in tests for file in files)
-    return f'\n#[cfg(test)]\nmod wrong_lines {{\n#[allow(unused_imports)]\nuse super::*;\n{preludes}{tests}}}\n'
+def module_of(mutants: Sequence[Mutant]) -> str:
+    """The module with the lines of some mutants of one file."""
+    tests = ''.join(mutant.test() for mutant in mutants)
+    preludes = ''.join(of_prelude(file) for name, files in TABLES['preludes'].get(mutants[0].crate, {}).items() if name in tests for file in files)
+    return filled(TEMPLATES / 'wrong_lines.rs', preludes=preludes, tests=tests)
 
 
 class Crates:
@@ -160,16 +159,16 @@ class Crates:
         found = {clause for function, clause in self.clauses[crate] if function in functions}
         return found.union(*(self.clauses_of(name, functions) for name in self.below[crate]))
 
-    def has(self, bug: Bug, clause: str) -> bool:
+    def has(self, mutant: Mutant, clause: str) -> bool:
         """Whether a function of the call has the clause. ``sum_fits` of `sum`` is a clause of another function, ``tie` of its clause`` a
         part of a clause."""
-        found = self.clauses_of(bug.crate, re.findall(r'(\w+)(?:::<[^>]*>)?\(', bug.part('call')))
+        found = self.clauses_of(mutant.crate, re.findall(r'(\w+)(?:::<[^>]*>)?\(', mutant.part('call')))
         part, _, whole = clause.replace('`', '').partition(' of ')
         if 'its clause' in (part, whole):
             return '' in found
         if not whole:
             return part in found | OF_TRAITS
-        return whole in found or ('' if part == 'the clause' else part) in self.clauses_of(bug.crate, [whole])
+        return whole in found or ('' if part == 'the clause' else part) in self.clauses_of(mutant.crate, [whole])
 
 
 class Workspace:
@@ -178,17 +177,16 @@ class Workspace:
     def __init__(self, folder: Path, crates: Crates) -> None:
         self.folder, self.crates = folder, crates
         members = ', '.join(f'"{name}"' for name in crates.texts)
-        workspace = f'[workspace]\nresolver = "2"\nmembers = [{members}]\n[profile.dev]\ndebug = false\n'
-        write(folder, {'Cargo.toml': workspace, '.cargo/config.toml': DEBIAN})
+        write(folder, {'Cargo.toml': filled(TEMPLATES / 'mutants.toml', members=members), '.cargo/config.toml': DEBIAN})
         for name, texts in crates.texts.items():
             below = ''.join(f'{other} = {{ path = "../{other}" }}\n' for other in crates.below[name])
-            write(folder / name, {'Cargo.toml': PACKAGE.format(name=name) + below, **texts})
+            write(folder / name, {'Cargo.toml': filled(TEMPLATES / 'mutant.toml', name=name, below=below), **texts})
 
-    def values(self, crate: str, bugs: Sequence[Bug], changed: dict[str, str]) -> dict[int, list[str]]:
-        """Runs the lines of some bugs of a crate, of which some files are changed. Returns what each prints, by number."""
+    def values(self, crate: str, mutants: Sequence[Mutant], changed: dict[str, str]) -> dict[int, list[str]]:
+        """Runs the lines of some mutants of a crate, of which some files are changed. Returns what each prints, by number."""
         texts = self.crates.texts[crate] | changed
-        for place in dict.fromkeys(bug.place for bug in bugs):
-            texts[place] += module_of([bug for bug in bugs if bug.place == place])
+        for place in dict.fromkeys(mutant.place for mutant in mutants):
+            texts[place] += module_of([mutant for mutant in mutants if mutant.place == place])
         texts['src/lib.rs'] += of_prelude('show')
         write(self.folder / crate, texts)
         try:
@@ -207,68 +205,65 @@ class Workspace:
         return done.stdout
 
 
-def ask_sources(workspace: Workspace, bugs: Sequence[Bug]) -> None:
+def ask_sources(workspace: Workspace, mutants: Sequence[Mutant]) -> None:
     """Notes the values of the lines of a crate on the sources. If they cannot be built together, each is asked alone."""
     try:
-        found = workspace.values(bugs[0].crate, bugs, {})
+        found = workspace.values(mutants[0].crate, mutants, {})
     except Failed as said:
-        if len(bugs) == 1:
-            bugs[0].told = f'on the sources: {said}'
-        for bug in bugs if len(bugs) > 1 else ():
-            ask_sources(workspace, [bug])
+        if len(mutants) == 1:
+            mutants[0].told = f'on the sources: {said}'
+        for mutant in mutants if len(mutants) > 1 else ():
+            ask_sources(workspace, [mutant])
         return
-    for bug in bugs:
-        call, wrong, right = bug.asked = found.get(bug.number, ['nothing'] * 3)
+    for mutant in mutants:
+        call, wrong, right = mutant.asked = found.get(mutant.number, ['nothing'] * 3)
         if call != right:
-            bug.told = f'on the sources it returns {call}, and the line asks for {right}'
-        elif bug.part('wrong') and wrong == right:
-            bug.told = 'both values are the same'
-        for clause in (bug.part('clause'), bug.part('broken')):
-            if clause and not workspace.crates.has(bug, clause):
-                bug.told = f'no function of the call has {clause}'
+            mutant.told = f'on the sources it returns {call}, and the line asks for {right}'
+        elif mutant.part('wrong') and wrong == right:
+            mutant.told = 'both values are the same'
+        for clause in (mutant.part('clause'), mutant.part('broken')):
+            if clause and not workspace.crates.has(mutant, clause):
+                mutant.told = f'no function of the call has {clause}'
 
 
-def try_edit(workspace: Workspace, bug: Bug) -> None:
-    """Notes how the line fails with the edit."""
-    try:
-        changed = {place_of(name): erased(bug.crate, name, text) for name, text in bug.texts.items()}
-        call = workspace.values(bug.crate, [bug], changed).get(bug.number, ['nothing'])[0]
-    except (Failed, Unknown) as said:
-        bug.told = f'with the edit: {said}'
-        return
-    if not bug.part('wrong') and not re.match('a panic: attempt to .* with overflow', call):
-        bug.told = f'with the edit it does not overflow, it returns {call}'
-    elif bug.part('wrong') and call != bug.asked[1]:
-        bug.told = f'with the edit it returns {call}, and the line says {bug.asked[1]}'
+def try_edits(workspace: Workspace, mutants: Sequence[Mutant]) -> None:
+    """Notes how the line of each mutant fails with its edit."""
+    for mutant in mutants:
+        try:
+            changed = {place_of(name): erased(mutant.crate, name, text) for name, text in mutant.texts.items()}
+            call = workspace.values(mutant.crate, [mutant], changed).get(mutant.number, ['nothing'])[0]
+        except (Failed, Unknown) as said:
+            mutant.told = f'with the edit: {said}'
+            continue
+        if not mutant.part('wrong') and not re.match('a panic: attempt to .* with overflow', call):
+            mutant.told = f'with the edit it does not overflow, it returns {call}'
+        elif mutant.part('wrong') and call != mutant.asked[1]:
+            mutant.told = f'with the edit it returns {call}, and the line says {mutant.asked[1]}'
 
 
-def judge(bugs: Sequence[Bug]) -> None:
-    """Runs the lines of some bugs, and notes what is wrong with each."""
+def judge(mutants: Sequence[Mutant]) -> None:
+    """Runs the lines of some mutants, and notes what is wrong with each."""
     if not list(REGISTRY.glob('num-traits-0.2*')):
         raise Unknown(f'{REGISTRY} has no num-traits: tools/gate/install_packages.sh installs it')
-    crates = Crates(dict.fromkeys(bug.crate for bug in bugs))
+    crates = Crates(dict.fromkeys(mutant.crate for mutant in mutants))
     with tempfile.TemporaryDirectory() as folder:
         workspaces = [Workspace(Path(folder, str(number)), crates) for number in range(JOBS)]
-        for crate in dict.fromkeys(bug.crate for bug in bugs):
-            ask_sources(workspaces[0], [bug for bug in bugs if bug.crate == crate])
-        left = [bug for bug in bugs if not bug.told]
-
-        def try_share(number: int) -> None:
-            for bug in left[number::JOBS]:
-                try_edit(workspaces[number], bug)
+        for crate in dict.fromkeys(mutant.crate for mutant in mutants):
+            ask_sources(workspaces[0], [mutant for mutant in mutants if mutant.crate == crate])
+        left = [mutant for mutant in mutants if not mutant.told]
         with concurrent.futures.ThreadPoolExecutor(JOBS) as pool:
-            list(pool.map(try_share, range(JOBS)))
+            list(pool.map(try_edits, workspaces, (left[number::JOBS] for number in range(JOBS))))
 
 
 def check(words: list[str]) -> bool:
     names = words or dependencies()
     found = sorted(edit for suite in edits.SUITES for edit in ROOT.glob(f'crates/*/{suite}/*.edit') if edit.parent.parent.name in names)
-    bugs = [Bug(number, edit, *edits.apply(edit.parent.parent, edit)) for number, edit in enumerate(found)]
-    with_call = [bug for bug in bugs if bug.part('call')]
+    mutants = [Mutant(number, edit, *edits.apply(edit.parent.parent, edit)) for number, edit in enumerate(found)]
+    with_call = [mutant for mutant in mutants if mutant.part('call')]
     judge(with_call)
-    for bug in bugs:
-        if bug.told or bug.part('reason'):
-            print(f'{bug.edit.relative_to(ROOT)}: {bug.told or "not run: " + bug.part("reason")}')
-    false = sum(bool(bug.told) for bug in bugs)
-    print(f'{len(with_call) - false} lines are true, {false} are false, {len(bugs) - len(with_call)} are not run')
+    for mutant in mutants:
+        if mutant.told or mutant.part('reason'):
+            print(f'{mutant.edit.relative_to(ROOT)}: {mutant.told or "not run: " + mutant.part("reason")}')
+    false = sum(bool(mutant.told) for mutant in mutants)
+    print(f'{len(with_call) - false} lines are true, {false} are false, {len(mutants) - len(with_call)} are not run')
     return not false and bool(with_call)

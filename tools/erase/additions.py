@@ -46,9 +46,13 @@ class Joined:
         rest = self.merge(self.items, [item for item in others if item.kind != 'use'])
         if rest:
             made.texts.append('\n\n' + written(added, rest) + '\n')
-        imports = [added.text(item.first, item.last) for item in others if item.kind == 'use']
-        if imports:
-            self.put_imports('\n'.join(imports))
+        imports = '\n'.join(added.text(item.first, item.last) for item in others if item.kind == 'use')
+        if imports:                     # they stand below those of the made file
+            uses = [item for item in self.items if item.kind == 'use']
+            at = made.code[uses[-1].last] if uses else start(made, next(item for item in self.items if item.kind != 'attribute'))
+            made.texts[at] = f'{made.texts[at]}\n{imports}' if uses else f'{imports}\n\n{made.texts[at]}'
+        # whether the functions by hand are all that the made file has
+        self.is_whole = all(item.kind == 'fn' and item.name in self.replaced for item in self.items if item.kind not in ('use', 'attribute'))
 
     def merge(self, there: list[Item], items: list[Item]) -> list[Item]:
         """Puts items in the place of those of the same name or head that are there, or into them, and returns the others."""
@@ -84,22 +88,6 @@ class Joined:
         if rest:
             made.texts[made.code[block.last]] = '\n' + written(added, rest) + '\n}'
 
-    def put_imports(self, lines: str) -> None:
-        """Puts imports below those of the made file."""
-        uses = [item for item in self.items if item.kind == 'use']
-        first = next(item for item in self.items if item.kind != 'attribute')
-        at = self.made.code[uses[-1].last] if uses else start(self.made, first)
-        text = self.made.texts[at]
-        self.made.texts[at] = f'{text}\n{lines}' if uses else f'{lines}\n\n{text}'
-
-    def text(self) -> str:
-        return ''.join(self.made.texts)
-
-    def is_whole(self) -> bool:
-        """Whether the functions by hand are all that the made file has."""
-        others = (item for item in self.items if item.kind not in ('use', 'attribute'))
-        return all(item.kind == 'fn' and item.name in self.replaced for item in others)
-
 
 class Additions:
     """The files below a folder, by their path there."""
@@ -115,10 +103,10 @@ class Additions:
         self.met.add(place)
         file = Path('rust/by_hand/src', place)
         joined = Joined(Source(Path('rust/src', place), text), Source(file, self.files[place]))
-        if joined.is_whole():
+        if joined.is_whole:
             return self.files[place], f'// It is {file}, which has each function by hand.\n'
         by_hand = f', and {", ".join(sorted(joined.replaced))} as they stand there' if joined.replaced else ''
-        return joined.text(), f'// It also has what {file} adds{by_hand}.\n'
+        return ''.join(joined.made.texts), f'// It also has what {file} adds{by_hand}.\n'
 
     def modules(self) -> dict[str, str]:
         """The files that are modules of their own, by place. Call it after all made files have been added to."""

@@ -4,15 +4,10 @@ In the sources `Copy` is a supertrait of it, since no method of a trait can have
 for `Integer + Copy`, and has this bound in plain Rust. In `integer_core` it becomes `Clone`: there code over `Integer` writes a copy as
 `*x`, or as `*&x` of a value at hand, which becomes a clone. A method of the trait that copies, or calls one that does, gets
 `where Self: Clone`. What a source lacks of this rustc finds."""
-from __future__ import annotations
-
 from collections.abc import Iterator
-from typing import TYPE_CHECKING
 
+from tools.erase.deletion import Deletion
 from tools.erase.source import Item, Source
-
-if TYPE_CHECKING:
-    from tools.erase.crate import Eraser
 
 CLONING, INTEGER = 'integer_core', 'Integer'
 
@@ -34,11 +29,9 @@ def copies(source: Source, item: Item) -> Iterator[tuple[int, int, int]]:
                 yield k, name, last
 
 
-def write(eraser: Eraser, item: Item, owner: Item | None) -> None:
+def write(eraser: Deletion, item: Item, owner: Item | None) -> None:
     """Writes the bounds of an item of `integer_core`, and the copies of a function."""
     source = eraser.source
-    if eraser.crate != CLONING:
-        return
     for k in bounds(source, item):
         eraser.write(k, 'Sized' if source.at(k - 1) == ':' else 'Clone')
     if item.kind != 'fn' or not bounds(source, item) + bounds(source, owner):
@@ -50,13 +43,9 @@ def write(eraser: Eraser, item: Item, owner: Item | None) -> None:
     if owner and owner.kind == 'trait' and item.open:
         copying = {inner.name for inner in owner.items if any(copies(source, inner))}
         if found or any(source.at(k) == '.' and source.at(k + 1) in copying for k in range(item.open, item.last)):
-            write_where(eraser, item, (item.clauses[0].first if item.clauses else item.open) - 1)
-
-
-def write_where(eraser: Eraser, item: Item, last: int) -> None:
-    """Writes `where Self: Clone` at a method whose head ends at `last`. A `where` that is there begins with `Self`."""
-    where = next((k for k in range(item.word, last) if eraser.at(k) == 'where'), None)
-    if where is None:
-        eraser.write(last, f'{eraser.at(last)} where Self: Clone')
-    else:
-        eraser.write(where + 3, f'Clone + {eraser.at(where + 3)}')
+            last = (item.clauses[0].first if item.clauses else item.open) - 1
+            where = next((k for k in range(item.word, last) if source.at(k) == 'where'), None)
+            if where is None:
+                eraser.write(last, f'{source.at(last)} where Self: Clone')
+            else:               # a `where` that is there begins with `Self`
+                eraser.write(where + 3, f'Clone + {source.at(where + 3)}')

@@ -1,13 +1,11 @@
 """Takes the contracts out of the libraries, and makes one Cargo crate of plain Rust.
 
-    tools/cellarcove make rust     crates/NAME/src/*.rt and rust/by_hand/*  ->  rust/src/*
-
-Code stays token by token, with its comments. What goes: `ghost` items, members and
-fields, clauses, `final`, attributes of proofs, `#[cfg(test)]` items, labels that nothing names, and the traits that are of
-contracts alone. What changes: the first words of paths, the head of `fmt`, copies in `integer_core` (copies.py), and comments,
-which gain sections (documentation.py). What is added: `#[must_use]` of public calls that only return, `#[track_caller]` on the way to
-a panic (callers.py), and what is by hand (additions.py). No function of the library has a name here. A form that is not
-known here is rejected by file and line, and then nothing is made. tools/tests has examples of both."""
+Code stays token by token, with its comments. What goes: `ghost` items, members and fields, clauses, `final`, attributes of
+proofs, `#[cfg(test)]` items, labels that nothing names, and the traits that are of contracts alone. What changes: the first
+words of paths, the head of `fmt`, copies in `integer_core` (copies.py), and comments, which gain sections (documentation.py).
+What is added: `#[must_use]` of public calls that only return, `#[track_caller]` on the way to a panic (callers.py), and what is
+by hand (additions.py). No function of the library has a name here. A form that is not known here is rejected by file and line,
+and then nothing is made. tools/tests has examples of both."""
 import subprocess
 import tempfile
 from collections.abc import Iterable, Mapping
@@ -17,8 +15,8 @@ from tools import ROOT as REPOSITORY, write
 from tools.erase import copies, documentation
 from tools.erase.additions import Additions
 from tools.erase.callers import Callers
-from tools.erase.deletion import GHOST_NAMES, Deletion
-from tools.erase.library import AT_ROOT, CRATES, ROOT, WITHIN, Module, RustLibrary
+from tools.erase.deletion import GHOST_NAMES
+from tools.erase.library import AT_ROOT, CRATES, ROOT, WITHIN, RustLibrary
 from tools.erase.prose import within_columns
 from tools.erase.source import Item, Unknown
 
@@ -30,24 +28,18 @@ RATTLE = {'ghost', 'requires', 'ensures', 'final', 'prove', 'Drop'}
 LOOPS = ('while', 'for', 'loop', '{')
 
 
-class Eraser(Deletion):
+class Eraser(documentation.Comments):
     """A file of a crate of the library."""
     root = 'crate'                              # how its code names the root of the Rust crate
-
-    def __init__(self, module: Module, library: RustLibrary, page: documentation.Page) -> None:
-        super().__init__(module.source)
-        self.module, self.library, self.page, self.crate = module, library, page, module.crate
-        self.words = {module.source.at(k) for k in range(len(module.source.code))}
-
-    # ---- items
 
     def dress(self, item: Item, owner: Item | None) -> None:
         if self.only_returns(item, owner):
             self.put_before(item.first, '#[must_use]\n')
         if item.kind == 'mod' and item.public and not self.library.is_open(self.library.modules[self.crate, (*self.module.path, item.name)]):
             self.write(item.word - 1, 'pub(crate)')
-        documentation.add_sections(self, item, owner)
-        copies.write(self, item, owner)
+        self.add_sections(item, owner)
+        if self.crate == copies.CLONING:
+            copies.write(self, item, owner)
         if item.kind == 'struct':
             self.struct(item)
 
@@ -101,42 +93,28 @@ class Eraser(Deletion):
 
     def struct(self, item: Item) -> None:
         """A struct without bounds, which its methods have. Where a public one has an invariant, no other crate may change its fields."""
-        self.drop_bounds(item.word + 2)
-        has_invariant = any(field.ghost for field in item.fields)
-        for field in item.fields:
-            if field.public and not field.ghost and has_invariant and self.library.place_of(self.module, item) is not None:
-                self.write(field.place - 1, 'pub(crate)' if self.crate in AT_ROOT else f'pub(in crate::{self.crate})')
-
-    def drop_bounds(self, k: int) -> None:
-        """Drops the bounds of the types in `<>` from `k` on, if there are any."""
-        last = self.source.angle(k) - 1
+        k, last = item.word + 2, self.source.angle(item.word + 2) - 1
         while k < last:
             stop = self.source.next_field(k + 1, last)
             if self.kind(k + 1) == 'word' and self.at(k + 2) == ':':
                 self.drop(k + 2, stop - 1)
             k = stop
-
-    # ---- code
+        has_invariant = any(field.ghost for field in item.fields)
+        for field in item.fields:
+            if field.public and not field.ghost and has_invariant and self.library.place_of(self.module, item) is not None:
+                self.write(field.place - 1, 'pub(crate)' if self.crate in AT_ROOT else f'pub(in crate::{self.crate})')
 
     def word(self, k: int) -> None:
-        if self.kind(k) == 'label':
-            self.label(k)
-        if self.is_macro(k) and self.at(k) not in MACROS:
+        if self.kind(k) == 'label' and self.at(k + 1) == ':' and self.at(k + 2) in LOOPS:
+            body = self.source.end(k + 2, '{')
+            if all(self.at(j) != self.at(k) for j in range(body, self.source.close(body))):
+                self.drop(k, k + 1)     # the label of a loop that nothing in it names
+        is_macro = self.source.is_sign(k + 1, '!') and self.source.code[k + 1] == self.source.code[k] + 1 and self.at(k + 2) in ('(', '[', '{')
+        if self.kind(k) == 'word' and is_macro and self.at(k) not in MACROS:
             self.refuse(k, f'the macro `{self.at(k)}!`')
         super().word(k)
         if self.kind(k) == 'word' and self.texts[self.source.code[k]] == self.at(k):
             self.path(k)
-
-    def is_macro(self, k: int) -> bool:
-        mark = self.source.code[k] + 1
-        return self.kind(k) == 'word' and self.at(k + 1) == '!' and self.source.code[k + 1] == mark and self.at(k + 2) in ('(', '[', '{')
-
-    def label(self, k: int) -> None:
-        """Drops the label of a loop that nothing in it names."""
-        if self.at(k + 1) == ':' and self.at(k + 2) in LOOPS:
-            body = self.source.end(k + 2, '{')
-            if all(self.at(j) != self.at(k) for j in range(body, self.source.close(body))):
-                self.drop(k, k + 1)
 
     def path(self, k: int) -> None:
         """The first word of a path."""
@@ -157,7 +135,7 @@ class Eraser(Deletion):
             text = self.texts[self.source.code[k]]
             if text and (self.at(k) in RATTLE or self.kind(k) in ('sign', 'word') and not self.at(k).isascii()):
                 self.refuse(k, f'`{self.at(k)}`, which is left over')
-        return ''.join(documentation.linked(self, token.text) if token.kind == 'line' and text == token.text else text
+        return ''.join(self.linked(token.text) if token.kind == 'line' and text == token.text else text
                        for token, text in zip(self.source.tokens, self.texts))
 
 

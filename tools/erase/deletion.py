@@ -35,8 +35,6 @@ class Deletion:
         after = self.source.code[last] + 1
         self.texts[after] = self.texts[after].replace('\n', '', 1)
 
-    # ---- items
-
     def items(self, items: Iterable[Item], owner: Item | None = None) -> None:
         for item in items:
             self.item(item, owner)
@@ -100,8 +98,6 @@ class Deletion:
     def use(self, item: Item) -> None:
         """A use."""
 
-    # ---- code
-
     def walk(self, k: int, last: int) -> None:
         while k <= last:
             k = self.step(k)
@@ -127,15 +123,12 @@ class Deletion:
 
     def word(self, k: int) -> None:
         """A token of code: the head of `fmt`, whose writer Rust's `Formatter` does not name, or a trait that is of contracts alone."""
-        if self.at(k - 1) == 'fn' and self.at(k + 1) == '<' and self.is_of_writer(k + 1):
-            self.drop(k + 1, self.source.angle(k + 1) - 1)
+        if self.at(k - 1) == 'fn' and self.at(k + 1) == '<':
+            opening = self.source.angle(k + 1)
+            taken = {self.at(j) for j in range(opening, self.source.close(opening))}
+            if 'Formatter' in taken and ''.join(self.at(j) for j in range(k + 3, opening - 1)) == ':fmt::Write':
+                self.drop(k + 1, opening - 1)
         elif self.at(k) == 'Formatter' and self.at(k + 1) == '<':
             self.write(k + 2, "'_")
         elif self.at(k) in GHOST_TRAITS:
             self.drop_from_list(k)
-
-    def is_of_writer(self, k: int) -> bool:
-        """Whether the only type parameter is a writer, which Rust's `Formatter` does not name."""
-        opening = self.source.angle(k)
-        taken = {self.at(j) for j in range(opening, self.source.close(opening))}
-        return 'Formatter' in taken and ''.join(self.at(j) for j in range(k + 2, opening - 1)) == ':fmt::Write'

@@ -3,23 +3,16 @@ changes: the words `In plain Rust, ` are left out, and so is a paragraph that be
 examples become the section `# Examples` (examples.py); and a line links to what is proved of the item. The sections
 `# Panics` and `# Errors` are those of the comment. The modules `definitions` and `definitions::contracts` have the clauses and
 their words."""
-from __future__ import annotations
-
 import pathlib
 import re
 from collections.abc import Iterable
-from typing import TYPE_CHECKING
 
 from tools.erase import examples
-from tools.erase.library import AT_ROOT, CRATES
+from tools.erase.deletion import Deletion
+from tools.erase.library import AT_ROOT, CRATES, Module, Place, RustLibrary
 from tools.erase.prose import anchor, wrapped
 from tools.erase.source import Item, Source, Unknown
 from tools.erase.words import Specs, imported
-
-if TYPE_CHECKING:
-    from tools.erase.crate import Eraser
-
-Place = tuple[str, ...]
 
 # What a clause says that says only that values lie in their type.
 FITS = r'[A-Z]\w*\.fits \([A-Z]\w*\.value [\w.]+\)'
@@ -32,8 +25,6 @@ STATED = {'output', 'from_str_gives', 'from_gives', 'is_default', 'try_from_give
 SECTIONS = ('Examples', 'Panics', 'Errors')
 IN_PLAIN_RUST, IN_RATTLE = 'In plain Rust, ', 'In Rattle, '
 
-
-# ---- the comments of the sources
 
 def sections_of(lines: list[str]) -> dict[str, list[str]]:
     """The lines of a comment by the heads of its sections, without blank lines at their ends. Those before the first stand below ''."""
@@ -49,21 +40,9 @@ def sections_of(lines: list[str]) -> dict[str, list[str]]:
     return {name: '\n'.join(part).strip('\n').split('\n') if any(part) else [] for name, part in found.items()}
 
 
-def of_rust(eraser: Eraser, lines: list[str]) -> list[str]:
-    """The lines of a comment without what is true in Rattle alone, with links that lead somewhere in the Rust crate."""
-    found: list[str] = []
-    for paragraph in examples.paragraphs(lines):
-        text = ' '.join(paragraph)
-        if text.startswith(IN_RATTLE):
-            continue
-        plain = re.sub(rf'{IN_PLAIN_RUST}(\w)', lambda first: first.group(1).upper(), text)
-        found += ['', *(paragraph if plain == text else wrapped(plain))]
-    return [linked(eraser, line) for line in found[1:]]
-
-
 def of_rattle(lines: list[str]) -> list[str]:
-    """The lines of a comment as the reference of Rattle has them. No call panics there, so what plain Rust does outside the domain is
-    said of plain Rust."""
+    """The lines of a comment as the reference of Rattle has them. No call panics there, so a panic is said to be one of plain
+    Rust."""
     found: list[str] = []
     for name, part in sections_of(lines).items():
         if name == 'Panics':
@@ -71,77 +50,6 @@ def of_rattle(lines: list[str]) -> list[str]:
         found += ['', *['Errors:', ''] * (name == 'Errors'), *part]
     return found[1:]
 
-
-def see_sections(eraser: Eraser, item: Item, sections: dict[str, list[str]]) -> None:
-    """Rejects sections that are not known, a call that returns a `Result` and does not say when which error, an error of which a
-    clause says that it never comes, and a panic that is not said to be one of plain Rust."""
-    source = eraser.source
-    for name in sections:
-        if name not in ('', *SECTIONS):
-            source.refuse(item.word, f'a section `# {name}`')
-    if 'Panics' in sections and not ' '.join(sections['Panics']).startswith(f'{IN_PLAIN_RUST}if '):
-        source.refuse(item.word, f'a section `# Panics` that does not begin with `{IN_PLAIN_RUST}if `')
-    function = next((inner for inner in (item, *(item.items if item.of_trait == 'FromStr' else ())) if inner.kind == 'fn'), None)
-    if function is None or not source.returned(function).startswith('Result<'):
-        return
-    if 'Errors' not in sections:
-        source.refuse(item.word, f'`{function.name}` returns a `Result`, and its comment has no section `# Errors`')
-    clauses = ' '.join(source.text(clause.first, clause.last) for clause in item.clauses)
-    for kind, name in re.findall(r'`(\w+)::(\w+)`', ' '.join(sections['Errors'])):
-        if f'result ≢ Err {kind}.{name}' in clauses:
-            source.refuse(item.word, f'`# Errors` says when `{function.name}` returns `{name}`, and a clause that it never does')
-
-
-def add_sections(eraser: Eraser, item: Item, owner: Item | None) -> None:
-    """Writes the comment of an item as the Rust crate has it. That of a public item gets its sections and its link."""
-    source, docs, prose = eraser.source, eraser.source.docs(item), eraser.source.doc(item)
-    place = eraser.library.place_of(eraser.module, item, owner) if item.kind != 'impl' else \
-        eraser.library.place_of_type(eraser.module, item.name) if item.of_trait else None
-    lines = comment(eraser, item, owner, place, prose) if place is not None else of_rust(eraser, prose)
-    if lines == prose:
-        return
-    lines = [f'/// {line}'.rstrip() for line in lines]
-    for i in docs[1:]:
-        eraser.texts[i] = ''
-        if source.tokens[i - 1].kind == 'space':
-            eraser.texts[i - 1] = ''
-    if docs:
-        eraser.texts[docs[0]] = '\n'.join(lines)
-    else:
-        eraser.put_before(item.first, '\n'.join(lines) + '\n')
-
-
-def comment(eraser: Eraser, item: Item, owner: Item | None, place: Place, prose: list[str]) -> list[str]:
-    """The lines of the comment of a public item."""
-    sections = sections_of(prose)
-    see_sections(eraser, item, sections)
-    head = of_rust(eraser, examples.without_examples(sections['']))
-    parts = [head, examples.section(eraser, item, place, sections.pop('Examples', []))]
-    parts += [[f'# {name}', '', *of_rust(eraser, sections[name])] for name in SECTIONS if name in sections]
-    parts.append(link_to_contract(eraser, item, owner, place))
-    return [line for part in parts if part for line in ('', *part)][1:]
-
-
-def linked(eraser: Eraser, comment: str) -> str:
-    """A comment whose links to names of the root lead there where the file does not import them."""
-    own = () if eraser.crate in AT_ROOT else (eraser.crate,)
-    comment = re.sub(r'(\[`|\]\()crate::', rf'\1{"::".join(("crate", *own, ""))}', comment)
-    comment = re.sub(rf'\]\((?:{"|".join(AT_ROOT)})::', '](crate::', comment)
-    # rustdoc rejects a target to which the label leads by itself
-    comment = re.sub(rf'(\[`(\w+(?:::\w+)+)`\])\({"::".join(("crate", *own, *eraser.module.path))}::\2\)', r'\1', comment)
-    found = {(*place, name) for (_, _, name), place in eraser.library.public.items()}
-
-    def link(match: re.Match[str]) -> str:
-        words = tuple(match[1].split('::'))
-        paths = [(*base, *words) for base in ((own, ()) if len(words) > 1 else ()) if (*base, *words) in found]
-        if words[0][0].isupper() and words[:1] in found and words[0] not in eraser.words:
-            paths.append(words)
-        return f'[`{match[1]}`]({"::".join(("crate", *paths[0]))})' if paths else match[0]
-
-    return re.sub(r'\[`(\w+(?:::\w+)*)`\](?!\()', link, comment)
-
-
-# ---- contracts
 
 class Page:
     """What the modules of definitions have: the words that are cited, of which those of the toolchain are explained by hand, and by the
@@ -173,23 +81,105 @@ def clauses_of(source: Source, item: Item) -> list[str]:
     return [text for text in texts if says_more(text)]
 
 
-def link_to_contract(eraser: Eraser, item: Item, owner: Item | None, place: Place) -> list[str]:
-    """The line that links to the contract of an item, which the page then has."""
-    texts = clauses_of(eraser.source, item) if item.kind in ('fn', 'struct', 'trait', 'impl') else []
-    if not texts or eraser.page is None:
-        return []
-    names = imports_of(eraser.source, eraser.module.items) | imports_of(eraser.source, owner.items if owner else item.items)
-    words = eraser.page.specs.cite('\n'.join(texts), names)
-    path = '::'.join((*place, *([owner.name] if owner else []), item.name))
-    title = f'`{item.of_trait}` for `{path}`' if item.kind == 'impl' else f'`{path}`'
-    links = ', '.join(f'[`{word.name}`]({word.crate}#{anchor(word.name)})' for word in words)
-    lines = [f'`{text}`' for text in texts] + [f'Words: {links}'] * bool(words)
-    eraser.page.contracts.setdefault(place, []).append((title, ''.join(f'- {line}\n' for line in lines)))
-    label = 'Laws' if item.kind == 'trait' else 'Contract'
-    return [f'[{label}](crate::definitions::contracts#{anchor(title)})']
+class Comments(Deletion):
+    """A file of a crate of the library, whose comments become those of the Rust crate."""
 
+    def __init__(self, module: Module, library: RustLibrary, page: Page) -> None:
+        super().__init__(module.source)
+        self.module, self.library, self.page, self.crate = module, library, page, module.crate
+        self.words = {module.source.at(k) for k in range(len(module.source.code))}
 
-# ---- the modules `definitions` and `definitions::contracts`
+    def of_rust(self, lines: list[str]) -> list[str]:
+        """The lines of a comment without what is true in Rattle alone, with links that lead somewhere in the Rust crate."""
+        found: list[str] = []
+        for paragraph in examples.paragraphs(lines):
+            text = ' '.join(paragraph)
+            if text.startswith(IN_RATTLE):
+                continue
+            plain = re.sub(rf'{IN_PLAIN_RUST}(\w)', lambda first: first.group(1).upper(), text)
+            found += ['', *(paragraph if plain == text else wrapped(plain))]
+        return [self.linked(line) for line in found[1:]]
+
+    def see_sections(self, item: Item, sections: dict[str, list[str]]) -> None:
+        """Rejects sections that are not known, a call that returns a `Result` and does not say when which error, an error of which a
+        clause says that it never comes, and a panic that is not said to be one of plain Rust."""
+        source = self.source
+        for name in sections:
+            if name not in ('', *SECTIONS):
+                source.refuse(item.word, f'a section `# {name}`')
+        if 'Panics' in sections and not ' '.join(sections['Panics']).startswith(f'{IN_PLAIN_RUST}if '):
+            source.refuse(item.word, f'a section `# Panics` that does not begin with `{IN_PLAIN_RUST}if `')
+        function = next((inner for inner in (item, *(item.items if item.of_trait == 'FromStr' else ())) if inner.kind == 'fn'), None)
+        if function is None or not source.returned(function).startswith('Result<'):
+            return
+        if 'Errors' not in sections:
+            source.refuse(item.word, f'`{function.name}` returns a `Result`, and its comment has no section `# Errors`')
+        clauses = ' '.join(source.text(clause.first, clause.last) for clause in item.clauses)
+        for kind, name in re.findall(r'`(\w+)::(\w+)`', ' '.join(sections['Errors'])):
+            if f'result ≢ Err {kind}.{name}' in clauses:
+                source.refuse(item.word, f'`# Errors` says when `{function.name}` returns `{name}`, and a clause that it never does')
+
+    def add_sections(self, item: Item, owner: Item | None) -> None:
+        """Writes the comment of an item as the Rust crate has it. That of a public item gets its sections and its link."""
+        source, docs, prose = self.source, self.source.docs(item), self.source.doc(item)
+        place = self.library.place_of(self.module, item, owner) if item.kind != 'impl' else \
+            self.library.place_of_type(self.module, item.name) if item.of_trait else None
+        lines = self.comment(item, owner, place, prose) if place is not None else self.of_rust(prose)
+        if lines == prose:
+            return
+        lines = [f'/// {line}'.rstrip() for line in lines]
+        for i in docs[1:]:
+            self.texts[i] = ''
+            if source.tokens[i - 1].kind == 'space':
+                self.texts[i - 1] = ''
+        if docs:
+            self.texts[docs[0]] = '\n'.join(lines)
+        else:
+            self.put_before(item.first, '\n'.join(lines) + '\n')
+
+    def comment(self, item: Item, owner: Item | None, place: Place, prose: list[str]) -> list[str]:
+        """The lines of the comment of a public item."""
+        sections = sections_of(prose)
+        self.see_sections(item, sections)
+        head = self.of_rust(examples.without_examples(sections['']))
+        parts = [head, examples.section(self.source, self.library, item, place, sections.pop('Examples', []))]
+        parts += [[f'# {name}', '', *self.of_rust(sections[name])] for name in SECTIONS if name in sections]
+        parts.append(self.link_to_contract(item, owner, place))
+        return [line for part in parts if part for line in ('', *part)][1:]
+
+    def linked(self, comment: str) -> str:
+        """A comment whose links to names of the root lead there where the file does not import them."""
+        own = () if self.crate in AT_ROOT else (self.crate,)
+        comment = re.sub(r'(\[`|\]\()crate::', rf'\1{"::".join(("crate", *own, ""))}', comment)
+        comment = re.sub(rf'\]\((?:{"|".join(AT_ROOT)})::', '](crate::', comment)
+        # rustdoc rejects a target to which the label leads by itself
+        comment = re.sub(rf'(\[`(\w+(?:::\w+)+)`\])\({"::".join(("crate", *own, *self.module.path))}::\2\)', r'\1', comment)
+        found = {(*place, name) for (_, _, name), place in self.library.public.items()}
+
+        def link(match: re.Match[str]) -> str:
+            words = tuple(match[1].split('::'))
+            paths = [(*base, *words) for base in ((own, ()) if len(words) > 1 else ()) if (*base, *words) in found]
+            if words[0][0].isupper() and words[:1] in found and words[0] not in self.words:
+                paths.append(words)
+            return f'[`{match[1]}`]({"::".join(("crate", *paths[0]))})' if paths else match[0]
+
+        return re.sub(r'\[`(\w+(?:::\w+)*)`\](?!\()', link, comment)
+
+    def link_to_contract(self, item: Item, owner: Item | None, place: Place) -> list[str]:
+        """The line that links to the contract of an item, which the page then has."""
+        texts = clauses_of(self.source, item) if item.kind in ('fn', 'struct', 'trait', 'impl') else []
+        if not texts:
+            return []
+        names = imports_of(self.source, self.module.items) | imports_of(self.source, owner.items if owner else item.items)
+        words = self.page.specs.cite('\n'.join(texts), names)
+        path = '::'.join((*place, *([owner.name] if owner else []), item.name))
+        title = f'`{item.of_trait}` for `{path}`' if item.kind == 'impl' else f'`{path}`'
+        links = ', '.join(f'[`{word.name}`]({word.crate}#{anchor(word.name)})' for word in words)
+        lines = [f'`{text}`' for text in texts] + [f'Words: {links}'] * bool(words)
+        self.page.contracts.setdefault(place, []).append((title, ''.join(f'- {line}\n' for line in lines)))
+        label = 'Laws' if item.kind == 'trait' else 'Contract'
+        return [f'[{label}](crate::definitions::contracts#{anchor(title)})']
+
 
 def pages(page: Page, by_hand: pathlib.Path) -> dict[str, tuple[str, str]]:
     """The file of the modules and the pages that are their documentation: what each is made from, and its text. Call it after the

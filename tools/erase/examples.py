@@ -1,20 +1,12 @@
 """The sections `# Examples` of the Rust crate: of each sentence `A` is `B` in the comment of a public item one assertion, then the
 code of the section that the comment has, below the `use` lines of their names. `cargo test` runs them."""
-from __future__ import annotations
-
 import collections
 import functools
 import re
-from typing import TYPE_CHECKING
 
-from tools.erase.library import RustLibrary
+from tools.erase.library import Place, RustLibrary
 from tools.erase.prose import WIDTH, wrapped
 from tools.erase.source import Item, Source
-
-if TYPE_CHECKING:
-    from tools.erase.crate import Eraser
-
-Place = tuple[str, ...]
 
 INDENT = 4                                      # of the members of a trait or a type
 SENTENCE = re.compile(r'`([^`]+)` is (?:`([^`]+)`)?')
@@ -29,17 +21,12 @@ METHOD = re.compile(rf'{TEXT}|(?:\.|{NATIVE}::)(\w+)\(')
 
 def sentences(source: Source, item: Item) -> list[tuple[str, str]]:
     """The pairs A, B of an item's comment. A call that is said to be what is no code is rejected."""
-    found = []
-    for match in SENTENCE.finditer(' '.join(source.doc(item))):
-        call, answer = match.groups()
-        if answer:
-            found.append((call, answer))
-        elif '(' in call:
+    found = SENTENCE.findall(' '.join(source.doc(item)))
+    for call, answer in found:
+        if not answer and '(' in call:
             source.refuse(item.word, f'`{call}` is what no code says')
-    return found
+    return [pair for pair in found if pair[1]]
 
-
-# ---- the lines before the block
 
 def paragraphs(lines: list[str]) -> list[list[str]]:
     """The lines of a comment by paragraph."""
@@ -56,8 +43,6 @@ def without_examples(lines: list[str]) -> list[str]:
             found += ['', *(paragraph if rest == text else wrapped(rest))]
     return found[1:] or lines
 
-
-# ---- the block
 
 @functools.cache
 def methods(library: RustLibrary) -> dict[str, set[tuple[Place, str]]]:
@@ -81,7 +66,7 @@ def places(library: RustLibrary) -> dict[str, set[Place]]:
 
 
 def imports(library: RustLibrary, code: str, place: Place) -> list[str]:
-    """The lines that import the names of an example of an item at `place`, each from there, from the root, or from its only place."""
+    """The lines that import the names of an example of an item at `place`, each from there, from the root, or from its only place; types last."""
     names: dict[Place, set[str]] = {}
     for match in NAME.finditer(code):
         found = places(library).get(match.group(1), set())
@@ -90,13 +75,12 @@ def imports(library: RustLibrary, code: str, place: Place) -> list[str]:
     for match in METHOD.finditer(code):
         for at, trait in methods(library).get(match.group(1), ()):
             names.setdefault(at, set()).add(trait)
-    return [use('::'.join(('cellarcove',) + at), names[at]) for at in sorted(names)]
+    return [use('::'.join(('cellarcove',) + at), sorted(names[at], key=lambda name: (name[0].isupper(), name))) for at in sorted(names)]
 
 
-def use(path: str, names: set[str]) -> str:
-    """The line that imports these names, the types last."""
-    listed = sorted(names, key=lambda name: (name[0].isupper(), name))
-    return f'use {path}::{listed[0]};' if len(listed) == 1 else f'use {path}::{{{", ".join(listed)}}};'
+def use(path: str, names: list[str]) -> str:
+    """The line that imports these names."""
+    return f'use {path}::{names[0]};' if len(names) == 1 else f'use {path}::{{{", ".join(names)}}};'
 
 
 def assertion(call: str, answer: str) -> list[str]:
@@ -107,12 +91,12 @@ def assertion(call: str, answer: str) -> list[str]:
     return [line] if len(line) <= WIDTH - INDENT else ['assert_eq!(', f'    {call},', f'    {answer}', ');']
 
 
-def section(eraser: Eraser, item: Item, place: Place, lines: list[str]) -> list[str]:
+def section(source: Source, library: RustLibrary, item: Item, place: Place, lines: list[str]) -> list[str]:
     """The lines of the section of an item at a public place, whose own section has these lines, a block of code: an assertion of each
     sentence, and that code."""
     if lines and (lines[0] != '```' or lines.index('```', 1) != len(lines) - 1):
-        eraser.source.refuse(item.word, 'a section `# Examples` that is no block of code')
-    pairs, more = sentences(eraser.source, item), lines[1:-1]
-    head = imports(eraser.library, '\n'.join([*(f'{call}\n{answer}' for call, answer in pairs), *more]), place)
+        source.refuse(item.word, 'a section `# Examples` that is no block of code')
+    pairs, more = sentences(source, item), lines[1:-1]
+    head = imports(library, '\n'.join([*(f'{call}\n{answer}' for call, answer in pairs), *more]), place)
     body = [line for pair in pairs for line in assertion(*pair)] + more
     return ['# Examples', '', '```', *head, *[''] * bool(head), *body, '```'] if body else []

@@ -1,19 +1,17 @@
 """Takes the contracts out of the exports for C, and makes a Cargo package over the crate of plain Rust.
 
-    tools/cellarcove make exports   crates/cellarcove_c/src/*.rt and rust/by_hand/exports_head.rs  ->  rust/c/src/*.rs
-
-Code is erased as crate.py does it. What else changes: paths lead to the crate
-`cellarcove`; a slice becomes a pointer and a length, of which the body makes the slice, in an unsafe block; and functions that only
-state laws go. A form that is not known here is rejected by file and line, and then nothing is made."""
+Code is erased as crate.py does it. What else changes: paths lead to the crate `cellarcove`; a slice becomes a pointer and a length,
+of which the body makes the slice, in an unsafe block; and functions that only state laws go. A form that is not known here is
+rejected by file and line, and then nothing is made."""
 from collections.abc import Iterator
 
-from tools import ROOT
+from tools import ROOT, filled
 from tools.erase.crate import BY_HAND, Eraser, files, made_from
 from tools.erase.documentation import Page
 from tools.erase.library import Module, RustLibrary
 from tools.erase.source import Item
 
-CRATE = 'cellarcove_c'
+CRATE, SLICE = 'cellarcove_c', ROOT / 'tools/erase/templates/slice.rs'
 ATTRIBUTES = (['unsafe', '(', 'no_mangle', ')'], ['repr', '(', 'C', ')'])
 
 
@@ -57,13 +55,7 @@ class Exports(Eraser):
         self.write(first, f'*{mut or "const "}{kind}, {word}_len: usize')
         self.drop(first + 1, last)
         promise = 'so many items, which nothing else reads or writes' if written else 'so many items, which do not change'
-        return f'''
-            let {word} = if {word}_len == 0 {{
-                &{mut}[]
-            }} else {{
-                // SAFETY: the caller promises that the pointer leads to {promise}.
-                unsafe {{ core::slice::from_raw_parts{"_mut" * written}({word}, {word}_len) }}
-            }};'''
+        return filled(SLICE, word=word, mut=mut, promise=promise, suffix='_mut' * written).rstrip('\n')
 
 
 def states_laws(item: Item) -> bool:

@@ -107,28 +107,23 @@ class Library:
     def publish(self, public: Public, module: Module, place: Place) -> Public:
         """Notes the public items of a module that stands at this place: its own first, then those of the modules in it."""
         for item in module.items:
-            if item.public and item.kind == 'use':
-                for path, name in module.source.imports(item):
-                    self.publish_use(public, module, path, name, place)
-            elif item.public and item.kind != 'mod':
+            exports = module.source.imports(item) if item.public and item.kind == 'use' else []
+            for path, name in (pair for pair in exports if pair[0][0] not in OUTSIDE - {'crate', 'self', 'super'}):
+                found = self.find(module, path)
+                if not found:
+                    raise Unknown(f'{module.source.path}: the export of `{"::".join(path)}`')
+                target, target_name = found
+                if target_name is not None:
+                    public.setdefault((target.crate, target.path, target_name), place)
+                elif self.is_open(target):
+                    self.publish(public, target, place + (name,))
+            if item.public and item.kind not in ('use', 'mod'):
                 public.setdefault((module.crate, module.path, item.name), place)
         for item in self.below(module):
             below = self.modules[module.crate, module.path + (item.name,)]
             if item.public and self.is_open(below):
                 self.publish(public, below, place + (item.name,))
         return public
-
-    def publish_use(self, public: Public, module: Module, path: tuple[str, ...], name: str, place: Place) -> None:
-        if path[0] in OUTSIDE - {'crate', 'self', 'super'}:
-            return
-        found = self.find(module, path)
-        if not found:
-            raise Unknown(f'{module.source.path}: the export of `{"::".join(path)}`')
-        target, target_name = found
-        if target_name is not None:
-            public.setdefault((target.crate, target.path, target_name), place)
-        elif self.is_open(target):
-            self.publish(public, target, place + (name,))
 
     def is_open(self, module: Module) -> bool:
         """Whether a module may be public."""

@@ -98,8 +98,6 @@ class Source:
             line += text.count('\n', at, end)
             at = end
 
-    # ---- places
-
     def kind(self, k: int) -> str:
         return self.tokens[self.code[k]].kind if 0 <= k < len(self.code) else ''
 
@@ -211,8 +209,6 @@ class Source:
         paths = [(tuple(path.removesuffix('::self').split('::')), name) for path, name in pairs]
         return [(path, name or path[-1]) for path, name in paths]
 
-    # ---- items
-
     def items(self, k: int = 0, last: int | None = None) -> list[Item]:
         """The items from `k` on, to the place `last`."""
         found, last = [], len(self.code) if last is None else last
@@ -221,16 +217,20 @@ class Source:
             k = found[-1].last + 1
         return found
 
-    def item(self, k: int) -> Item:
-        first, attributes = k, []
-        if self.at(k) == '#' and self.at(k + 1) == '!':
-            return Item('attribute', self.at(k + 3), k, k, self.close(k + 2))
+    def before(self, k: int) -> tuple[list[tuple[int, int]], bool, int]:
+        """The attributes of an item or a field, whether it is public, and the place after that."""
+        attributes = list[tuple[int, int]]()
         while self.at(k) == '#':
             attributes.append((k, self.close(k + 1)))
             k = attributes[-1][1] + 1
-        public = self.at(k) == 'pub' and self.at(k + 1) != '('
-        if self.at(k) == 'pub':
-            k = 1 + (k if public else self.close(k + 1))
+        within = self.at(k) == 'pub' and self.at(k + 1) == '('
+        public = self.at(k) == 'pub' and not within
+        return attributes, public, self.close(k + 1) + 1 if within else k + public
+
+    def item(self, k: int) -> Item:
+        if self.at(k) == '#' and self.at(k + 1) == '!':
+            return Item('attribute', self.at(k + 3), k, k, self.close(k + 2))
+        first, (attributes, public, k) = k, self.before(k)
         while self.at(k) in MODIFIERS and (self.at(k + 1) in MODIFIERS or self.at(k + 1) == 'fn'):
             k += 1
         if self.at(k) == 'extern' and self.kind(k + 1) == 'text' and self.at(k + 2) == 'fn':
@@ -263,15 +263,14 @@ class Source:
         if self.at(item.last) == '{':
             self.read_block(item, item.last)
 
+    read_trait = read_mod
+
     def read_block(self, item: Item, brace: int) -> None:
         item.open, item.last = brace, self.close(brace)
         item.items = self.items(brace + 1, item.last)
         # a ghost member is a clause without its proof
         item.clauses = [Clause('ghost', inner.name, inner.word, self.close(self.end(inner.word, '{')))
                         for inner in item.items if inner.kind == 'ghost' and inner.name != 'use']
-
-    def read_trait(self, item: Item) -> None:
-        self.read_block(item, self.end(item.word, '{'))
 
     def read_impl(self, item: Item) -> None:
         brace = self.end(item.word, '{')
@@ -319,12 +318,7 @@ class Source:
     def fields(self, k: int, last: int) -> list[Field]:
         found = []
         while k < last:
-            first = k
-            while self.at(k) == '#':
-                k = self.close(k + 1) + 1
-            public = self.at(k) == 'pub' and self.at(k + 1) != '('
-            if self.at(k) == 'pub':
-                k = 1 + (k if public else self.close(k + 1))
+            first, (_, public, k) = k, self.before(k)
             ghost = self.at(k) == 'ghost'
             name = k + ghost
             if self.kind(name) != 'word' or self.at(name + 1) != ':':

@@ -16,6 +16,7 @@ version=$(sed -nE 's/^version = "(.*)"$/\1/p' rust/Cargo.toml)
 archive=$work/by_rattle/libcellarcove_c.a # the one that is looked at
 tests=$PWD/bindings/python/tests
 builder=$(builder)
+calls=$(tools/cellarcove make symbols | wc -l)
 languages=0
 
 build() {
@@ -24,18 +25,6 @@ build() {
     else
         (cd crates/cellarcove_c && rt lib)
     fi && bindings/build --rattle "$work/by_rattle"
-}
-
-calls() { tools/cellarcove make symbols; }
-
-# The archive and the shared library export the calls of the sources, the version and the name of the compiler, and nothing else.
-exports_its_calls() {
-    local kind
-    for kind in "--extern-only $archive" "--dynamic ${archive%.a}.so"; do
-        # shellcheck disable=SC2086
-        diff <({ calls && printf 'cellarcove_%s\n' built_by version; } | sort) \
-            <(nm --defined-only $kind | awk 'NF == 3 { print $3 }' | sort) || return 1
-    done
 }
 
 # A library that links the archive need not export them.
@@ -209,7 +198,7 @@ checksums() {
 }
 
 # Each call returns a status that its comment names, for all arguments that are tried.
-returns_its_statuses() { checksums "$archive" >"$work/sums" && [ "$(wc -l <"$work/sums")" -eq "$(calls | wc -l)" ]; }
+returns_its_statuses() { checksums "$archive" >"$work/sums" && [ "$(wc -l <"$work/sums")" -eq "$calls" ]; }
 
 # An archive in which one call is another one returns something else.
 other_call_is_found() {
@@ -220,19 +209,19 @@ other_call_is_found() {
 
 # The package for cargo and the crate that it needs are there.
 builds_by_cargo() {
-    has cargo "cargo's archive" || return 1
-    compgen -G '/usr/share/cargo/registry/num-traits-0.2.*' >/dev/null ||
-        { echo "cargo's archive: skipped, since there is no num-traits of Debian"; return 1; }
+    has cargo "cargo's archive" && { compgen -G '/usr/share/cargo/registry/num-traits-0.2.*' >/dev/null ||
+        { echo "cargo's archive: skipped, since there is no num-traits of Debian"; return 1; }; }
 }
 
 # What the archive exports, needs and keeps.
 looks_at() {
-    check 'the exported symbols' exports_its_calls
+    check 'the exported symbols' exports_its_calls --extern-only "$archive"
+    check 'those of the shared library' exports_its_calls --dynamic "${archive%.a}.so"
     check 'the needed symbols' needs_the_compiler_alone
     check 'no state' has_no_state
     if has cc C; then
         check 'the hidden symbols' hides_its_calls
-        check "the statuses of $(calls | wc -l) calls" returns_its_statuses
+        check "the statuses of $calls calls" returns_its_statuses
     fi
 }
 
@@ -271,7 +260,7 @@ if builds_by_cargo; then
 fi
 if has cc C; then
     check 'a call in the place of another' other_call_is_found
-    for page in README.md docs/C.md docs/COOKBOOK.md; do
+    for page in README.md docs/COOKBOOK.md; do
         check "the example of $page" page_holds "$page" c cc -std=c11
     done
     check 'the installed library' installs

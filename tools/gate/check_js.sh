@@ -4,8 +4,9 @@
 #
 # usage: tools/gate/check_js.sh [FOLDER [MINUTES [WORD..]]]
 #
-# It checks the package of FOLDER, or makes one, and calls it at random for so many minutes, a tenth of one if none is given. The words are
-# for Node, such as --experimental-wasm-memory64, without which Node 20 does not read WebAssembly with addresses of 64 bits.
+# It makes a package, or checks that of FOLDER and compares it with the library for C, by checksums of 20,000 calls of each export. It calls at
+# random for so many minutes, a tenth of one if none is given. The words are for Node, such as --experimental-wasm-memory64, without which
+# Node 20 does not read WebAssembly with addresses of 64 bits.
 set -uo pipefail
 cd "$(dirname "$0")/../.." || exit
 source tools/gate/lib.sh
@@ -18,8 +19,21 @@ has_types() {
         tsc --noEmit --strict --target es2022 --module es2022 --moduleResolution node "$work/types.ts"
 }
 
+# What this machine returns, for Node and for the page to compare.
+sums() {
+    bindings/build && tools/cellarcove make checksums >"$work/checksums.c" &&
+        cc -O2 -I bindings/c "$work/checksums.c" bindings/out/libcellarcove_c.a -o "$work/checksums" && "$work/checksums" >"$SUMS"
+}
+same() { node "$@" $tests/sums.js | diff "$SUMS" -; }
+
 has node JavaScript || exit 0
-[ $# -gt 0 ] || check 'the package for JavaScript' bindings/js/build "$CELLARCOVE"
+if [ $# -gt 0 ]; then
+    export SUMS=$work/sums
+    check 'the checksums of this machine' sums
+    check "what $(wc -l <"$SUMS") exports return in Node, 20,000 times each" same "${@:3}"
+else
+    check 'the package for JavaScript' bindings/js/build "$CELLARCOVE"
+fi
 if [ -e "$CELLARCOVE/cellarcove.wasm" ]; then
     check "Node $(node --version)" node "${@:3}" --test $tests/test.js
     counted 'random calls' node "${@:3}" $tests/fuzz.js "${2:-0.1}"

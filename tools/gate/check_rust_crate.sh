@@ -35,8 +35,7 @@ has_packages() {
 # cargo's shared library has the exports alone, a name for the loader, and no need that nothing meets.
 is_shared_library() {
     local library=$CARGO_TARGET_DIR/release/libcellarcove_c.so
-    diff <({ tools/cellarcove make symbols && printf 'cellarcove_%s\n' built_by version; } | sort) \
-        <(nm --dynamic --defined-only "$library" | awk '{ print $3 }' | sort) &&
+    exports_its_calls --dynamic "$library" &&
         readelf -d "$library" | grep -q 'SONAME.*libcellarcove_c.so.[0-9]' && ! nm --dynamic --undefined-only "$library" | grep -v ' w '
 }
 
@@ -115,7 +114,9 @@ check_dependents() {
 }
 
 # The lines of a list: type, call, number of inputs and checksum.
-sums() { awk -F '[(), ]+' '$2 == "Line" { print $3, $4, $5 + $6, $7 }' "$1"; }
+sums() {
+    grep -oE '^ +[IU][a-z0-9]+:$|[A-Z][A-Za-z]+( [0-9]+){3}' "$1" | awk '/:/ { type = $1; next } { print type, $1, $2 + $3, $4 }'
+}
 
 checksums() {
     at compare cargo run --release --features cellarcove >"$work/list" || return 1

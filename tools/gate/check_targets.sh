@@ -1,7 +1,7 @@
 #!/usr/bin/env bash
 # Compares other targets with this machine: what each call for C returns for 20,000 random arguments, by checksums of all that it returns.
-# The tests in C run there too, and on two of them the tests of the crate. cargo makes the archives, and Rattle makes one for ARM64 if `rt ci`
-# has left the proved libraries. The crate is compiled without std for bare ARM and for WebAssembly.
+# The tests in C and those of the crate run there too. cargo makes the archives, and Rattle makes one for ARM64 if `rt ci` has left the proved
+# libraries. The crate is compiled without std for bare ARM and for WebAssembly.
 #
 # usage: tools/gate/check_targets.sh [--all]
 #
@@ -46,17 +46,16 @@ returns_the_same() {
 
 byte_order_and_bits() { rustc --print cfg --target "$1" | sed -nE 's/^target_(endian|pointer_width)="(.*)"/\2/p' | paste -sd '|' | sed 's/|/ | /'; }
 
-# on TARGET PREFIX EMULATOR [yes]: the checks of a target, with the tests of the crate if the last word is there, and the row of a table if
-# they pass.
+# on TARGET PREFIX EMULATOR: the checks of a target, and the row of a table if they pass.
 on() {
     local compiler=$2-gcc emulator=$3 before=$failed key=${1//-/_}
     has "$compiler" "$1" && has "$emulator" "$1" || return 0
     export "CARGO_TARGET_${key^^}_LINKER=$compiler" "CARGO_TARGET_${key^^}_RUNNER=$emulator" "CARGO_TARGET_${key^^}_RUSTFLAGS=-C target-feature=+crt-static"
     check "the archive for $1" by_cargo "$1"
     returns_the_same "$1"
-    [ -z "${4:-}" ] || check_tests 'the tests of the crate' for_target rust "$1" std,panic_unwind test --release --all-features --tests
+    check_tests 'the tests of the crate' for_target rust "$1" std,panic_unwind test --release --all-features --tests
     rm -rf "$CARGO_TARGET_DIR"
-    [ "$failed" -ne "$before" ] || echo "| \`$1\` | $(byte_order_and_bits "$1") | ${emulator/env/itself} | ${4:-no} |" >>"$work/rows"
+    [ "$failed" -ne "$before" ] || echo "| \`$1\` | $(byte_order_and_bits "$1") | ${emulator/env/itself} | the crate, C | yes |" >>"$work/rows"
 }
 
 mkdir "$work/docs" && cp docs/ERRORS.md "$work/docs" && cp -r CHANGELOG.md rust "$work"
@@ -67,18 +66,18 @@ check 'the crate for WebAssembly, without std' for_target rust wasm32-unknown-un
 check 'the archive for this machine' bindings/build --cargo "$work/here"
 mv "$work/here/libcellarcove_c.a" "$work/here.a"
 check 'its checksums' sums here
-on i686-unknown-linux-gnu i686-linux-gnu env yes
+on i686-unknown-linux-gnu i686-linux-gnu env
 if [ "${1:-}" = --all ]; then
     on armv7-unknown-linux-gnueabihf arm-linux-gnueabihf qemu-arm-static
     on aarch64-unknown-linux-gnu aarch64-linux-gnu qemu-aarch64-static
     on riscv64gc-unknown-linux-gnu riscv64-linux-gnu qemu-riscv64-static
     on s390x-unknown-linux-gnu s390x-linux-gnu qemu-s390x-static
-    on powerpc-unknown-linux-gnu powerpc-linux-gnu qemu-ppc-static yes
+    on powerpc-unknown-linux-gnu powerpc-linux-gnu qemu-ppc-static
     compiler=aarch64-linux-gnu-gcc emulator=qemu-aarch64-static
     if command -v rt >/dev/null; then
         check "Rattle's archive for ARM64" by_rattle aarch64-unknown-linux-gnu
         returns_the_same rattle
     fi
-    check 'the table of docs/PLATFORMS.md' diff <(grep -E '^\| `.*(itself|qemu-.*) \| (yes|no) \|$' docs/PLATFORMS.md) "$work/rows"
+    check 'the table of docs/PLATFORMS.md' diff <(grep '| the crate, C | yes |$' docs/PLATFORMS.md) "$work/rows"
 fi
 finish

@@ -46,6 +46,12 @@ finish() {
     [ "$failed" -eq 0 ] && [ "$passed" -gt 0 ]
 }
 
+# exports_its_calls WORD..: `nm` with these words lists the calls of the sources, the version and the name of the compiler, and nothing else.
+exports_its_calls() {
+    diff <({ tools/cellarcove make symbols && printf 'cellarcove_%s\n' built_by version; } | sort) \
+        <(nm --defined-only "$@" | awk 'NF == 3 { print $3 }' | sort)
+}
+
 # takes_debian FOLDER: below it cargo takes all packages from those of Debian.
 takes_debian() { mkdir -p "$1/.cargo" && cp tools/gate/debian.toml "$1/.cargo/config.toml"; }
 

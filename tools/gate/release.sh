@@ -5,18 +5,18 @@
 #
 # FOLDER, `dist` if none is given, gets the packages for cargo, the wheel and the source distribution for pip, an archive for C
 # and C++, the package for npm, the WebAssembly that Rattle makes, the page on which a call is tried, an archive of the sources, the notes
-# of the release and SHA256SUMS. They are made of a clean clone of the commit that `.ci/run` has passed in this checkout, and once more of a clone in another folder: both have the same sums. The static
-# library is the one that the gate built by Rattle's compiler, or without `rt` on the machine cargo's.
+# and SHA256SUMS. They are made of a clean clone of the commit that `.ci/run` has passed in this checkout, and once more in another
+# folder: both have the same sums. Rattle has made the static library in the gate, or cargo makes it if there is no `rt`. Each file is
+# tried without a net and without `rt`.
 #
-# It also runs the slow checks: the targets that need qemu, the second suite of mutants, which takes most of an hour, the first lines of both suites, each guard of
-# plain Rust taken out, and all tests of the package for cargo. With --quick it leaves these out, but for some of the tests, and the notes
-# say so.
+# It also runs the slow checks: all targets, the second suite of mutants, which takes most of an hour, the first lines of both suites, and
+# each guard of plain Rust taken out. With --quick it leaves these out, calls less at random, and the notes say so.
 set -uo pipefail
 cd "$(dirname "$0")/../.." || exit
 source tools/gate/lib.sh
 
-quick=no
-[ "${1:-}" != --quick ] || { quick=yes && shift; }
+minutes=1
+[ "${1:-}" != --quick ] || { minutes=0.05 && shift; }
 case ${1:-} in -*) sed -n 's/^# usage: /usage: /p' "$0" >&2 && exit 2 ;; esac
 folder=${1:-dist}
 commit=$(git rev-parse HEAD)
@@ -99,73 +99,62 @@ make_files() {
 
 # ---- each file, in an empty folder
 
-# empty NAME: makes an empty folder of that name, and prints it.
-empty() { rm -rf "$work/tried/$1" && mkdir -p "$work/tried/$1" && echo "$work/tried/$1"; }
-
-tries_the_crate() {
-    local there words=()
-    there=$(empty crate) && tar -xzf "$files/cellarcove-$version.crate" -C "$there" || return 1
-    [ "$quick" = no ] || words=(--test own_type --test modules --test cookbook)
-    (cd "$there/cellarcove-$version" && cargo build --offline --all-features && cargo test --offline --all-features "${words[@]}")
-}
-
-# with_python NAME FILE: a fresh environment of the Python that has hatchling, in which a file is installed without the net. Prints its Python.
-with_python() {
-    local there
-    there=$(empty "$1") && "$(builder)" -m venv --system-site-packages "$there/environment" >&2 &&
-        CELLARCOVE_ARCHIVE='' "$there/environment/bin/python" -m pip install --quiet --disable-pip-version-check --no-index \
-            --no-build-isolation "$2" >&2 && echo "$there/environment/bin/python"
-}
-
-tries_the_wheel() (
-    local python here=$work/one/clone words=(--minutes 1 --small)
-    [ "$quick" = no ] || words=(--minutes 0.05)
-    python=$(with_python wheel "$files"/*.whl) && cd "$(empty nowhere)" && "$python" "$here/bindings/python/tests/test_cellarcove.py" &&
-        "$python" "$here/tools/cellarcove" check fuzz "${words[@]}"
+# alone COMMAND..: a function of this script runs without a net and without `rt`, in a process of its own.
+alone() (
+    export CARGO_NET_OFFLINE=true CELLARCOVE_ARCHIVE='' files machine minutes root=$PWD version work
+    mapfile -t names < <(compgen -A function)
+    export -f "${names[@]}"
+    unshare -rnm bash -c '{ ! kit=$(rt doc) || mount -t tmpfs none "${kit%/*}"; } && ip link set lo up && "$@"' - "$@"
 )
 
+# enters NAME: a folder that has the files and nothing else, and for cargo the packages of Debian.
+enters() { mkdir -p "$work/tried/$1" && cp "$files"/* "$work/tried/$1" && takes_debian "$work/tried/$1" && cd "$work/tried/$1" || return; }
+
+# lines NAME LANGUAGE: the first block of a language in a part of README.md. These lines are run word for word.
+lines() { block <(sed -n "/^\*\*$1\*\*/,\$p" "$root/README.md") "$2"; }
+
+# A program over the crate, and then the tests of the crate.
+tries_rust() {
+    enters rust && cargo init --quiet --name mine && bash -e <(lines Rust sh) && { echo 'fn main() {' && lines Rust rust && echo '}'; } >src/main.rs &&
+        cargo run && cd cellarcove-"$version" && cargo test --all-features
+}
+
+tries_the_wheel() {
+    enters wheel && "$(builder)" -m venv --system-site-packages e && source e/bin/activate && bash -e <(lines Python sh) && lines Python python >mine.py &&
+        ! python mine.py 2>error && grep -F 'NotFitting: NOT_FITTING' error && python "$work/one/clone/bindings/python/tests/test_cellarcove.py" &&
+        python "$work/one/clone/tools/cellarcove" check fuzz --minutes "$minutes" --small
+}
+
 tries_the_source_distribution() {
-    local python there
-    python=$(with_python source "$files/cellarcove-$version.tar.gz") && there=$(empty unpacked) && tar -xzf "$files/cellarcove-$version.tar.gz" -C "$there" &&
-        (cd "$there" && "$python" -c 'import cellarcove; assert cellarcove.BUILT_BY == "cargo"' && "$python" cellarcove-*/tests/test_cellarcove.py)
+    enters sources-for-pip && "$(builder)" -m venv --system-site-packages e && source e/bin/activate &&
+        pip install --no-build-isolation "cellarcove-$version.tar.gz" && python -c 'import cellarcove; assert cellarcove.BUILT_BY == "cargo"' &&
+        tar -xzf "cellarcove-$version.tar.gz" && python "cellarcove-$version/tests/test_cellarcove.py"
 }
 
-# A program in C, built by what pkg-config says and nothing else, with the shared library and then with the archive.
+# By the lines of README.md and docs/C.md, and then by what pkg-config says and nothing else, with the shared library and with the archive.
 tries_c() {
-    local there flags top=cellarcove-c-$version
-    there=$(empty c) && tar -xzf "$files/$top-$machine.tar.gz" -C "$there" && cp "$work/one/clone/bindings/c/test.c" "$there" || return 1
-    flags=$(PKG_CONFIG_PATH=$there/$top/lib/pkgconfig pkg-config --cflags --libs cellarcove) && read -ra flags <<<"$flags" &&
-        (cd "$there" && cc test.c "${flags[@]}" -o shared && LD_LIBRARY_PATH=$top/lib ./shared &&
-            rm "$top"/lib/*.so* && cc test.c "${flags[@]}" -o static && ./static)
+    local flags
+    enters c && lines C c >mine.c && bash -e <(lines C sh) && ./a.out && block "$root/docs/C.md" cpp >mine.cpp &&
+        bash -e <(block "$root/docs/C.md" sh) && ./a.out | grep -x 2024-04-01 && cd cellarcove-c-*/lib || return 1
+    flags=$(PKG_CONFIG_PATH=$PWD/pkgconfig pkg-config --cflags --libs cellarcove) && read -ra flags <<<"$flags" &&
+        cc "$root/bindings/c/test.c" "${flags[@]}" -o shared && LD_LIBRARY_PATH=. ./shared && rm ./*.so* &&
+        cc "$root/bindings/c/test.c" "${flags[@]}" -o static && ./static
 }
 
-# The package, installed by npm without the net and imported by its name, passes its tests, with a minute of random calls.
-tries_the_package_for_npm() {
-    local there minutes=1
-    [ "$quick" = no ] || minutes=0.05
-    there=$(empty npm) && (cd "$there" && npm install --offline --no-audit --no-fund "$files/cellarcove-$version.tgz" &&
-        echo "import {lcm} from 'cellarcove'; if (lcm(4, 6) !== 12n) throw lcm(4, 6);" | node --input-type=module -) &&
-        tools/gate/check_js.sh "$there/node_modules/cellarcove" "$minutes"
-}
-
-# The same package with the WebAssembly that Rattle made, in Node and on the page.
-tries_the_proved_wasm() {
-    local there minutes=1
-    [ "$quick" = no ] || minutes=0.05
-    there=$(empty proved) && tar -xzf "$files/cellarcove-$version.tgz" -C "$there" && cp "$files/cellarcove-$version-proved.wasm" "$there/package/cellarcove.wasm" &&
-        tools/gate/check_js.sh "$there/package" "$minutes" --experimental-wasm-memory64
+# tries_javascript [WASM WORD..]: the package passes its tests, with another WebAssembly and words for Node if they are given.
+tries_javascript() {
+    enters "javascript-$#" && bash -e <(lines JavaScript sh) && { [ $# -eq 0 ] || cp "$1" node_modules/cellarcove/cellarcove.wasm; } && lines JavaScript js >mine.mjs &&
+        node "${@:2}" mine.mjs && "$root/tools/gate/check_js.sh" "$PWD/node_modules/cellarcove" "$minutes" "${@:2}"
 }
 
 # The page, with the package that lies beside it.
 tries_the_page() {
-    local there top=cellarcove-try-$version
-    there=$(empty page) && tar -xzf "$files/$top.tar.gz" -C "$there" && CELLARCOVE=$there/$top/try node --test bindings/js/tests/page.js
+    enters page && tar -xzf cellarcove-try-*.tar.gz && CELLARCOVE=$(echo "$PWD"/cellarcove-try-*/try) node --test "$root/bindings/js/tests/page.js"
 }
 
 tries_the_sources() {
-    local there
-    there=$(empty sources) && tar -xzf "$files/cellarcove-$version-source.tar.gz" -C "$there" &&
-        diff <(cd "$there/cellarcove-$version" && find . -type f -o -type l | sort) <(git ls-files | sed 's|^|./|' | sort)
+    enters sources && tar -xzf cellarcove-*-source.tar.gz && cd "cellarcove-$version" &&
+        diff <(find . -type f -o -type l | sort) <(git -C "$root" ls-files | sed 's|^|./|' | sort)
 }
 
 # ---- the notes
@@ -190,8 +179,8 @@ notes() {
     grep -E '^(rt: ok|gate: |check_[a-z_]+\.sh: )' out/passed | sed 's/^/- /'
     printf '\nWhat was tried of these files:\n\n'
     sed 's/^/- /' "$work/said"
-    [ "$quick" = no ] || printf -- '- %s: left out\n' \
-        'the targets that need qemu, the second suite of mutants, the first lines of both suites, each guard taken out, and most tests of the package for cargo'
+    [ "$minutes" = 1 ] || printf -- '- %s: left out\n' \
+        'the targets that need qemu, the second suite of mutants, the first lines of both suites, and each guard taken out'
     printf '\n## Changes\n'
     sed -n "/^## $version (/,/^## /p" "$work/one/clone/CHANGELOG.md" | sed '/^## /d'
 }
@@ -210,24 +199,21 @@ files=$work/one/files
 check 'the files are made' make_files one
 [ "$failed" -eq 0 ] || exit 1
 tried 'the files are made again in another folder, with the same sums' made_again
-tried 'the package for cargo is built and tested' tries_the_crate
-tried 'the two packages for cargo replace num-integer, by the lines of their pages' replaces_num_integer "$files"
-tried 'the wheel is installed in a fresh environment and tested' tries_the_wheel
-tried 'the source distribution is installed in a fresh environment, and its tests pass' tries_the_source_distribution
-tried 'a program in C is built by pkg-config, with the shared library and with the archive' tries_c
-tried 'the package for npm is installed, tested and called at random' tries_the_package_for_npm
-[ ! -e "$files/cellarcove-$version-proved.wasm" ] || tried 'the WebAssembly that Rattle made is tested and called at random' tries_the_proved_wasm
-tried 'the page is served, and calls are tried on it' tries_the_page
-tried 'the sources are those of the commit' tries_the_sources
-if [ "$quick" = no ]; then
+tried 'the package for cargo is added by the lines of README.md, and its tests pass' alone tries_rust
+tried 'the two packages for cargo replace num-integer, by the lines of their pages' alone replaces_num_integer "$files"
+tried 'the wheel is installed by the line of README.md, tested and called at random' alone tries_the_wheel
+tried 'the source distribution is installed, and its tests pass' alone tries_the_source_distribution
+tried 'programs in C and C++ are built by the lines of README.md and docs/C.md, and by pkg-config' alone tries_c
+tried 'the package for npm is installed by the line of README.md, tested, compared with C and called at random' alone tries_javascript
+[ ! -e "$files/cellarcove-$version-proved.wasm" ] || tried 'so is the package with the WebAssembly that Rattle made' alone \
+    tries_javascript "cellarcove-$version-proved.wasm" --experimental-wasm-memory64
+tried 'the page is served, and calls are tried on it' alone tries_the_page
+tried 'the sources are those of the commit' alone tries_the_sources
+if [ "$minutes" = 1 ]; then
     tools/gate/install_packages.sh --all || true
     tried 'the tests of the crate, and each call for C, on the targets of docs/PLATFORMS.md' tools/gate/check_targets.sh --all
     tried 'each guard of plain Rust that is taken out is missed by a test' tools/cellarcove check guards
     tried 'the first line of each mutant is true' tools/cellarcove check wrong_lines
     tried "the second suite of $(ls crates/*/must-fail-release/*.edit | wc -l) mutants is rejected" tools/gate/check_must_fail_release.sh
 fi
-if finish; then
-    mkdir -p "$folder" && cp "$files"/* "$work/one/SHA256SUMS" "$folder" && notes >"$folder/NOTES.md" && ls -l "$folder"
-else
-    exit 1
-fi
+finish && mkdir -p "$folder" && cp "$files"/* "$work/one/SHA256SUMS" "$folder" && notes >"$folder/NOTES.md" && ls -l "$folder"

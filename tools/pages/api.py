@@ -52,12 +52,6 @@ def declaration(source: Source, item: Item) -> str:
     return folded(source.text(first, last).rstrip(';'))
 
 
-def derived(source: Source, item: Item) -> list[str]:
-    """The traits that an item derives."""
-    return [source.at(k) for first, last in item.attributes if source.at(first + 2) == 'derive'
-            for k in range(first + 4, last) if source.kind(k) == 'word']
-
-
 def shown(made: Shown) -> Iterator[tuple[Source, Item, str, Item | None]]:
     """The public items that the documentation shows, each with its source, its path, and the trait or the implementation that has it."""
     for module in made.modules.values():
@@ -77,7 +71,8 @@ def lines_of(made: Shown) -> Iterator[str]:
     for source, item, path, owner in shown(made):
         provided = ' { .. }' if owner and owner.kind == 'trait' and item.open is not None else ''
         yield re.sub(rf'\b{item.name}\b', path, declaration(source, item), count=1) + provided
-        yield from (f'impl {name} for {path}' for name in derived(source, item))
+        derived = (range(first + 4, last) for first, last in item.attributes if source.at(first + 2) == 'derive')
+        yield from (f'impl {source.at(k)} for {path}' for places in derived for k in places if source.kind(k) == 'word')
     own = {item.name for module in made.modules.values() for item in module.items if item.kind in ('struct', 'enum', 'trait')}
     for source, item in ((module.source, item) for module in made.modules.values() for item in module.items):
         if item.kind == 'macro':

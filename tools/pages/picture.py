@@ -3,17 +3,13 @@ the table stands the number of lines of tools/checks/erased.py."""
 import re
 from collections.abc import Iterator
 
-from tools import ROOT
+from tools import ROOT, filled
 
 PLACES = {'what you mean': (0, 0), 'definitions': (1, 0), 'contracts': (2, 0), 'Rattle source': (3, 0), 'C++, Python': (0, 1), 'C': (1, 1),
           'compiled by Rattle': (2, 1), 'Rust source': (3, 1), 'compiled by rustc': (2, 2), 'WebAssembly': (3, 2), 'JavaScript': (2, 3)}
 COLOURS = {'proved': '#1a7f37', 'checked': '#0969da', 'tested': '#9a6700', 'trusted': '#cf222e'}
 ROW = re.compile(r'^\| ([^|]+) \| ([^|]+) \| \*\*(\w+)\*\*([^|]*) \|', re.M)
 WIDE, HIGH, ACROSS, DOWN = 144, 40, 224, 92         # of a box, and from one to the next
-HEAD = """<svg xmlns="http://www.w3.org/2000/svg" viewBox="0 0 {wide} {high}" font-family="sans-serif" font-size="14" text-anchor="middle">
-<title>From what you mean to what runs</title>
-<desc>The first table of TRUST.md has the same as text.</desc>
-<rect width="100%" height="100%" fill="#ffffff"/>"""
 MARKER = '<marker id="{0}" viewBox="0 0 8 8" refX="8" refY="4" markerWidth="8" markerHeight="8" orient="auto"><path d="M0 0 8 4 0 8z" fill="{1}"/></marker>'
 
 
@@ -37,13 +33,12 @@ def arrow(start: str, end: str, kind: str, more: str) -> Iterator[str]:
 def picture(page: str) -> str:
     rows = ROW.findall(page)
     columns, lines = (max(place[axis] for place in PLACES.values()) for axis in (0, 1))
-    parts = [HEAD.format(wide=32 + WIDE + ACROSS * columns, high=32 + HIGH + DOWN * lines), *(MARKER.format(*pair) for pair in COLOURS.items())]
-    parts += (part for row in rows for part in arrow(*row))
+    parts = [*(MARKER.format(*pair) for pair in COLOURS.items()), *(part for row in rows for part in arrow(*row))]
     for name in PLACES:
         x, y = centre(name)
         parts.append(f'<rect x="{x - WIDE / 2:.0f}" y="{y - HIGH / 2:.0f}" width="{WIDE}" height="{HIGH}" rx="6" fill="#f6f8fa" stroke="#57606a"/>')
         parts.append(f'<text x="{x:.0f}" y="{y + 5:.0f}" fill="#1f2328">{name}</text>')
-    return '\n'.join([*parts, '</svg>', ''])
+    return filled(ROOT / 'tools/pages/templates/trust.svg', wide=str(32 + WIDE + ACROSS * columns), high=str(32 + HIGH + DOWN * lines), parts='\n'.join(parts))
 
 
 def made() -> dict[str, str]:

@@ -12,10 +12,10 @@ from collections.abc import Iterator
 
 from tools.erase.words import Definition, Specs
 from tools.erase.library import Library, Module, Place
-from tools.erase.prose import anchor, wrapped
+from tools.erase.prose import Anchors, wrapped
 from tools.erase.source import Item, Source, Unknown
 from tools.erase.documentation import STATED, imports_of, of_rattle, says_more
-from tools import ROOT
+from tools import ROOT, filled
 
 CRATES = ROOT / 'crates'
 PAGES = ROOT / 'docs' / 'reference'
@@ -26,8 +26,7 @@ BELOW = {'integer_core': 'num_integer', 'integer_roots': 'num_integer'}
 BY_FILE = {'cellarcove_c', 'theorems', 'theorems_by_subject', 'callers'}   # nobody imports them: their public items are those of their files
 FIRST = (('headline',), ('laws',))              # the files of `theorems` with which its page begins
 IN_RANGE = 'Clauses that only say that arguments and results are in the range of their types are left out.'
-INDEX = ('By name. The exports for C are on [their page](cellarcove_c.md), the theorems on those of [`theorems`](theorems.md) '
-         'and [`theorems_by_subject`](theorems_by_subject.md), and functions that show how calls are written on [that of `callers`](callers.md).')
+TEMPLATES = ROOT / 'tools/pages/templates'
 SHOWN = ('fn', 'struct', 'enum', 'trait', 'const', 'type')
 LEMMA = re.compile(r'(?:abbrev |unfoldable )?pub (?:ruleset ([^\s:]+) =|([^\s:]+) :)')
 RENAMED = re.compile(r'^pub use [\w.]+\.\{(\S+) as (\S+)\}')
@@ -36,7 +35,7 @@ EXPORT = re.compile(r'pub use Rattle\.(\w+)\.([\w.]+)\.\{([^}]*)\}')
 
 Imports = dict[str, tuple[str, str]]            # of words, each with its crate and its path there
 Shown = list[tuple[Module, Item]]
-Block = tuple[str, list[str], str, list[Item], str, str]
+Block = tuple[str, Item, str, list[Item]]
 
 
 class Page:
@@ -48,9 +47,7 @@ class Page:
         self.modules = [module for module in library.modules.values() if module.crate == name]
         self.public = {} if name in BY_FILE else library.published(name)
         self.lines: list[str | list[Definition]] = [f'# `{name}`', '']
-        self.slugs: dict[str, int] = {}
-
-    # ---- what it shows
+        self.anchors = Anchors()
 
     def place(self, module: Module, item: Item) -> Place | None:
         """The place of the public module from which a caller imports an item, or the type of an implementation, or None."""
@@ -73,25 +70,15 @@ class Page:
                     places.setdefault(place, []).append((module, item))
         return sorted(places.items(), key=lambda place: (FIRST.index(place[0]) if place[0] in FIRST else len(FIRST), place[0]))
 
-    def imports(self, place: Place, shown: Shown) -> str:
-        """The line by which a caller imports the items of a place."""
-        names = sorted({item.name for _, item in shown if item.kind != 'impl'})
-        listed = names[0] if len(names) == 1 else '{' + ', '.join(names) + '}'
-        return f"use {'::'.join((self.name,) + place)}::{listed};"
-
     def head(self, place: Place, shown: Shown) -> list[str]:
         """The head of the file of a place. That of the root is the head of the page."""
         files = [module for module in self.library.modules.values() if module.path == place]
         own = [module for module in files if module.crate == self.name] or [module for module, _ in shown if module.path == place]
         return own[0].source.head() if own and place else []
 
-    # ---- how it grows
-
     def heading(self, level: int, text: str) -> str:
-        slug = anchor(text)
-        count = self.slugs[slug] = self.slugs.get(slug, -1) + 1
         self.add('#' * level + ' ' + text, '')
-        return f'{slug}-{count}' if count else slug
+        return self.anchors.of(text)
 
     def add(self, *lines: str) -> None:
         self.lines += lines
@@ -137,10 +124,9 @@ def head_of(source: Source, item: Item) -> str:
     return dedented(source, item.first, item.last)
 
 
-def doc_of(source: Source, item: Item) -> list[str]:
-    """The doc comment of an item. Its links are those of the documentation of the Rust crate, so here they are names."""
-    text = re.sub(r'\[(`[^`]+`)\](?:\([^)]*\))?', r'\1', '\n'.join(source.doc(item)))
-    return of_rattle(text.replace('`crate::', '`').split('\n'))
+def without_links(lines: list[str]) -> list[str]:
+    """The lines of a comment. Its links are those of the documentation of the Rust crate, so here they are names."""
+    return re.sub(r'\[(`[^`]+`)\](?:\([^)]*\))?', r'\1', '\n'.join(lines)).replace('`crate::', '`').split('\n')
 
 
 class Reference:
@@ -151,8 +137,6 @@ class Reference:
         self.pages = {name: Page(library, name) for name in NAMES}
         self.anchors: dict[tuple[str, str, str], str] = {}
         self.calls: list[tuple[str, str, str, str, str]] = []
-
-    # ---- words
 
     def links(self, page: Page, text: str, imports: Imports) -> None:
         """Adds the line of links to the words of a text."""
@@ -165,8 +149,6 @@ class Reference:
             return f'[`{word.name}`]({"" if word.crate == page.name else word.crate + ".md"}#{self.anchors[word.key]})'
         return '\n'.join(line if isinstance(line, str) else '\n'.join(wrapped(f'Words: {", ".join(map(link, line))}.', 110)) for line in page.lines)
 
-    # ---- items
-
     def items_of(self, page: Page) -> None:
         page.add(*page.modules[0].source.head(), '', IN_RANGE, '')
         if page.name in BELOW:
@@ -178,48 +160,45 @@ class Reference:
                 page.heading(2, f"`{'/'.join(place)}.rt`" if place else 'The root')
             else:
                 page.heading(2, f"`{'::'.join((page.name,) + place)}`")
-            page.add(*page.head(place, shown), '')
+            page.add(*without_links(page.head(place, shown)), '')
             if page.name not in BY_FILE:
-                page.block('rust', '\n'.join(wrapped(page.imports(place, shown), 100, '    ')))
+                names = sorted({item.name for _, item in shown if item.kind != 'impl'})
+                listed = names[0] if len(names) == 1 else f'{{{", ".join(names)}}}'
+                page.block('rust', '\n'.join(wrapped(f'use {"::".join((page.name, *place))}::{listed};', 100, '    ')))
             for module, item in shown:
-                for block in self.blocks(module, item):
+                for block in self.blocks(module.source, item):
                     self.block(page, place, module, *block)
+        if (CRATES / page.name / 'specs' / 'Laws.antt').is_file():
+            for name in self.specs.read(page.name, 'Laws')[0]:
+                self.specs.cite_word(name, page.name, 'specs.Laws')
 
-    def blocks(self, module: Module, item: Item) -> Iterator[Block]:
-        """What the page shows of an item: a title, its doc comment, its code, the items whose imports count, its kind and
-        its name."""
-        source = module.source
-        if item.kind in ('trait', 'impl'):
-            ghosts = [source.text(inner.first, inner.last) for inner in item.items
-                      if inner.kind == 'ghost' and inner.name != 'use' and (item.kind == 'trait' or inner.name in STATED)]
-            # each method of a trait, each public one of a type, each with a clause of an implementation
-            methods = [inner for inner in item.items if inner.kind == 'fn' and (item.kind == 'trait' or (inner.clauses if item.of_trait else inner.public))]
-            stated = item.kind == 'trait' or ghosts or (item.of_trait and methods)
-            if stated:
-                head = head_of(source, item) + ' { .. }' * (not ghosts)
-                if ghosts:
-                    body = '\n\n'.join(textwrap.indent(textwrap.dedent('    ' + ghost), '    ') for ghost in ghosts)
-                    head += ' {\n' + body + '\n}'
-                title = f'trait `{item.name}`' if item.kind == 'trait' else f'`{item.of_trait}` for `{item.name}`'
-                yield title, doc_of(source, item), head, item.items, item.kind, item.name
-            for inner in methods:
-                yield f'`{item.name}::{inner.name}`', doc_of(source, inner), head_of(source, inner), item.items, 'fn', inner.name
-        else:
-            yield f'`{item.name}`', doc_of(source, item), head_of(source, item), [], item.kind, item.name
+    def blocks(self, source: Source, item: Item) -> Iterator[Block]:
+        """What the page shows of an item: a title, what has its doc comment, its code, and the items whose imports count."""
+        if item.kind not in ('trait', 'impl'):
+            yield f'`{item.name}`', item, head_of(source, item), []
+            return
+        ghosts = [source.text(inner.first, inner.last) for inner in item.items
+                  if inner.kind == 'ghost' and inner.name != 'use' and (item.kind == 'trait' or inner.name in STATED)]
+        # each method of a trait, each public one of a type, each with a clause of an implementation
+        methods = [inner for inner in item.items if inner.kind == 'fn' and (item.kind == 'trait' or (inner.clauses if item.of_trait else inner.public))]
+        if item.kind == 'trait' or ghosts or (item.of_trait and methods):
+            body = '\n\n'.join(textwrap.indent(textwrap.dedent('    ' + ghost), '    ') for ghost in ghosts)
+            title = f'trait `{item.name}`' if item.kind == 'trait' else f'`{item.of_trait}` for `{item.name}`'
+            yield title, item, head_of(source, item) + (f' {{\n{body}\n}}' if ghosts else ' { .. }'), item.items
+        for inner in methods:
+            yield f'`{item.name}::{inner.name}`', inner, head_of(source, inner), item.items
 
-    def block(self, page: Page, place: Place, module: Module, title: str, doc: list[str], code: str, inner: list[Item], kind: str, name: str) -> None:
-        anchor = page.heading(3, title)
+    def block(self, page: Page, place: Place, module: Module, title: str, item: Item, code: str, inner: list[Item]) -> None:
+        doc, anchor = of_rattle(without_links(module.source.doc(item))), page.heading(3, title)
         page.add(*doc, '')
         page.block('rust', code)
-        if kind in ('struct', 'enum'):
-            declared = '.'.join(('Rattle', module.crate, 'specs', 'declared') + module.path + (name,))
-            variants = f", `ghost use {declared}.TheVariants.{{..}};`" * (kind == 'enum')
-            page.add(f'In a clause: `ghost use {declared}.{{{name}}};`{variants}', '')
-        if kind == 'fn' and page.name not in BY_FILE:
-            self.calls.append((name, title.strip('`'), '::'.join((page.name, *place)), f'{page.name}.md#{anchor}', first_sentence(doc)))
+        if item.kind in ('struct', 'enum'):
+            declared = '.'.join(('Rattle', module.crate, 'specs', 'declared') + module.path + (item.name,))
+            variants = f", `ghost use {declared}.TheVariants.{{..}};`" * (item.kind == 'enum')
+            page.add(f'In a clause: `ghost use {declared}.{{{item.name}}};`{variants}', '')
+        if item.kind == 'fn' and page.name not in BY_FILE:
+            self.calls.append((item.name, title.strip('`'), '::'.join((page.name, *place)), f'{page.name}.md#{anchor}', first_sentence(doc)))
         self.links(page, code, imports_of(module.source, module.items) | imports_of(module.source, inner))
-
-    # ---- definitions, laws and lemmas
 
     def definitions_of(self, page: Page) -> None:
         crate = page.name
@@ -237,11 +216,6 @@ class Reference:
                 if word.key in self.specs.cited:
                     self.anchors[word.key] = page.word(3, name, word.comment, word.text)
                     self.links(page, word.text, self.specs.names(word))
-
-    def laws_of(self, page: Page) -> None:
-        if (CRATES / page.name / 'specs' / 'Laws.antt').is_file():
-            for name in self.specs.read(page.name, 'Laws')[0]:
-                self.specs.cite_word(name, page.name, 'specs.Laws')
 
     def lemmas_of(self, page: Page) -> None:
         crate, file = page.name, CRATES / page.name / 'proofs' / 'ForCallers.antt'
@@ -262,10 +236,8 @@ class Reference:
             for name, lemma in lemmas(text).items():
                 page.word(4, name, *lemma)
 
-    # ---- the pages
-
     def made(self) -> dict[str, str]:
-        for add in (self.items_of, self.laws_of, self.definitions_of, self.lemmas_of):
+        for add in (self.items_of, self.definitions_of, self.lemmas_of):
             for page in self.pages.values():
                 add(page)
         pages = {f'{name}.md': self.text(page) for name, page in self.pages.items()}
@@ -274,15 +246,11 @@ class Reference:
 
     def index(self) -> str:
         rows = [f'| [`{title}`]({link}) | `{path}` | {said} |' for _, title, path, link, said in sorted(self.calls)]
-        return '\n'.join(['# All functions', '', *wrapped(INDEX, 110), '', '| function | import from | what it does |', '|---|---|---|', *rows])
+        return filled(TEMPLATES / 'index.md', rows='\n'.join(rows))
 
     def front(self) -> str:
-        rows = '\n'.join(f'| [`{name}`]({name}.md) | {first_sentence(page.modules[0].source.head())} |' for name, page in self.pages.items())
-        return '\n'.join(['# Reference', '', 'Made of the sources by `tools/cellarcove make reference`. Nobody edits these pages.', '',
-                          '[All functions](index.md), by name. [How to read a contract](../CONTRACTS.md), in five minutes.', '',
-                          '| crate | what it is |', '|---|---|', rows, '',
-                          '# How to read a clause', '',
-                          *TOOLCHAIN.read_text().split('\n')[1:]])
+        rows = [f'| [`{name}`]({name}.md) | {first_sentence(page.modules[0].source.head())} |' for name, page in self.pages.items()]
+        return filled(TEMPLATES / 'front.md', rows='\n'.join(rows), clauses=TOOLCHAIN.read_text().partition('\n')[2].strip())
 
 
 def sentence(comment: str) -> str:
@@ -332,14 +300,10 @@ def lemmas(text: str) -> dict[str, tuple[str, str]]:
             continue
         match = LEMMA.match(bare)
         if match:
-            stated = [re.sub(r'\bpub ', '', bare, count=1)]
-            for more in lines[i + 1:]:
-                if len(more) - len(more.lstrip(' ')) <= margin:
-                    break
-                stated.append(more[margin:])
-            indent = '    ' * bool(modules)
-            found[match.group(1) or match.group(2)] = (
-                ' '.join(comment), '\n'.join([head for _, head in modules] + [indent + line for line in stated]))
+            more = itertools.takewhile(lambda line: len(line) - len(line.lstrip(' ')) > margin, lines[i + 1:])
+            stated = [re.sub(r'\bpub ', '', bare, count=1), *(line[margin:] for line in more)]
+            heads, indent = [head for _, head in modules], '    ' * bool(modules)
+            found[match[1] or match[2]] = ' '.join(comment), '\n'.join([*heads, *(indent + line for line in stated)])
         elif bare.startswith('module _ '):
             modules.append((margin, line.strip()))
         for name, other in RENAMED.findall(line):

@@ -10,8 +10,6 @@ from tools.erase.source import Source
 from tools.tests import samples
 
 
-# ---- rust_docs: the made comments and pages
-
 @pytest.mark.parametrize('wanted, text', samples.cases('rust_docs'))
 def test_lacks(wanted: str, text: str) -> None:
     source = Source(Path('lib.rs'), text)
@@ -32,8 +30,6 @@ def test_dead_links(tmp_path: Path) -> None:
         'index.html leads to words/index.html#odd, which is not there', 'words/index.html leads to ../index.html#half, which is not there']
 
 
-# ---- guards: the calls that are taken out, and what is written for them
-
 def test_calls_that_are_taken_out(tmp_path: Path) -> None:
     golden, sources = dict(samples.cases('guards')), tmp_path / 'rust' / 'src'
     write(tmp_path / 'rust', golden)
@@ -46,8 +42,6 @@ def test_calls_that_are_taken_out(tmp_path: Path) -> None:
     assert (sources / 'lib.rs').read_text() == '\nmod guards;\nmod roots;\n\nmod taken_out;\n'
     assert (sources / 'guards.rs').read_text() == golden['src/guards.rs']
 
-
-# ---- laws that stand in no clause
 
 @pytest.fixture(name='root')
 def repository(tmp_path: Path) -> Path:
@@ -68,8 +62,6 @@ def test_slips_of_laws(root: Path, head: str, slip: str) -> None:
     assert any(line.startswith(f'{file}: ') and line.endswith(f' ensures `{law}`') for line in failed)
 
 
-# ---- trust: what docs/TRUST.md says of the axioms, and what a run printed
-
 SAID, LOG = (text for _, text in samples.cases('trust'))
 
 
@@ -84,9 +76,7 @@ def test_slips_of_axioms(old: str, new: str, has: int, lacks: int) -> None:
     assert (found.count(True), found.count(False)) == (has, lacks)
 
 
-# ---- first lines of seeded bugs: their forms, and false ones
-
-BUG = ROOT / 'crates/integer_core/must-fail-release/all_are_even.edit'
+MUTANT = ROOT / 'crates/integer_core/must-fail-release/all_are_even.edit'
 
 
 @pytest.mark.parametrize('line', ['wrong: is_even(3) is true.', 'wrong: at is_even(3) it returns true.', 'wrong (not run): at is_even(3).',
@@ -98,8 +88,8 @@ def test_forms(line: str) -> None:
 
 @pytest.mark.skipif(not os.environ.get('CI'), reason='it builds a crate, so only the gate runs it')
 def test_lines() -> None:
-    texts, lines = edits.apply(BUG.parent.parent, BUG)[1], samples.cases('first_lines')
-    bugs = [wrong_lines.Bug(number, BUG, edits.form_of(line.rstrip()), texts) for number, (_, line) in enumerate(lines)]
-    wrong_lines.judge(bugs)
-    for bug, (told, line) in zip(bugs, lines):
-        assert (bug.told or 'nothing').startswith(told), f'{line}: {bug.told}'
+    texts, lines = edits.apply(MUTANT.parent.parent, MUTANT)[1], samples.cases('first_lines')
+    mutants = [wrong_lines.Mutant(number, MUTANT, edits.form_of(line.rstrip()), texts) for number, (_, line) in enumerate(lines)]
+    wrong_lines.judge(mutants)
+    for mutant, (told, line) in zip(mutants, lines):
+        assert (mutant.told or 'nothing').startswith(told), f'{line}: {mutant.told}'

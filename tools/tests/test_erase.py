@@ -39,9 +39,8 @@ def test_forms_that_are_not_known(refusal: str, text: str) -> None:
     assert str(refused.value) == f'crates/{crate}/src/lib.rt:{reason}'
 
 
-# ---- the functions of golden/callers that get `#[track_caller]`: those that have it, but for the one in guards.rs, which has it by hand
-
 def test_functions_on_the_way_to_a_panic(tmp_path: Path) -> None:
+    """The functions of golden/callers get `#[track_caller]` that have it, but for the one in guards.rs, which has it by hand."""
     wanted = {f'made/src/{file.name}': file.read_text() for file in (samples.GOLDEN / 'callers').glob('*.rs')}
     without = {name: re.sub(r' *#\[track_caller\]\n', '', text) for name, text in wanted.items() if not name.endswith('guards.rs')}
     write(tmp_path, wanted | without)
@@ -49,8 +48,6 @@ def test_functions_on_the_way_to_a_panic(tmp_path: Path) -> None:
     for name, text in wanted.items():
         assert (tmp_path / name).read_text().split() == text.split()
 
-
-# ---- what is by hand in a made file
 
 MADE, BY_HAND, JOINED = ((samples.GOLDEN / f'additions/{name}.rs').read_text() for name in ('made', 'by_hand', 'joined'))
 
@@ -81,8 +78,6 @@ def test_a_file_with_another_path_is_a_module(tmp_path: Path) -> None:
     there.add('row.rs', MADE)
     assert there.modules() == {}
 
-
-# ---- the examples of the Rust crate, and its pages of contracts and of their words
 
 @pytest.mark.parametrize('sentence, wanted', samples.cases('assertions'))
 def test_assertion(sentence: str, wanted: str) -> None:

@@ -50,7 +50,6 @@ def test_errors() -> None:
     assert pages.messages_in(golden['code']) == {'the first', 'the second', 'the third', 'the fourth', 'the fifth', '`n` is the sixth',
                                        'a date, as "2024-02-29"'}
     assert pages.messages_on(golden['page']) == {'the first', 'the second', 'a date, as "2024-02-29"'}
-    assert pages.statuses_on(golden['page']) == {'2 CELLARCOVE_NOT_FITTING'}
     assert pages.exceptions_in(golden['package'], golden['driver']) == CLASSES | {'OverflowError ', 'TypeError ', 'MemoryError '}
-    assert pages.exceptions_on(golden['page']) == CLASSES | {'TypeError '}
+    assert pages.rows_on(golden['page']) == CLASSES | {'2 CELLARCOVE_NOT_FITTING', 'TypeError '}
     assert [passed for _, passed in pages.compared({'a', 'b'}, {'b', 'c'})] == [False, True, False]

@@ -18,7 +18,8 @@ const missing = [];
 const server = createServer(({url}, response) => {
   const path = new URL(url, 'http://localhost').pathname, file = path.endsWith('/') ? `${path}index.html` : path;
   try {
-    const found = readFileSync(file.startsWith('/try/') && !file.endsWith('.html') ? join(folder, file.slice(5)) : join(docs, file));
+    const found = readFileSync(file === '/sums.js' ? new URL('sums.js', import.meta.url)
+      : file.startsWith('/try/') && !file.endsWith('.html') ? join(folder, file.slice(5)) : join(docs, file));
     response.writeHead(200, {'content-type': TYPES[file.split('.').pop()]}).end(found);
   } catch {
     missing.push(file);
@@ -121,6 +122,14 @@ test('a definition opens', async () => {
   await until(`document.querySelector('#contract pre')?.innerText.includes('cellarcove_lcm_u64')`);
   await evaluate(`document.querySelectorAll('#contract summary')[1].click()`);
   await until(`document.querySelector('#contract details[open] pre')?.innerText.includes('IsLeastCommonMultiple (a b l')`);
+});
+
+test('each export returns what it does on x86-64', {skip: !process.env.SUMS}, async () => {
+  const found = await evaluate(`(async () => {
+    const {sums} = await import('/sums.js');
+    return sums(await import('/try/runtime.js'), await import('/try/table.js'));
+  })()`);
+  assert.equal(found, readFileSync(process.env.SUMS, 'utf8'));
 });
 
 test('the page asks for no file that is missing, and has no error', () => {

@@ -4,7 +4,7 @@ import {resolve} from 'node:path';
 import {createInterface} from 'node:readline';
 import {fileURLToPath, pathToFileURL} from 'node:url';
 
-const folder = resolve(process.env.CELLARCOVE ?? fileURLToPath(new URL('..', import.meta.url)));
+export const folder = resolve(process.env.CELLARCOVE ?? fileURLToPath(new URL('..', import.meta.url)));
 export const cellarcove = await import(pathToFileURL(`${folder}/cellarcove.js`));
 export const {CALLS, STRUCTS} = await import(pathToFileURL(`${folder}/table.js`));
 const ARRAYS = {i64: BigInt64Array, u64: BigUint64Array, i32: Int32Array, u32: Uint32Array, u16: Uint16Array, u8: Uint8Array};

@@ -92,11 +92,7 @@ class Refused(ValueError):
 class DivisionByZero(Refused, ZeroDivisionError):
     """A call has no result, since a divisor, a modulus or a denominator is 0."""
 
-    _reasons = {
-        **Refused._reasons,
-        Status.OUTSIDE: 'the divisor is 0',
-        Status.BAD_MODULUS: 'a modulus is 0',
-    }
+    _reasons = Refused._reasons | {Status.OUTSIDE: 'the divisor is 0', Status.BAD_MODULUS: 'a modulus is 0'}
 
 
 class NotFitting(Refused, OverflowError):

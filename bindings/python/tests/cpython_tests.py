@@ -7,6 +7,8 @@ import contextlib
 import datetime
 import importlib
 import math
+import pathlib
+import re
 import sys
 import time
 import types
@@ -17,11 +19,8 @@ import cellarcove
 
 DAY_0 = datetime.date(1970, 1, 1).toordinal()
 IsoCalendarDate = type(datetime.date(1970, 1, 1).isocalendar())
-# The package rounds halves away from 0, and Python to the even neighbour.
-FAIL = {'testConversions': 1, 'testRound': 2}
+LISTED = pathlib.Path(__file__).with_suffix('.txt')
 
-
-# ---- what is beyond 64 bits
 
 class Beyond:
     """A number that the package has not."""
@@ -40,9 +39,7 @@ waiting = []                                    # the assertions that wait for a
 
 
 def is_beyond(value):
-    if isinstance(value, (tuple, list)):
-        return any(map(is_beyond, value))
-    return isinstance(value, Beyond) or value is Beyond
+    return any(map(is_beyond, value)) if isinstance(value, (tuple, list)) else isinstance(value, Beyond) or value is Beyond
 
 
 def bounded(call):
@@ -57,14 +54,6 @@ def bounded(call):
                 raise
             return BEYOND
     return within
-
-
-# ---- the calls in the place of those of Python
-
-def mathematics():
-    """The module `math` with the calls of the package."""
-    names = ('gcd', 'lcm', 'comb', 'isqrt')
-    return types.SimpleNamespace(**{**vars(math), **{name: bounded(getattr(cellarcove, name)) for name in names}})
 
 
 class Rounded(Fraction):
@@ -130,8 +119,6 @@ class Day(datetime.date):
 
 Day.min, Day.max = Day.of(datetime.date.min), Day.of(datetime.date.max)
 
-
-# ---- the count
 
 class Counting:
     """The assertions of a test, each counted by itself."""
@@ -199,52 +186,35 @@ for assertion in ('assertEqual', 'assertNotEqual', 'assertTrue', 'assertFalse', 
     setattr(Counting, assertion, counted(assertion))
 
 
-# ---- the tests
-
-MATH = ('testGcd', 'test_lcm', 'testComb', 'testIsqrt')
-FRACTIONS = ('testLimitDenominator', 'testConversions', 'testRound')
-DATES = ('test_basic_attributes', 'test_ordinal_conversions', 'test_extreme_ordinals', 'test_computations', 'test_overflow',
-         'test_weekday', 'test_isocalendar', 'test_iso_long_years', 'test_isoformat', 'test_extreme_timedelta', 'test_timetuple',
-         'test_fromisocalendar', 'test_fromisocalendar_value_errors', 'test_fromisocalendar_type_errors')
-
-
 def cases():
-    """The tests, each of a class whose calls are those of the package."""
-    of_math, of_fractions, of_dates = map(importlib.import_module, ('test.test_math', 'test.test_fractions', 'test.datetimetester'))
-    of_math.math, of_fractions.F = mathematics(), Rounded
-    found = []
-    for base, names, more in ((of_math.MathTests, MATH, {}), (of_fractions.FractionTest, FRACTIONS, {}),
-                              (of_dates.TestDate, DATES, {'theclass': Day})):
-        kind = type('Counted' + base.__name__, (Counting, base), more)
-        found += [kind(name) for name in names if hasattr(base, name)]
-    return found
-
-
-def run(case):
-    """Runs a test, and returns its counts and its failures."""
-    Counting.counts = dict.fromkeys(Counting.counts, 0)
-    result = unittest.TestResult()
-    case.run(result)
-    others = [f'{case._testMethodName}: {text.splitlines()[-1]}' for _, text in result.errors + result.failures]
-    Counting.counts['fail'] += len(others)
-    return Counting.counts, case.failures + others
+    """The tests, each of a class whose calls are those of the package, with the number of assertions that fail."""
+    of_math, of_fractions = map(importlib.import_module, ('test.test_math', 'test.test_fractions'))
+    of_math.math = types.SimpleNamespace(**vars(math) | {name: bounded(getattr(cellarcove, name)) for name in ('gcd', 'lcm', 'comb', 'isqrt')})
+    of_fractions.F = Rounded
+    for module, name, tests in re.findall(r'^([\w.]+)\.(\w+): (.*)', LISTED.read_text(), re.M):
+        base = getattr(importlib.import_module(module), name)
+        kind = type(f'Counted{name}', (Counting, base), {'theclass': Day} if name == 'TestDate' else {})
+        yield from ((kind(test), int(fail or 0)) for test, _, fail in (word.partition('=') for word in tests.split()) if hasattr(base, test))
 
 
 def main():
     try:
-        tests = cases()
+        tests = list(cases())
     except ImportError:
         print("the machine's Python has no tests of its own: nothing is run")
         return 0
     total, unexpected = dict.fromkeys(Counting.counts, 0), 0
-    for case in tests:
-        counts, failures = run(case)
+    for case, expected in tests:
+        counts = Counting.counts = dict.fromkeys(total, 0)
+        result = unittest.TestResult()
+        case.run(result)
+        others = [f'{case._testMethodName}: {text.splitlines()[-1]}' for _, text in result.errors + result.failures]
+        counts['fail'] += len(others)
         total = {name: total[name] + count for name, count in counts.items()}
-        expected = FAIL.get(case._testMethodName, 0)
         print(f'{case._testMethodName}: {counts["pass"]} pass, {counts["limit"]} are beyond 64 bits, {counts["fail"]} fail, {expected} expected')
         if counts['fail'] != expected:
             unexpected += 1
-            print('\n'.join(failures[:10]))
+            print('\n'.join((case.failures + others)[:10]))
     print(f'all of Python {sys.version.split()[0]}: {total["pass"]} pass, {total["limit"]} are beyond 64 bits, {total["fail"]} fail')
     return unexpected > 0
 

@@ -4,6 +4,7 @@
 
 import array
 import ast
+import contextlib
 import copy
 import ctypes
 import datetime
@@ -126,12 +127,6 @@ class Errors(unittest.TestCase):
         yield from (DivisionByZero(status) for status in (Status.OUTSIDE, Status.BAD_MODULUS, Status.ZERO_DENOMINATOR))
         yield NotFitting(Status.NOT_FITTING)
 
-    def test_classes(self):
-        self.assertTrue(issubclass(Refused, ValueError))
-        self.assertTrue(issubclass(DivisionByZero, ZeroDivisionError) and issubclass(DivisionByZero, Refused))
-        self.assertTrue(issubclass(NotFitting, OverflowError) and issubclass(NotFitting, Refused))
-        self.assertFalse(issubclass(Refused, (ArithmeticError, ZeroDivisionError)))
-
     def test_copies(self):
         """A copy, and what another process gets, is the same error."""
         for error in self.each():
@@ -210,10 +205,8 @@ class Names(unittest.TestCase):
                 continue
             for first in odd:
                 for others in ((), (first,), (first, 1), (first, 1, 1), (1, first, 1, 1), (first, 1, 1, 1, first), (1,) * 9):
-                    try:
+                    with contextlib.suppress(TypeError, ValueError, OverflowError, ZeroDivisionError):
                         call(first, *others)
-                    except (TypeError, ValueError, OverflowError, ZeroDivisionError):
-                        pass
 
 
 if __name__ == '__main__':

@@ -52,8 +52,8 @@ impl SignedRange for CentsRange {
 /// An amount of at most ten thousand million, in cents.
 pub type Cents = Bounded<CentsRange>;
 
-/// Returns the first departure at or after a minute, or `None` if there is none on that day or the interval is 0. One
-/// leaves at midnight, and one after each interval.
+/// Returns the first departure at or after a minute. Returns `None` if there are no more departures on that day, or if
+/// the interval is 0. The first one is at midnight, and the next ones are an interval apart.
 pub fn next_departure(from: Minutes, interval: Minutes) -> Option<Minutes>
     ensures { MatchOption result
         (¬ ((interval.number ≢ pos 0) × EachFits (Between (pos 0) (pos 1439)) (IsMultiple IsCeiled from.number interval.number)))

@@ -410,6 +410,21 @@ pub fn second_friday_of_month(year: i64, month: u8) -> Date
     nth_weekday_of_month(year, month, Weekday::Friday, 2).unwrap()
 }
 
+/// Returns the n-th day of the week in two months of a year: the second Tuesdays, say. Each month has the first four. As this
+/// is so for each two months, the twelve of a year are in order.
+#[tactic(auto, using(calendar::proofs::ForCallers::later_month))]
+pub fn in_two_months(year: i64, first: u8, second: u8, weekday: Weekday, n: u8) -> (Date, Date)
+    requires months { (1 ≤ first) × (first < second) × (second ≤ 12) }
+    requires within { (1 ≤ n) × (n ≤ 4) }
+    ensures earlier { IsNthWeekday year first weekday n result.0 }
+    ensures later { IsNthWeekday year second weekday n result.1 }
+    ensures in_order { number_of result.0 <ℤ number_of result.1 }
+{
+    let earlier = nth_weekday_of_month(year, first, weekday, n).unwrap();
+    let later = nth_weekday_of_month(year, second, weekday, n).unwrap();
+    (earlier, later)
+}
+
 /// Returns the second Tuesday of a month, or `None` if `month` is not from 1 to 12.
 pub fn second_tuesday(year: i64, month: u8) -> Option<Date>
     ensures { MatchOption result (¬ ((1 ≤ month) × (month ≤ 12)))

@@ -1,12 +1,12 @@
 //! Functions that call `ratio64`.
 
-ghost use Rattle.std.specs.Prelude.{◌≡◌, ◌≢◌, ◌↔◌, ◌⊎◌, ◌<◌, ◌≤◌, ◌<ℤ◌, ◌+ℤ◌, ◌*ℤ◌, ◌^◌, Err, FitsSigned, IfErr, IfOk, IsOk, MatchOption, Ok, neg_ℤ, pos, unsigned_abs, ℤ};
+ghost use Rattle.std.specs.Prelude.{◌≡◌, ◌≢◌, ◌↔◌, ◌⊎◌, ◌<◌, ◌≤◌, ◌<ℤ◌, ◌≤ℤ◌, ◌+ℤ◌, ◌*ℤ◌, ◌^◌, Err, FitsSigned, IfErr, IfOk, IsOk, MatchOption, Ok, neg_ℤ, pos, unsigned_abs, ℤ};
 ghost use Rattle.std.specs.Int.{int_signum, w64};
 ghost use Rattle.num_integer.specs.Division.{IsCeiled, IsFloored, IsQuotient, IsRemainder, IsTruncated};
 ghost use Rattle.num_integer.specs.Divisors.{IsGreatestCommonDivisor};
 ghost use Rattle.num_integer.specs.Range.{EachFits};
 ghost use Rattle.ratio64.specs.Fraction.{IsExact, IsFraction, IsOutsideI64, IsReduced};
-ghost use Rattle.ratio64.specs.Limiting.{IsNearestWithin};
+ghost use Rattle.ratio64.specs.Limiting.{AreNearestParts, IsNearestWithin};
 ghost use Rattle.ratio64.specs.Ratio.{AnswersFraction, den_of, num_of};
 ghost use Rattle.ratio64.specs.Rounding.{AnswersInParts, IsRounded};
 ghost use Rattle.ratio64.specs.declared.fraction.Ratio.{Ratio};
@@ -39,7 +39,30 @@ pub fn gear_pair(num: i64, den: i64, max_teeth: i64) -> (i64, i64)
     (ratio.num(), ratio.den())
 }
 
+/// `gears(314159, 100000, 120)` is `(22, 7)`. Returns the nearest pair to `num / den` in lowest terms, with at most `max_teeth`
+/// teeth on each gear.
+pub fn gears(num: i64, den: i64, max_teeth: i64) -> (i64, i64)
+    requires den { pos 0 <ℤ den }
+    requires teeth { pos 0 <ℤ max_teeth }
+    ensures reduced { IsReduced result.0 result.1 }
+    ensures nearest { AreNearestParts num den max_teeth result.0 result.1 }
+{
+    let ratio = Ratio::new(num, den).unwrap().limit_parts(max_teeth);
+    (ratio.num(), ratio.den())
+}
+
 // ---- results as a caller uses them, with no proof file
+
+/// Returns the nearest pair of gears to a ratio, with at most `max_teeth` teeth on each.
+pub fn gears_of(ratio: &Ratio, max_teeth: i64) -> (i64, i64)
+    requires { pos 0 <ℤ max_teeth }
+    ensures nearest { AreNearestParts (num_of ratio.now) (den_of ratio.now) max_teeth result.0 result.1 }
+    ensures first { result.0 ≤ℤ max_teeth }
+    ensures second { result.1 ≤ℤ max_teeth }
+{
+    let nearest = ratio.limit_parts(max_teeth);
+    (nearest.num(), nearest.den())
+}
 
 /// Returns the parts, the floor and the ceiling of 6 / -4: `Ok((-3, 2, -2, -1))`.
 pub fn parts_floor_and_ceil_of_minus_three_halves() -> Result<(i64, i64, i64, i64), RatioError>

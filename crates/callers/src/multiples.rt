@@ -58,8 +58,8 @@ pub fn revolutions(a: u32, b: u32) -> Option<(u32, u32)>
     requires b { 0 < b }
     ensures { MatchOption result
         (¬ (EachFits (FitsUnsignedBits 32) (IsLeastCommonMultiple (pos a) (pos b))))
-        (λ iterations. (0 < iterations.0) × (iterations.0 * a ≡ iterations.1 * b)
-        × ((x y : ℕ) → 0 < x → x * a ≡ y * b → (iterations.0 ≤ x) × (iterations.1 ≤ y))) }
+        (λ turns. (0 < turns.0) × (turns.0 * a ≡ turns.1 * b)
+        × ((x y : ℕ) → 0 < x → x * a ≡ y * b → (turns.0 ≤ x) × (turns.1 ≤ y))) }
 {
     if a.lcm_fits(&b) {
         let teeth = a.lcm(&b);

@@ -9,7 +9,7 @@ use Rattle.num_integer.specs.Division.{IsCeiled, IsFloored, IsMultiple, IsQuotie
 use Rattle.num_integer.specs.Divisors.{IsGreatestCommonDivisor, IsLeastCommonMultiple}
 use Rattle.num_integer.specs.Only.{IsOnly}
 use Rattle.num_integer.specs.RootOf.{IsRoot}
-use Rattle.num_integer.proofs.Laws.{average_ceil_is_only, average_floor_is_only, bezout_answer_is_only, division_is_only, gcd_is_only, lcm_is_only, root_is_only}
+use Rattle.num_integer.proofs.Laws.{average_ceil_is_only, average_floor_is_only, bezout_answer_is_only, division_is_only, gcd_is_only, lcm_is_only, multiple_is_only, quotient_is_only, remainder_is_only, root_is_only}
 use Rattle.intcalc_core.specs.declared.calls.Answer.{Answer}
 use Rattle.intcalc_core.specs.declared.calls.Answer.TheVariants.{Two, Three}
 use Rattle.intcalc_core.specs.declared.calls.Call.{Call}
@@ -49,17 +49,6 @@ only_truth false true h k = absurd (true≢false (sym (h.1 (k.0 refl))))
 only_whether : {P : Type 0} {r s : Result Answer Refusal} → AnswersWhether P r → AnswersWhether P s → s ≡ r
 only_whether h k = let e = only_truth h.truth k.truth h.tells k.tells in cc
 
--- a kind of division with one quotient and remainder has one multiple
-module _ {Kind : ℤ → ℤ → ℤ → ℤ → Type 0} (only : (n d q r : ℤ) → Kind n d q r → IsOnly (λ (p, s). Kind n d p s) (q, r)) (n d : ℤ) where
-  only_quotient : (q : ℤ) → IsQuotient Kind n d q → IsOnly (IsQuotient Kind n d) q
-  only_quotient q h p k = ap (λ (t : ℤ × ℤ). t.0) (only n d q h.remainder h.division (p, k.remainder) k.division)
-
-  only_remainder : (r : ℤ) → IsRemainder Kind n d r → IsOnly (IsRemainder Kind n d) r
-  only_remainder r h s k = ap (λ (t : ℤ × ℤ). t.1) (only n d h.quotient r h.division (k.quotient, s) k.division)
-
-  only_multiple : (m : ℤ) → IsMultiple Kind n d m → IsOnly (IsMultiple Kind n d) m
-  only_multiple m h l k = k.product ∙ ap (λ (q : ℤ). q *ℤ d) (only_quotient h.quotient h.is k.quotient k.is) ∙ sym h.product
-
 only_gcd_and_lcm : (a b g l : ℤ) → AreGcdAndLcm a b g l → IsOnly (λ (h, m). AreGcdAndLcm a b h m) (g, l)
 only_gcd_and_lcm a b g l h (i, m) k = rw (gcd_is_only a b g h.greatest i k.greatest, lcm_is_only a b l h.least m k.least) refl
 
@@ -71,11 +60,11 @@ only_of_fitting : (fits : ℤ → Type 0) (call : Call) (r s : Result Answer Ref
 unfolding OutcomeOfFitting
 only_of_fitting fits (DivRem n d) r s = only_needs (only_needs (only_two (IsTruncated n d) (division_is_only.0 n d)))
 only_of_fitting fits (DivModFloor n d) r s = only_needs (only_needs (only_two (IsFloored n d) (division_is_only.1 n d)))
-only_of_fitting fits (DivFloor n d) r s = only_needs (only_needs (only_one (IsQuotient IsFloored n d) (only_quotient division_is_only.1 n d)))
-only_of_fitting fits (DivCeil n d) r s = only_needs (only_needs (only_one (IsQuotient IsCeiled n d) (only_quotient division_is_only.2 n d)))
-only_of_fitting fits (ModFloor n d) r s = only_needs (only_one (IsRemainder IsFloored n d) (only_remainder division_is_only.1 n d))
-only_of_fitting fits (NextMultipleOf n d) r s = only_needs (only_needs (only_one (IsMultiple IsCeiled n d) (only_multiple division_is_only.2 n d)))
-only_of_fitting fits (PrevMultipleOf n d) r s = only_needs (only_needs (only_one (IsMultiple IsFloored n d) (only_multiple division_is_only.1 n d)))
+only_of_fitting fits (DivFloor n d) r s = only_needs (only_needs (only_one (IsQuotient IsFloored n d) (quotient_is_only.1 n d)))
+only_of_fitting fits (DivCeil n d) r s = only_needs (only_needs (only_one (IsQuotient IsCeiled n d) (quotient_is_only.2 n d)))
+only_of_fitting fits (ModFloor n d) r s = only_needs (only_one (IsRemainder IsFloored n d) (remainder_is_only.1 n d))
+only_of_fitting fits (NextMultipleOf n d) r s = only_needs (only_needs (only_one (IsMultiple IsCeiled n d) (multiple_is_only.2 n d)))
+only_of_fitting fits (PrevMultipleOf n d) r s = only_needs (only_needs (only_one (IsMultiple IsFloored n d) (multiple_is_only.1 n d)))
 only_of_fitting fits (IsMultipleOf n d) r s = only_whether
 only_of_fitting fits (Gcd a b) r s = only_needs (only_one (IsGreatestCommonDivisor a b) (gcd_is_only a b))
 only_of_fitting fits (Lcm a b) r s = only_needs (only_one (IsLeastCommonMultiple a b) (lcm_is_only a b))

@@ -80,27 +80,8 @@ fn long_product(x: u128, y: u128, m: u128) -> u128
     requires below { x < m }
     ensures { IsNaturalRemainder (x * y) m result }
 {
-    let places = leading_places(m);
-    normalized_product(shifted_left(x, places), y, shifted_left(m, places)) >> places
-}
-
-/// Returns the number of zero bits before the highest bit of `m`.
-#[tactic(auto, using(crate::proofs::LongDivision::places_fit))]
-fn leading_places(m: u128) -> u32
-    requires { 0 < m }
-    ensures places { result < 128 }
-    ensures fits { m * 2 ^ result < 2 ^ 128 }
-{
-    m.leading_zeros()
-}
-
-/// Returns `x` times 2 to the power `places`.
-fn shifted_left(x: u128, places: u32) -> u128
-    requires places { places < 128 }
-    requires fits { x * 2 ^ places < 2 ^ 128 }
-    ensures { result ≡ x * 2 ^ places }
-{
-    x << places
+    let places = m.leading_zeros();
+    normalized_product(x << places, y, m << places) >> places
 }
 
 /// Returns the product of two numbers modulo `m`. The first is smaller than `m`.

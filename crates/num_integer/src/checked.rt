@@ -1,5 +1,6 @@
-//! The calls that have a condition, without it. Each returns `Some` of the result if the plain call of
-//! the same name may be made, and else `None`. Only `product_div_mod_floor` has no plain call.
+//! Calls without a precondition. Each returns `Some` of the result if the precondition of the plain call of
+//! the same name holds, and else `None`. For `row` the plain call is `IterBinomial::new`. A call that stands only
+//! here, such as `product_div_mod_floor`, says itself when it returns `None`.
 
 mod coefficients;
 mod division;

@@ -14,7 +14,7 @@ use num_traits::{Num, Number, One, Signed, Zero};
 use std::cmp::Ordering;
 use std::ops::{Add, Div, Mul, Neg, Rem, Sub};
 
-/// How a type stores its numbers, which are those from `low` to `high`.
+/// How a type stores its numbers, which are those from `low` to `high`. `low` is `-high`.
 pub trait Form: Copy {
     ghost low: { ℤ };
 
@@ -65,6 +65,8 @@ pub trait Form: Copy {
 
     // The products of two numbers stay far within an `i64`.
     ghost small_law: { Between (negsuc 999) (pos 1000) Self.low × Between (negsuc 999) (pos 1000) Self.high };
+
+    ghost sign_law: { Self.low ≡ neg_ℤ Self.high };
 }
 
 /// A number, stored in the form `F`. It is compared by the number and not by what is stored, so
@@ -352,24 +354,19 @@ impl<F: Form> Fits for Own<F> {
 
 impl<F: Form> Modular for Own<F> {}
 
-/// A form whose smallest number is minus the largest.
-pub trait SignedForm: Form {
-    ghost sign_law: { Self.low ≡ neg_ℤ Self.high };
-}
-
-impl<F: SignedForm> Neg for Own<F> {
+impl<F: Form> Neg for Own<F> {
     type Output = Own<F>;
 
     ghost can_neg = { λ a. ⊤ };
 
-    ghost neg_gives = { λ a r. F.Form.meaning r.form ≡ neg_ℤ (F.Form.meaning a.form) };
+    ghost neg_gives = { λ a r. F.meaning r.form ≡ neg_ℤ (F.meaning a.form) };
 
     fn neg(self) -> Own<F> {
         self.answer(&self, -self.number())
     }
 }
 
-impl<F: SignedForm> Signed for Own<F> {
+impl<F: Form> Signed for Own<F> {
     fn abs(&self) -> Own<F> {
         self.answer(self, self.number().abs())
     }

@@ -1,67 +1,10 @@
-//! How the types from -7 to 7 and from -100 to 100, and those of one bit and of two, store their
-//! numbers.
+//! How two types store their numbers: one negated, the other beside a byte.
 
-ghost use Rattle.std.specs.Prelude.{◌≡◌, ◌≤◌, pos, negsuc, neg_ℤ, refl};
-ghost use Rattle.std.proofs.Common.{rules, inl, inr, lit≤};
+ghost use Rattle.std.specs.Prelude.{◌≡◌, pos, negsuc, neg_ℤ, refl};
+ghost use Rattle.std.proofs.Common.{rules, inl, inr};
 ghost use Rattle.num_integer.specs.Between.{Between, between_range};
 
-use super::form::{Form, Own, SignedForm};
-
-/// From -7 to 7.
-#[derive(Clone, Copy)]
-pub struct SmallForm {
-    number: i8,
-    ghost in_range: { Between (negsuc 6) (pos 7) number },
-}
-
-impl Form for SmallForm {
-    ghost low = { negsuc 6 };
-
-    ghost high = { pos 7 };
-
-    ghost meaning = { λ x. x.number };
-
-    ghost zero = { record { number = pos 0; in_range = (record { le = tt }, record { le = tt }) } };
-
-    ghost one = { record { number = pos 1; in_range = (record { le = tt }, record { le = tt }) } };
-
-    fn zero() -> SmallForm {
-        SmallForm { number: 0 }
-    }
-
-    fn one() -> SmallForm {
-        SmallForm { number: 1 }
-    }
-
-    fn number(&self) -> i64 {
-        i64::from(self.number)
-    }
-
-    fn store(number: i64) -> SmallForm {
-        SmallForm {
-            number: number as i8,
-        }
-    }
-
-    fn ends() -> (u128, u128) {
-        (7, 7)
-    }
-
-    ghost zero_law = { refl };
-
-    ghost one_law = { refl };
-
-    ghost number_law = { Prim.search rules };
-
-    ghost form_law = { between_range (negsuc 6) (pos 7) (inr (inl refl)) (record { le = tt })
-        (record { lt = tt }) (inr (record { lt = tt })) };
-
-    ghost small_law = { Prim.search rules };
-}
-
-impl SignedForm for SmallForm {
-    ghost sign_law = { refl };
-}
+use super::form::{Form, Own};
 
 /// From -7 to 7, stored negated.
 #[derive(Clone, Copy)]
@@ -113,9 +56,7 @@ impl Form for NegatedForm {
         (record { lt = tt }) (inr (record { lt = tt })) };
 
     ghost small_law = { Prim.search rules };
-}
 
-impl SignedForm for NegatedForm {
     ghost sign_law = { refl };
 }
 
@@ -198,112 +139,6 @@ impl Form for MarkedForm {
         (record { lt = tt }) (inr (record { lt = tt })) };
 
     ghost small_law = { Prim.search rules };
-}
 
-impl SignedForm for MarkedForm {
     ghost sign_law = { refl };
-}
-
-/// 0 and 1.
-#[derive(Clone, Copy)]
-pub struct OneBitForm {
-    number: u8,
-    ghost in_range: { number ≤ 1 },
-}
-
-impl Form for OneBitForm {
-    ghost low = { pos 0 };
-
-    ghost high = { pos 1 };
-
-    ghost meaning = { λ x. pos x.number };
-
-    ghost zero = { record { number = 0; in_range = lit≤ tt } };
-
-    ghost one = { record { number = 1; in_range = lit≤ tt } };
-
-    fn zero() -> OneBitForm {
-        OneBitForm { number: 0 }
-    }
-
-    fn one() -> OneBitForm {
-        OneBitForm { number: 1 }
-    }
-
-    fn number(&self) -> i64 {
-        i64::from(self.number)
-    }
-
-    fn store(number: i64) -> OneBitForm {
-        OneBitForm {
-            number: number as u8,
-        }
-    }
-
-    fn ends() -> (u128, u128) {
-        (0, 1)
-    }
-
-    ghost zero_law = { refl };
-
-    ghost one_law = { refl };
-
-    ghost number_law = { Prim.search rules };
-
-    ghost form_law = { between_range (pos 0) (pos 1) (inl refl) (record { le = tt })
-        (record { lt = tt }) (inl (record { le = tt })) };
-
-    ghost small_law = { Prim.search rules };
-}
-
-/// From 0 to 3.
-#[derive(Clone, Copy)]
-pub struct TwoBitsForm {
-    number: u8,
-    ghost in_range: { number ≤ 3 },
-}
-
-impl Form for TwoBitsForm {
-    ghost low = { pos 0 };
-
-    ghost high = { pos 3 };
-
-    ghost meaning = { λ x. pos x.number };
-
-    ghost zero = { record { number = 0; in_range = lit≤ tt } };
-
-    ghost one = { record { number = 1; in_range = lit≤ tt } };
-
-    fn zero() -> TwoBitsForm {
-        TwoBitsForm { number: 0 }
-    }
-
-    fn one() -> TwoBitsForm {
-        TwoBitsForm { number: 1 }
-    }
-
-    fn number(&self) -> i64 {
-        i64::from(self.number)
-    }
-
-    fn store(number: i64) -> TwoBitsForm {
-        TwoBitsForm {
-            number: number as u8,
-        }
-    }
-
-    fn ends() -> (u128, u128) {
-        (0, 3)
-    }
-
-    ghost zero_law = { refl };
-
-    ghost one_law = { refl };
-
-    ghost number_law = { Prim.search rules };
-
-    ghost form_law = { between_range (pos 0) (pos 3) (inl refl) (record { le = tt })
-        (record { lt = tt }) (inl (record { le = tt })) };
-
-    ghost small_law = { Prim.search rules };
 }

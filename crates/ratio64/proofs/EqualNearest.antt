@@ -1,4 +1,4 @@
--- Equal fractions have the same nearest fraction with a small denominator.
+-- Equal fractions have the same nearest fraction with a small denominator, and with two small parts.
 use Rattle.std.specs.Prelude.{◌≡◌, ◌<◌, ◌≤◌, ◌*◌, ◌<ℤ◌, ◌-ℤ◌, ◌*ℤ◌, ℕ, ℤ, pos, unsigned_abs}
 use Rattle.std.proofs.Common.{ap, arith, mul-le-mul_left, ◌∙◌}
 use Rattle.std.proofs.Math.Nat.{eq_of_mul-eq-mul_left}
@@ -6,7 +6,7 @@ use Rattle.std.proofs.lemmas.Int.{ints, unsigned_abs-mul}
 use Rattle.num_integer.proofs.ForCallers.{expand, factor_positive}
 use Rattle.ratio64.proofs.FittingParts.{common_factor}
 use Rattle.ratio64.specs.Fraction.{IsExact}
-use Rattle.ratio64.specs.Limiting.{IsNearestWithin, gap}
+use Rattle.ratio64.specs.Limiting.{AreNearestParts, IsNearestWithin, gap}
 use Rattle.ratio64.specs.Laws as law
 
 -- the gap from a fraction grows with its common factor
@@ -33,6 +33,24 @@ nearest_of_equal {a} {b} {n} {d} {max} {x} {y} b_up exact h =
           (mul-le-mul_left (unsigned_abs s) (h.nearest u v v_up within));
       tie = λ u v v_up within e.
           h.tie u v v_up within (eq_of_mul-eq-mul_left (unsigned_abs s) size _ _
+          (rw (grown x y, grown u v, moved (gap n d x y) (unsigned_abs s) (unsigned_abs v), moved (gap n d u v) (unsigned_abs s) (unsigned_abs y)) at e));
+    }
+
+-- So are the nearest parts.
+pub nearest_parts_of_equal : {a b n d max x y : ℤ} → pos 0 <ℤ b → IsExact a b n d → AreNearestParts n d max x y → AreNearestParts a b max x y
+nearest_parts_of_equal {a} {b} {n} {d} {max} {x} {y} b_up exact h =
+    let (s, num, den) = common_factor exact in
+    let up : pos 0 <ℤ s = factor_positive b_up exact.reduced.positive den in
+    let size : 0 < unsigned_abs s = omega (arith, ints) in
+    let grown : (u v : ℤ) → gap a b u v ≡ gap n d u v * unsigned_abs s = λ u v. let same : gap a b u v ≡ gap (n *ℤ s) (d *ℤ s) u v = cc in same ∙ gap_times n d s u v in
+    record {
+      positive = h.positive;
+      bounded = h.bounded;
+      nearest = λ u v v_up within u_within.
+          rw (grown x y, grown u v, moved (gap n d x y) (unsigned_abs s) (unsigned_abs v), moved (gap n d u v) (unsigned_abs s) (unsigned_abs y))
+          (mul-le-mul_left (unsigned_abs s) (h.nearest u v v_up within u_within));
+      tie = λ u v v_up within u_within e.
+          h.tie u v v_up within u_within (eq_of_mul-eq-mul_left (unsigned_abs s) size _ _
           (rw (grown x y, grown u v, moved (gap n d x y) (unsigned_abs s) (unsigned_abs v), moved (gap n d u v) (unsigned_abs s) (unsigned_abs y)) at e));
     }
 

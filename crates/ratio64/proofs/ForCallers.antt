@@ -25,9 +25,9 @@ pub use Rattle.ratio64.proofs.EqualFractions.{equal_exact, equal_fractions_answe
 -- ---- equal fractions, rounded
 
 pub use Rattle.ratio64.proofs.EqualQuotients.{equal_times, equal_floored, equal_ceiled, equal_rounded, floored_in_parts, ceiled_in_parts, rounded_in_parts}
--- ---- equal fractions and small denominators
+-- ---- equal fractions, small denominators and small parts
 
-pub use Rattle.ratio64.proofs.EqualNearest.{nearest_of_equal}
+pub use Rattle.ratio64.proofs.EqualNearest.{nearest_of_equal, nearest_parts_of_equal}
 -- ---- powers
 
 pub use Rattle.ratio64.proofs.FractionPowers.{base_fits, equal_powers, power_nonzero, power_of_product, power_reduced}

@@ -1,10 +1,11 @@
 -- The laws of specs/Laws.antt, by their names in small letters: lemmas of this file, and lemmas from elsewhere that are passed on.
-use Rattle.std.specs.Prelude.{◌≡◌, ◌*ℤ◌}
+use Rattle.std.specs.Prelude.{◌≡◌, ◌*ℤ◌, unsigned_abs}
 use Rattle.std.specs.Cmp.{int_cmp_is}
 use Rattle.std.specs.declared.cmp.Ordering.TheVariants.{Less}
 use Rattle.std.proofs.Common.{arith, refl, sym}
 use Rattle.num_integer.proofs.ForCallers.{linear, multiples_apart}
 use Rattle.ratio64.proofs.ExactResults as results
+use Rattle.ratio64.proofs.NearestParts.{same_numerator}
 use Rattle.ratio64.specs.Laws as law
 use Rattle.ratio64.specs.ReducedPairs.{equal_where_same}
 pub use Rattle.ratio64.proofs.EqualFractions.{equal_products as products_of_equal_fractions, equal_sums as sums_of_equal_fractions}
@@ -43,4 +44,16 @@ nearest_is_only = λ n d max num den x (u, v) y.
     let other_tie = y.tie num den x.positive x.bounded (omega arith) in
     let same_den : v ≡ den = omega (arith, linear, tie.0, other_tie.0) in
     let same_num : u ≡ num = omega (arith, linear, tie.1 same_den, other_tie.1 (sym same_den)) in
+    rw (same_num, same_den) refl
+
+-- two nearest fractions tie, so their denominators are equal, and then the sizes of their numerators
+pub nearest_parts_are_only : law.NearestPartsAreOnly
+nearest_parts_are_only = λ n d max num den x (u, v) y.
+    let near = x.nearest u v y.positive y.bounded.0 y.bounded.1 in
+    let other_near = y.nearest num den x.positive x.bounded.0 x.bounded.1 in
+    let tie = x.tie u v y.positive y.bounded.0 y.bounded.1 (omega arith) in
+    let other_tie = y.tie num den x.positive x.bounded.0 x.bounded.1 (omega arith) in
+    let same_den : v ≡ den = omega (arith, linear, tie.0, other_tie.0) in
+    let same_size : unsigned_abs u ≡ unsigned_abs num = omega (arith, tie.1 same_den, other_tie.1 (sym same_den)) in
+    let same_num = same_numerator x (rw same_den at y) same_size in
     rw (same_num, same_den) refl

@@ -19,3 +19,4 @@ pub mod NearestNumbers
 pub mod NeighbourIterations
 pub mod NearerNeighbour
 pub mod LimitedDenominators
+pub mod NearestParts

@@ -128,11 +128,11 @@ nearer_is_limited {n} {d} {max} {x} {y} h none near =
     elim near.is [
       | inl k ↦
           let lower : y.den ≡ x.den → x.num ≤ y.num = λ same. le_of_mul-le-mul_right {m = x.num} {n = y.num} {k = x.den} (omega (arith, rw same at h.adjacent)) h.dens.0 in
-          let own = nearest_of {n = n} {d = d} {max = max} {x = x} {y = y} (pos 1) refl (omega (arith, products)) (up, h.dens.0, h.dens.1) (h.bounded.0, none) k.1 (λ tie. (k.2 tie, lower)) in
+          let own = nearest_of {n = n} {d = d} {max = max} {x = x} {y = y} (pos 1) refl (omega (arith, products)) (up, h.dens.0, h.dens.1) h.gaps.1 (h.bounded.0, none) k.1 (λ tie. (k.2 tie, lower)) in
           rw k.0 (record { nearest = own.0; reduced = own.1; bounded = h.bounded.0; part = part.0 })
       | inr k ↦
           let less : y.gap * x.den ≡ x.gap * y.den → (y.den ≤ x.den) × (x.den ≡ y.den → y.num ≤ x.num) = λ tie. let strict = k.2 tie in (omega arith, λ same. absurd (omega arith)) in
-          let own = nearest_of {n = n} {d = d} {max = max} {x = y} {y = x} (negsuc 0) refl (omega (arith, products)) (up, h.dens.1, h.dens.0) (h.bounded.1, omega arith) k.1 less in
+          let own = nearest_of {n = n} {d = d} {max = max} {x = y} {y = x} (negsuc 0) refl (omega (arith, products)) (up, h.dens.1, h.dens.0) h.gaps.0 (h.bounded.1, omega arith) k.1 less in
           rw k.0 (record { nearest = own.0; reduced = own.1; bounded = h.bounded.1; part = part.1 })
     ]
 

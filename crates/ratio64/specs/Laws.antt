@@ -6,7 +6,7 @@ use Rattle.std.specs.declared.cmp.Ordering.TheVariants.{Equal, Less}
 use Rattle.num_integer.specs.Only.{IsOnly}
 use Rattle.ratio64.specs.Decimal.{SpellsDecimal, decimal_text, places_of, units_of}
 use Rattle.ratio64.specs.Fraction.{AreEqual, IsExact, IsFraction, IsReduced, fraction_cmp}
-use Rattle.ratio64.specs.Limiting.{IsNearestWithin}
+use Rattle.ratio64.specs.Limiting.{AreNearestParts, IsNearestWithin}
 use Rattle.ratio64.specs.Ratio.{AnswersFraction, num_of, den_of, text_of}
 use Rattle.ratio64.specs.RatioText.{ReadsFraction}
 use Rattle.ratio64.specs.Rounding.{IsRounded, IsRoundedEven}
@@ -74,6 +74,12 @@ NearestIsOnly = (n d max num den : ℤ) → IsNearestWithin n d max num den → 
 -- What is nearest to the exact result of a fraction with a positive denominator is nearest to the fraction itself.
 abbrev pub NearestToExactResult : Type 0
 NearestToExactResult = (a b num den max x y : ℤ) → pos 0 <ℤ b → IsExact a b num den → IsNearestWithin num den max x y → IsNearestWithin a b max x y
+
+-- ---- two small parts
+
+-- Each fraction has at most one nearest fraction with two small parts.
+abbrev pub NearestPartsAreOnly : Type 0
+NearestPartsAreOnly = (n d max num den : ℤ) → AreNearestParts n d max num den → IsOnly (λ (u, v). AreNearestParts n d max u v) (num, den)
 
 -- ---- sums and products
 

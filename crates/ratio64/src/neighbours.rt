@@ -1,6 +1,8 @@
 //! The two neighbours of a fraction among those with small denominators, and the nearer of the two.
 
-ghost use Rattle.std.specs.Prelude.{◌≡◌, ◌+◌, ◌*◌, ◌^◌, ◌<◌, ◌≤◌, ℕ};
+ghost use Rattle.std.specs.Prelude.{◌≡◌, ◌⊎◌, ◌+◌, ◌*◌, ◌^◌, ◌<◌, ◌≤◌, pos, ℕ};
+ghost use Rattle.ratio64.specs.Fraction.{IsReduced};
+ghost use Rattle.ratio64.specs.Limiting.{AreNearestParts};
 ghost use Rattle.ratio64.specs.Neighbours.{AreNeighbours, IsCloser, IsNearer};
 
 /// A fraction beside another one. Its gap is the distance of the two, times both denominators.
@@ -11,13 +13,28 @@ pub(crate) struct Neighbour {
     pub(crate) gap: u64,
 }
 
+impl Neighbour {
+    /// Returns the reciprocal of the neighbour, beside the reciprocal of the fraction. The gap is the same.
+    const fn reciprocal(self) -> Self
+        ensures num { result.num ≡ self.den }
+        ensures den { result.den ≡ self.num }
+        ensures gap { result.gap ≡ self.gap }
+    {
+        Self {
+            num: self.den,
+            den: self.num,
+            gap: self.gap,
+        }
+    }
+}
+
 /// Returns the neighbours of `num / den`: the largest fraction below it and the smallest one above it
 /// whose denominators are at most `max`. The larger gap falls at each iteration, as in Euclid's algorithm.
 pub(crate) fn neighbours(num: u64, den: u64, max: u64) -> (Neighbour, Neighbour)
     requires positive { 0 < max }
     requires above_max { max < den }
     requires proper { num < den }
-    requires half { den < 2 ^ 63 }
+    requires half { den ≤ 2 ^ 63 }
     requires lowest { (a b : ℕ) → 0 < b → num * b ≡ a * den → den ≤ b }
     ensures neighbours { AreNeighbours num den max result.0 result.1 }
     ensures none_between { max < result.0.den + result.1.den }
@@ -72,4 +89,23 @@ pub(crate) fn nearer(below: Neighbour, above: Neighbour) -> Neighbour
         below_gap < above_gap
     };
     if is_below { below } else { above }
+}
+
+/// Returns the nearest fraction to `num / den` whose parts are at most `max`. If the numerator is the larger part, the limit
+/// on the numerators decides. Those neighbours are the reciprocals of the neighbours of `den / num`.
+pub(crate) fn nearest_parts(num: u64, den: u64, max: u64) -> Neighbour
+    requires positive { 0 < max }
+    requires above_max { (max < num) ⊎ (max < den) }
+    requires half { (num ≤ 2 ^ 63) × (den ≤ 2 ^ 63) }
+    requires lowest { IsReduced (pos num) (pos den) }
+    ensures nearest { AreNearestParts (pos num) (pos den) (pos max) (pos result.num) (pos result.den) }
+    ensures reduced { IsReduced (pos result.num) (pos result.den) }
+{
+    if num < den {
+        let (below, above) = neighbours(num, den, max);
+        nearer(below, above)
+    } else {
+        let (below, above) = neighbours(den, num, max);
+        nearer(above.reciprocal(), below.reciprocal())
+    }
 }

@@ -16,12 +16,12 @@ use lines::{check, replay, replay_library};
 
 #[test]
 fn signed_types(rt: HostRuntime) {
-    replay(&rt, rt.alloc(), &list::LINES[..list::SIGNED]);
+    replay(&rt, rt.alloc(), list::SIGNED);
 }
 
 #[test]
 fn unsigned_types(rt: HostRuntime) {
-    replay(&rt, rt.alloc(), &list::LINES[list::SIGNED..]);
+    replay(&rt, rt.alloc(), list::UNSIGNED);
 }
 
 #[test]

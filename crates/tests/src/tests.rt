@@ -1,13 +1,11 @@
-//! Tests by subject. `rows.rt` says how their rows are read.
+//! Tests by subject. `worked_rows.rt` has the rows of all calls, and `rows.rt` says how they are read.
 
 mod averages;
 mod calls;
-mod checked;
 mod coefficients;
 mod cookbook;
 mod dates;
 mod days;
-mod division;
 mod divisors;
 mod ends;
 mod fractions;
@@ -15,7 +13,6 @@ mod multiples;
 mod own_pairs;
 mod own_values;
 mod pairs;
-mod parity;
 mod program;
 mod residues;
 mod results;
@@ -24,3 +21,4 @@ mod rows;
 mod schedules;
 mod shares;
 mod type_ends;
+mod worked_rows;

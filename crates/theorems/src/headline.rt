@@ -18,7 +18,7 @@
 //! | `inc` adds one, and `dec` subtracts one | [`one_more`], [`one_less`] |
 //! | an lcm is a multiple of both, and divides every such number | [`least_common_multiple`], [`gcd_and_lcm`], [`bezout_pair_and_lcm`] |
 //! | an average is rounded down or up, and never overflows | [`averages`] |
-//! | each test of a domain is true exactly there | [`domain_of_quotients`], [`domains_of_multiples`], [`domains_of_divisors`], [`domain_of_bezout_pair`], [`domains_of_operators`], [`domain_of_binomial`], [`domain_of_multinomial`] |
+//! | each test of a precondition is true exactly if it holds | [`domain_of_quotients`], [`domains_of_multiples`], [`domains_of_divisors`], [`domain_of_bezout_pair`], [`domains_of_operators`], [`domain_of_binomial`], [`domain_of_multinomial`] |
 //! | `parts` returns the sign and the magnitude, and `ends` the ends of the type | [`parts_of_number`], [`ends_of_type`] |
 //! | the loop of a gcd makes at most as many iterations as the two bit lengths added | [`iterations_for_gcd`] |
 //! | the loop of a pair makes at most as many iterations as Lamé's theorem says | [`iterations_for_bezout_pair`] |

@@ -94,6 +94,7 @@ pub fn laws_of_fractions()
     ensures rounded_even_is_only { fractions.RoundedEvenIsOnly }
     ensures nearest_is_only { fractions.NearestIsOnly }
     ensures nearest_to_exact_result { fractions.NearestToExactResult }
+    ensures nearest_parts_are_only { fractions.NearestPartsAreOnly }
     ensures sums_of_equal_fractions { fractions.SumsOfEqualFractions }
     ensures products_of_equal_fractions { fractions.ProductsOfEqualFractions }
     ensures decimal_is_spelled { fractions.DecimalIsSpelled }

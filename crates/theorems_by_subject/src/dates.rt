@@ -137,7 +137,7 @@ pub fn printed<W: fmt::Write>(date: &Date, f: &mut fmt::Formatter<W>) -> fmt::Re
     write!(f, "{date}")
 }
 
-/// Parses a string. The result is a date exactly if the string is that of the date, and otherwise it is an error.
+/// Parses a string. The result is the date that prints this string, or an error if no date does.
 pub fn parsed(text: &str) -> Result<Date, DateError>
     ensures { (date : Date) → FitsSigned w64 date.year → (result ≡ Ok date) ↔ (text.now ≡ text_of date) }
 {

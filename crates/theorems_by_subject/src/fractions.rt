@@ -205,8 +205,8 @@ pub fn square(x: &Ratio) -> Option<Ratio>
     }
 }
 
-/// Returns the power, which for a negative exponent is that of the reciprocal. Returns `ZeroDenominator` for 0 to a
-/// negative power, and `NotFitting` if a part of the power does not fit.
+/// Returns the power; for a negative exponent, the power of the reciprocal. Returns `ZeroDenominator` for 0 to a negative
+/// power, and `NotFitting` if a part of the power does not fit.
 pub fn power(x: &Ratio, exponent: i32) -> Result<Ratio, RatioError>
     ensures from_zero { pos 0 ≤ℤ exponent → AnswersFraction
         (int_pow (num_of x.now) (unsigned_abs exponent))

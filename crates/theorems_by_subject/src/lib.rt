@@ -1,4 +1,4 @@
-//! Theorems beside the main ones, by subject. The contract of each function fixes its result, as those of the crate `theorems` do.
+//! Theorems beside the main ones, by subject. As in the crate `theorems`, the contract of each function fixes its result.
 //! Three of them write to a writer of the caller, and say nothing of when it fails: `printed` of `dates.rt` and of `fractions.rt`, and
 //! `printed_decimal` of `decimals.rt`.
 //!

@@ -132,7 +132,7 @@ pub fn residue_of_power(a: i64, exponent: u128, m: i64) -> i64
 
 // ---- inverses and congruences
 
-/// Returns the inverse of `a` modulo `m`, or `None` if there is none.
+/// Returns the inverse of `a` modulo `m`, or `None` if it has no inverse.
 pub fn inverse(a: i64, m: i64) -> Option<i64>
     requires { pos 0 <ℤ m }
     ensures { MatchOption result ((x : ℤ) → ¬ (IsInverse a m x)) (λ x. IsInverse a m x) }
@@ -196,7 +196,7 @@ pub fn common_residue_class(a: i64, m: i64, b: i64, n: i64) -> Option<(i64, i64)
     }
 }
 
-/// Returns the next number that solves both congruences, or `None` if there is none in range.
+/// Returns the next number that solves both congruences, or `None` if no such number is in range.
 pub fn next_common_solution_or_none(from: i64, a: i64, m: i64, b: i64, n: i64) -> Option<i64>
     requires m_positive { pos 0 <ℤ m }
     requires n_positive { pos 0 <ℤ n }
@@ -220,7 +220,7 @@ pub fn times_between(from: i64, to: i64, first: i64, period: i64) -> Option<i64>
     count_congruent(from, to, first, period)
 }
 
-/// Returns the next number that solves each of the congruences, or `None` if there is none in range.
+/// Returns the next number that solves each of the congruences, or `None` if no such number is in range.
 pub fn next_solution_of_each(from: i64, congruences: &[(i64, i64)]) -> Option<i64>
     requires in_range { All (λ c. FitsSigned w64 c.0 × FitsSigned w64 c.1) congruences.now }
     requires positive { All (λ c. pos 0 <ℤ c.1) congruences.now }

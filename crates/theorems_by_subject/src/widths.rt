@@ -153,7 +153,7 @@ pub fn binomial_at_two_types<S: Integer + Copy, T: Integer + Copy>(n: S, k: S, m
     (binomial(n, k), binomial(m, l))
 }
 
-/// Returns the greatest common divisor as a `usize` of 32 bits has it, by the code of `u32`, and as one of 64 bits has it.
+/// Returns the greatest common divisor at `u32`, whose code a `usize` of 32 bits runs, and at a `usize` of 64 bits.
 pub fn gcd_at_both_widths_of_usize(a: u32, b: u32) -> (u32, usize)
     ensures { result.0 ≡ result.1 }
 {

@@ -4,8 +4,9 @@
 use crate::answers::{I64Answer, U64Answer, BAD_MODULUS, NOT_FITTING};
 use cellarcove::schedules::{count, next_meeting};
 
-/// Returns the first time, not before `now`, that is in two schedules. One has the times `a`, `a +
-/// p`, `a + 2 * p` and so on, and the other those of `b` and `q`. For 10, 1, 4, 3 and 6 it is 21.
+/// Returns the first time, not before `now`, that is in two schedules. One has the times `a`,
+/// `a + p`, `a + 2 * p` and so on, and the other those of `b` and `q`. For 10, 1, 4, 3 and 6 it is
+/// 21.
 ///
 /// `BAD_MODULUS` if `p` or `q` is not positive. `NO_SOLUTION` if there is no such time.
 /// `NOT_FITTING` if it does not fit.
@@ -23,8 +24,9 @@ pub extern "C" fn cellarcove_next_meeting_i64(
     I64Answer::of_common(next_meeting(now, (a, p), (b, q)))
 }
 
-/// Returns the first time, not before `now`, that is in two schedules. One has the times `a`, `a +
-/// p`, `a + 2 * p` and so on, and the other those of `b` and `q`. For 10, 1, 4, 3 and 6 it is 21.
+/// Returns the first time, not before `now`, that is in two schedules. One has the times `a`,
+/// `a + p`, `a + 2 * p` and so on, and the other those of `b` and `q`. For 10, 1, 4, 3 and 6 it is
+/// 21.
 ///
 /// `BAD_MODULUS` if `p` or `q` is 0. `NO_SOLUTION` if there is no such time. `NOT_FITTING` if it
 /// does not fit.

@@ -7,8 +7,8 @@ use crate::integer_core::guards::check_pair;
 use crate::integer_core::operators::{is_negative, is_zero, one, zero};
 use crate::integer_core::Integer;
 
-/// A greatest common divisor with Bezout's coefficients: for the operands `a` and `b`, `a * x + b *
-/// y` equals `gcd`.
+/// A greatest common divisor with Bezout's coefficients: for the operands `a` and `b`,
+/// `a * x + b * y` equals `gcd`.
 ///
 /// # Examples
 ///

@@ -18,8 +18,8 @@ pub trait Magnitude: Copy + PartialOrd {
     #[track_caller]
     fn times_quotient(self, dividend: Self, divisor: Self) -> Self;
 
-    /// Returns the number without its factors 2, and how many they are. `12.odd_part()` is `(3,
-    /// 2)`.
+    /// Returns the number without its factors 2, and how many they are. `12.odd_part()` is
+    /// `(3, 2)`.
     fn odd_part(self) -> (Self, u32);
 
     /// Returns the number times 2 to the power `twos`. `3.times_power_of_two(2)` is `12`.

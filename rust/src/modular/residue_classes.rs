@@ -65,7 +65,6 @@ pub fn solutions<T: Modular>(a: T, b: T, m: T) -> Option<(T, T)> {
 #[track_caller]
 #[must_use]
 pub fn next_congruent<T: Fits>(from: T, residue: T, modulus: T) -> Option<T> {
-    check(is_below(zero(), modulus), "the modulus is not positive");
     checked::sum(from, difference_modulo(residue, from, modulus))
 }
 
@@ -92,7 +91,6 @@ pub fn next_congruent<T: Fits>(from: T, residue: T, modulus: T) -> Option<T> {
 #[track_caller]
 #[must_use]
 pub fn previous_congruent<T: Fits>(to: T, residue: T, modulus: T) -> Option<T> {
-    check(is_below(zero(), modulus), "the modulus is not positive");
     checked::difference(to, difference_modulo(to, residue, modulus))
 }
 

@@ -56,18 +56,8 @@ fn product_of_residues(x: u128, y: u128, m: u128) -> u128 {
 /// Returns the product of two residues modulo `m`. It first shifts the modulus left until its
 /// highest bit is set: each guess of a digit of the quotient is then at most 2 too large.
 fn long_product(x: u128, y: u128, m: u128) -> u128 {
-    let places = leading_places(m);
-    normalized_product(shifted_left(x, places), y, shifted_left(m, places)) >> places
-}
-
-/// Returns the number of zero bits before the highest bit of `m`.
-fn leading_places(m: u128) -> u32 {
-    m.leading_zeros()
-}
-
-/// Returns `x` times 2 to the power `places`.
-fn shifted_left(x: u128, places: u32) -> u128 {
-    x << places
+    let places = m.leading_zeros();
+    normalized_product(x << places, y, m << places) >> places
 }
 
 /// Returns the product of two numbers modulo `m`. The first is smaller than `m`.

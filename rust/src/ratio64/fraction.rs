@@ -347,9 +347,9 @@ impl Default for Ratio {
 /// Prints `num/den`, and only `num` if the denominator is 1.
 ///
 /// A precision prints the decimals that [`Ratio::to_decimal`] returns, `+` and `0` do what they do
-/// for integers, and a width puts the number on the right: `format!("{:.2}", Ratio::new(1234,
-/// 5).unwrap())` is `"246.80"`. A precision above 18 is a `fmt::Error`, with which `format!`
-/// panics.
+/// for integers, and a width puts the number on the right:
+/// `format!("{:.2}", Ratio::new(1234, 5).unwrap())` is `"246.80"`. A precision above 18 is a
+/// `fmt::Error`, with which `format!` panics.
 ///
 /// # Examples
 ///

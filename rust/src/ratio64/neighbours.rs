@@ -9,6 +9,18 @@ pub(crate) struct Neighbour {
     pub(crate) gap: u64,
 }
 
+impl Neighbour {
+    /// Returns the reciprocal of the neighbour, beside the reciprocal of the fraction. The gap is
+    /// the same.
+    const fn reciprocal(self) -> Self {
+        Self {
+            num: self.den,
+            den: self.num,
+            gap: self.gap,
+        }
+    }
+}
+
 /// Returns the neighbours of `num / den`: the largest fraction below it and the smallest one above
 /// it whose denominators are at most `max`. The larger gap falls at each iteration, as in Euclid's
 /// algorithm.
@@ -58,5 +70,18 @@ pub(crate) fn nearer(below: Neighbour, above: Neighbour) -> Neighbour {
         below
     } else {
         above
+    }
+}
+
+/// Returns the nearest fraction to `num / den` whose parts are at most `max`. If the numerator is
+/// the larger part, the limit on the numerators decides. Those neighbours are the reciprocals of
+/// the neighbours of `den / num`.
+pub(crate) fn nearest_parts(num: u64, den: u64, max: u64) -> Neighbour {
+    if num < den {
+        let (below, above) = neighbours(num, den, max);
+        nearer(below, above)
+    } else {
+        let (below, above) = neighbours(den, num, max);
+        nearer(above.reciprocal(), below.reciprocal())
     }
 }

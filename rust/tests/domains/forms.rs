@@ -387,6 +387,8 @@ fn models() {
         limit {
             Ratio::default().limit_denominator(0);
             Ratio::from(5).limit_denominator(-1);
+            Ratio::default().limit_parts(0);
+            Ratio::from(5).limit_parts(-1);
         }
         number_of_parts {
             Ratio::from(5).floor_to(0);

@@ -1,5 +1,5 @@
 //! The comments of functions: sentences of examples become a section before the others, a section of examples gets its imports, a
-//! paragraph of Rattle and the words for plain Rust go, and errors stand last.
+//! paragraph of Rattle and the words for plain Rust go, errors stand last, and no line ends within code.
 
 /// Returns the half.
 ///
@@ -33,7 +33,8 @@ pub fn half(x: u64) -> u64 {
 /// ```
 pub fn halve(x: &mut u64) {}
 
-/// Returns the half. The number has to be even. If it is odd, the half is rounded down.
+/// Returns the half. The number has to be even. If it is odd, the half is rounded down, as in
+/// `x / 2`.
 fn rounded_half(x: u64) -> u64 {
     x
 }

@@ -1,12 +1,12 @@
-//! The nearest fraction with a small denominator.
+//! The nearest fraction with a small denominator, and with two small parts.
 
 ghost use Rattle.std.specs.Int.{w64};
-ghost use Rattle.std.specs.Prelude.{◌≡◌, ◌^◌, ◌<◌, ◌<ℤ◌, ◌+ℤ◌, ◌*ℤ◌, pos, FitsSigned};
-ghost use Rattle.ratio64.specs.Limiting.{IsNearestWithin};
+ghost use Rattle.std.specs.Prelude.{◌≡◌, ◌^◌, ◌<◌, ◌<ℤ◌, ◌+ℤ◌, ◌*ℤ◌, neg_ℤ, pos, FitsSigned};
+ghost use Rattle.ratio64.specs.Limiting.{AreNearestParts, IsNearestWithin};
 ghost use Rattle.ratio64.specs.Ratio.{num_of, den_of};
 
 use crate::Ratio;
-use crate::neighbours::{Neighbour, nearer, neighbours};
+use crate::neighbours::{Neighbour, nearer, nearest_parts, neighbours};
 use crate::reduction::product;
 use num_integer::div_mod_floor;
 use num_integer::guards::check;
@@ -42,6 +42,36 @@ impl Ratio {
             den: nearest.den as i64,
         }
     }
+
+    /// Returns the nearest fraction whose denominator and numerator are both at most `max`, apart from the
+    /// sign: a pair of gears, say. Of those equally near it returns the one with the smallest
+    /// denominator, and of two integers the one nearer to 0.
+    /// `Ok(Ratio::new(314_159, 100_000).unwrap().limit_parts(120))` is `Ratio::new(22, 7)`, and
+    /// `Ok(Ratio::new(-3, 2).unwrap().limit_parts(2))` is `Ratio::new(-1, 1)`.
+    ///
+    /// # Panics
+    ///
+    /// In plain Rust, if the limit is not positive.
+    pub fn limit_parts(&self, max: i64) -> Self
+        requires { pos 0 <ℤ max }
+        ensures { AreNearestParts (num_of self.now) (den_of self.now) max (num_of result)
+            (den_of result) }
+    {
+        check(max > 0, "the limit is not positive");
+        let (num, den, limit) = (
+            self.num.unsigned_abs(),
+            self.den.unsigned_abs(),
+            max.unsigned_abs(),
+        );
+        if num.max(den) <= limit {
+            return *self;
+        }
+        let nearest = nearest_parts(num, den, limit);
+        Self {
+            num: with_sign_of(self.num, nearest.num),
+            den: nearest.den as i64,
+        }
+    }
 }
 
 /// Returns the numerator of the sum of an integer and a fraction, over the denominator of the fraction.
@@ -52,4 +82,14 @@ fn numerator(whole: i64, part: Neighbour) -> i64
 {
     let num = product(whole, part.den as i64) + i128::from(part.num);
     num as i64
+}
+
+/// Returns the number with this magnitude that is negative if `number` is.
+fn with_sign_of(number: i64, magnitude: u64) -> i64
+    requires { magnitude < 2 ^ 63 }
+    ensures negative { number <ℤ pos 0 → result ≡ neg_ℤ (pos magnitude) }
+    ensures other { ¬ (number <ℤ pos 0) → result ≡ pos magnitude }
+{
+    let size = magnitude as i64;
+    if number < 0 { -size } else { size }
 }

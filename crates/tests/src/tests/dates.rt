@@ -40,7 +40,7 @@ static NO_TEXTS: &str =
     1900-02-29|2026-00-01|2026-13-01|226-11-23|02026-11-23|+2026-11-23|10000-01-01|-0000-01-01|-1-12-31|\
     +9223372036854775808-12-31|2026-1é-3|２026-11-23";
 
-/// Returns `true` if the string is that of the date, and is read as the date.
+/// Returns `true` if the date prints the string, and the string is parsed as the date.
 fn is_text_of(date: &Date, text: &str, alloc: Global) -> Result<bool, AllocError> {
     let printed = date.to_string(alloc)?;
     Ok(printed.as_str() == text && text.parse() == Ok(*date))

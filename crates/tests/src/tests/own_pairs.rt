@@ -1,5 +1,5 @@
-//! Each call on pairs of numbers of each own type, against the same call at `i64`: it returns the same, if each number of
-//! the result is in the type, and else the operands are outside its domain.
+//! Each call on pairs of numbers of each own type, compared with the same call at `i64`. If each number of that result is in
+//! range, the call returns the same; otherwise the operands do not meet its precondition.
 
 use super::calls::Call;
 use super::ends::Ends;
@@ -13,36 +13,10 @@ use std::alloc::Global;
 use std::process::Abort;
 
 /// The calls on one number and on two.
-static CALLS: [Call; 28] = [
-    Call::Parts,
-    Call::IsEven,
-    Call::IsOdd,
-    Call::Inc,
-    Call::Dec,
-    Call::Negated,
-    Call::Sum,
-    Call::Difference,
-    Call::Product,
-    Call::AverageFloor,
-    Call::AverageCeil,
-    Call::ModFloor,
-    Call::DivRem,
-    Call::Operators,
-    Call::DivModFloor,
-    Call::DivFloor,
-    Call::DivCeil,
-    Call::NextMultipleOf,
-    Call::PrevMultipleOf,
-    Call::IsMultipleOf,
-    Call::Divides,
-    Call::Gcd,
-    Call::Lcm,
-    Call::GcdLcm,
-    Call::Binomial,
-    Call::CountedBinomial,
-    Call::Multinomial,
-    Call::CountedBezout,
-];
+const CALLS: &str =
+    "parts is_even is_odd inc dec negated sum difference product average_floor average_ceil mod_floor div_rem operators \
+    div_mod_floor div_floor div_ceil next_multiple_of prev_multiple_of is_multiple_of divides gcd lcm gcd_lcm binomial \
+    binomial_counted multinomial extended_gcd_counted";
 
 impl Ends {
     /// The numbers, if each lies between the ends.
@@ -67,9 +41,10 @@ fn check_calls(
     (it, ends): (Type, Ends),
     operands: &[SignedMagnitude],
 ) {
-    for call in &CALLS {
-        let expected = ends.expected(alloc, *call, operands);
-        returns_as_tested(rt, alloc, (it, *call), operands, expected);
+    for name in CALLS.split(' ') {
+        let call = Call::named(name).expect(rt, "the call has this name");
+        let expected = ends.expected(alloc, call, operands);
+        returns_as_tested(rt, alloc, (it, call), operands, expected);
     }
 }
 

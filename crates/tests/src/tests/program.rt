@@ -5,7 +5,7 @@ mod outcomes;
 mod requests;
 mod tape;
 
-use super::rows::{check_rows, holds_at};
+use super::rows::holds_at;
 use intcalc_core::number::read_number;
 use intcalc_core::run::{line_for, run};
 use intcalc_core::sink::{Console, Sink};
@@ -105,31 +105,6 @@ fn usage(rt: HostRuntime) {
             check_usage(&rt, rt.alloc(), text);
         }
     }
-}
-
-/// Sums and products of fractions.
-static FRACTIONS: &[&str] = &[
-    "i64 ratio_add: 1 2 1 3 = 5 6, 1 6 1 3 or 0 -9223372036854775808 1 2 = 1 2",
-    "i64 ratio_add: 2 4 -1 -2 or -9223372036854775808 -9223372036854775808 0 5 = 1 1, 1 -2 1 3 = -1 6",
-    "i64 ratio_add: 0 -9 0 5 or 1 9223372036854775807 -1 9223372036854775807 = 0 1",
-    "i64 ratio_add: 9223372036854775807 1 1 1 or 1 -9223372036854775808 0 1 or 0 1 -9223372036854775808 -1 = refused 6 NotFitting",
-    "i64 ratio_add: 1 4611686018427387904 1 4611686018427387904 = 1 2305843009213693952",
-    "i64 ratio_add: 1 0 1 3 or 1 2 0 0 or 1 -9223372036854775808 1 0 = refused 2 ZeroDivisor",
-    "i64 ratio_add: 1 0 9223372036854775808 1 or 1 0 1 -9223372036854775809 = refused 1 OutOfType",
-    "u8/u64 ratio_add: 1 2 1 3 = refused 1 OutOfType",
-    "i8 ratio_add: 1 0 1 3 = refused 1 OutOfType",
-    "i64 ratio_mul: 2 3 3 2 or 9223372036854775807 2 2 9223372036854775807 = 1 1, 2 3 3 4 = 1 2, -1 2 -3 4 = 3 8",
-    "i64 ratio_mul: 0 -9 5 7 = 0 1, -9223372036854775808 1 1 2 = -4611686018427387904 1",
-    "i64 ratio_mul: 9223372036854775807 1 2 1 or -9223372036854775808 1 -1 1 or 1 -9223372036854775808 0 1 = refused 6 NotFitting",
-    "i64 ratio_mul: 1 2 1 0 or 1 -9223372036854775808 1 0 = refused 2 ZeroDivisor",
-    "i64 ratio_mul: 9223372036854775808 1 1 0 = refused 1 OutOfType",
-    "u8 ratio_mul: 1 0 1 1 = refused 1 OutOfType",
-    "u64 ratio_mul: 1 2 1 3 = refused 1 OutOfType",
-];
-
-#[test]
-fn fractions(rt: HostRuntime) {
-    check_rows(&rt, rt.alloc(), FRACTIONS);
 }
 
 #[test]

@@ -7,17 +7,18 @@ ghost use Rattle.std.specs.Prelude.{IfSome};
 ghost use Rattle.std.specs.List.{All};
 
 use super::calls::Call;
+use bounded_integers::{Bounded, PercentRange, Range};
 use num_integer::counted::{SqrtCounted, binomial_counted, extended_gcd_counted};
 use num_integer::{
     Average, Fits, IterBinomial, Roots, average_ceil, average_floor, binomial, cbrt, checked,
     div_ceil, div_floor, div_mod_floor, div_rem, gcd, gcd_lcm, lcm, mod_floor, nth_root, sqrt,
 };
 use num_traits::Signed;
-use own_types::form::SignedForm;
-use own_types::forms::{MarkedForm, NegatedForm, OneBitForm, SmallForm, TwoBitsForm};
+use own_types::forms::{MarkedForm, NegatedForm};
+use own_types::ranges::{OneBitRange, TwoBitsRange};
 use own_types::signed_magnitude::SignedMagnitude;
 use own_types::types::{Tested, Type};
-use own_types::{Form, Own, Percent};
+use own_types::{Form, Own, Small};
 use std::alloc::Global;
 
 /// The numbers of a result. Those that it lacks are 0.
@@ -297,17 +298,17 @@ fn of_signed_counted<T: Signed + SqrtCounted + Tested>(ask: Ask) -> Option<Numbe
     }
 }
 
-/// The result at a type that stores its numbers in this form: one proof for all of them.
-fn of_form<F: Form>(ask: Ask) -> Option<Numbers> {
-    of_each::<Own<F>>(ask)
+/// The result at a type of this range: one proof for all of them.
+fn of_range<R: Range>(ask: Ask) -> Option<Numbers> {
+    of_rooted::<Bounded<R>>(ask)
 }
 
-/// The same with a sign.
-fn of_signed_form<F: SignedForm>(ask: Ask) -> Option<Numbers> {
+/// The result at a type that stores its numbers in this form.
+fn of_form<F: Form>(ask: Ask) -> Option<Numbers> {
     of_signed::<Own<F>>(ask)
 }
 
-/// The result of the call at the type, or `None` outside the domain of the call.
+/// The result of the call at the type, or `None` if the operands do not meet its precondition.
 pub(crate) fn result(
     alloc: Global,
     it: Type,
@@ -328,11 +329,11 @@ pub(crate) fn result(
         Type::U64 => of_counted::<u64>(ask),
         Type::Usize => of_counted::<usize>(ask),
         Type::U128 => of_each::<u128>(ask),
-        Type::Percent => of_rooted::<Percent>(ask),
-        Type::Small => of_signed_form::<SmallForm>(ask),
-        Type::Negated => of_signed_form::<NegatedForm>(ask),
-        Type::Marked => of_signed_form::<MarkedForm>(ask),
-        Type::OneBit => of_form::<OneBitForm>(ask),
-        Type::TwoBits => of_form::<TwoBitsForm>(ask),
+        Type::Percent => of_range::<PercentRange>(ask),
+        Type::Small => of_signed::<Small>(ask),
+        Type::Negated => of_form::<NegatedForm>(ask),
+        Type::Marked => of_form::<MarkedForm>(ask),
+        Type::OneBit => of_range::<OneBitRange>(ask),
+        Type::TwoBits => of_range::<TwoBitsRange>(ask),
     }
 }

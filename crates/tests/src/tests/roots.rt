@@ -3,74 +3,12 @@
 use super::calls::Call::{Cbrt, Root, Sqrt};
 use super::ends::largest;
 use super::results::{one, result};
-use super::rows::{check_rows, holds_at, returns};
+use super::rows::{holds_at, returns};
 use own_types::signed_magnitude::{SignedMagnitude, signed_magnitude_of};
 use own_types::types::Type;
 use own_types::types::Type::{I8, I16, I32, I64, Isize, U8, U16, U32, U64, Usize};
 use std::alloc::Global;
 use std::process::Abort;
-
-static ROOTS: &[&str] = &[
-    "u64/percent sqrt: 99 = 9",
-    "i8 sqrt: -9 or -128 = refused 4 NegativeRoot",
-    "u64 sqrt: 18446744073709551615 or 18446744065119617025 = 4294967295, 18446744065119617024 = 4294967294, 16 = 4",
-    "u64 sqrt: 8 = 2, 3 = 1, -1 = refused 1 OutOfType",
-    "i64 sqrt: 9223372036854775807 = 3037000499, 4 = 2, 0 = 0, -1 = refused 4 NegativeRoot",
-    "u8 sqrt: 255 = 15",
-    "i32/i64 sqrt: 152399025 or 152399026 = 12345, 152399024 = 12344, 12345 = 111",
-    "u16 sqrt: 65535 = 255",
-    "percent cbrt: 100 = 4",
-    "i32 cbrt: -2147483648 = -1290",
-    "i32/i64 cbrt: 1879080904 or 1879080905 = 1234, 1879080903 = 1233, -1879080904 or -1879080905 = -1234",
-    "i32/i64 cbrt: -1879080903 = -1233, 12345 = 23",
-    "u8 cbrt: 255 = 6",
-    "u32/u64 cbrt: 4294967295 = 1625",
-    "u64 cbrt: 18446744073709551615 or 18446724184312856125 = 2642245, 4294967296 or 4298942375 = 1625",
-    "u64 cbrt: 4298942376 = 1626, 18446724184312856124 = 2642244",
-    "i8 cbrt: -128 = -5, -9 = -2, 128 = refused 1 OutOfType",
-    "i64 cbrt: -9223372036854775808 = -2097152",
-    "u64/percent nth_root: 99 2 = 9",
-    "percent nth_root: 100 3 = 4, 100 6 = 2",
-    "i8 nth_root: -9 2 or -9 4294967294 = refused 4 NegativeRoot, 9 0 or -9 0 = refused 3 ZeroDegree, -128 7 = -2",
-    "i8 nth_root: -127 7 = -1, 127 200 = 1",
-    "u8 nth_root: 0 0 = refused 3 ZeroDegree, 256 0 = refused 1 OutOfType",
-    "u64 nth_root: 18446744073709551615 63 = 2, 18446744073709551615 64 or 18446744073709551615 4294967295 = 1",
-    "u64 nth_root: 18446744073709551615 4 = 65535, 18446744073709551615 5 = 7131, 0 5 = 0, 130321 4 = 19",
-    "u64 nth_root: 130320 4 = 18, -1 2 = refused 1 OutOfType",
-    "i64 nth_root: -9223372036854775808 1 = -9223372036854775808, -9223372036854775808 63 = -2",
-    "i64 nth_root: -9223372036854775808 4294967295 = -1, -9223372036854775808 64 or -1 10 = refused 4 NegativeRoot",
-    "i64 nth_root: 123 0 or -1 0 = refused 3 ZeroDegree",
-    "i64 nth_root: 5 4294967296 or -1 4294967296 or 5 -1 = refused 1 OutOfType",
-    "i32 nth_root: -2147483648 1 = -2147483648, -2147483648 31 = -2, -2147483647 31 = -1, 2147483647 30 = 2",
-    "i32 nth_root: 2147483647 31 = 1",
-    "i32/i64 nth_root: 12345 1 = 12345, 12345 2 = 111, 12345 3 = 23, 12345 4 = 10, 12345 13 = 2",
-    "i32/i64 nth_root: 12345 14 or 12345 4294967295 = 1",
-    "u32 nth_root: 4294967295 31 = 2, 4294967295 32 = 1",
-];
-
-/// Square roots and their iterations.
-static ITERATIONS: &[&str] = &[
-    "u64/usize sqrt_counted: 18446744073709551615 = 4294967295 1",
-    "u64 sqrt_counted: 18446744065119617025 = 4294967295 1, 18446744065119617024 = 4294967294 2, 99 = 9 2, 16 = 4 0",
-    "u64 sqrt_counted: 8 = 2 2, 3 = 1 0",
-    "i64/isize sqrt_counted: 9223372036854775807 = 3037000499 4",
-    "i64/isize sqrt_counted: -9223372036854775808 or -9223372036854775807 = refused",
-    "i64 sqrt_counted: 4 = 2 0",
-    "u8 sqrt_counted: 255 = 15 1",
-    "i8/i16/i32/i64/isize/u8/u16/u32/u64/usize sqrt_counted: 0 = 0 0, 1 = 1 0",
-    "i8 sqrt_counted: 127 = 11 1, -128 = refused",
-    "i16 sqrt_counted: 32767 = 181 2",
-    "i32 sqrt_counted: 2147483647 = 46340 4",
-    "u16 sqrt_counted: 65535 = 255 1",
-    "u32 sqrt_counted: 4294967295 = 65535 1",
-    "i8/i16/i32/i64/isize sqrt_counted: -1 = refused",
-];
-
-#[test]
-fn worked_roots(rt: HostRuntime) {
-    check_rows(&rt, rt.alloc(), ROOTS);
-    check_rows(&rt, rt.alloc(), ITERATIONS);
-}
 
 /// The signed types of at most 64 bits, and the bits beside the sign.
 static SIGNED_BITS: [(Type, u32); 5] = [(I8, 7), (I16, 15), (I32, 31), (I64, 63), (Isize, 63)];
@@ -102,7 +40,7 @@ fn check_number(rt: &impl Abort, alloc: Global, (it, x, degree, root): (Type, i1
     has_root(rt, alloc, it, x, degree, root);
 }
 
-/// Checks that the root has the sign of the number, and the largest magnitude whose power is at most that of the number.
+/// Checks that the root has the sign of the number, and the largest magnitude whose power is at most the number's.
 pub(super) fn check_root(rt: &impl Abort, alloc: Global, it: Type, x: i128, n: u32) {
     let operand = signed_magnitude_of(x);
     let root = result(alloc, it, Root, &[operand, (false, u128::from(n))]);
@@ -119,7 +57,7 @@ pub(super) fn check_root(rt: &impl Abort, alloc: Global, it: Type, x: i128, n: u
     holds_at(rt, is_root, &("nth_root", x, n));
 }
 
-/// Checks that the call has no root of this degree in its domain.
+/// Checks that the precondition of a root of this degree does not hold.
 pub(super) fn has_no_root(
     rt: &impl Abort,
     alloc: Global,

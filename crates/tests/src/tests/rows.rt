@@ -22,7 +22,7 @@ pub(crate) fn holds_at(rt: &impl Abort, holds: bool, row: &impl Debug)
     assert!(rt; holds, "at {row:?}");
 }
 
-/// Asserts that the call returns these numbers at the type, or that the operands are outside its domain.
+/// Asserts that the call returns these numbers at the type, or that the operands do not meet its precondition.
 pub(crate) fn returns(
     rt: &impl Abort,
     alloc: Global,
@@ -34,7 +34,7 @@ pub(crate) fn returns(
     holds_at(rt, same, &(it, call, operands, expected));
 }
 
-/// Checks what the call returns, and what the test of its domain does.
+/// Checks what the call returns, and what the test of its precondition returns.
 pub(crate) fn returns_as_tested(
     rt: &impl Abort,
     alloc: Global,
@@ -111,7 +111,7 @@ fn number_of(word: &str) -> Option<SignedMagnitude> {
     }
 }
 
-/// The numbers of words with a space between each two. `[]` has none.
+/// The numbers of words with a space between each two, or no numbers if the text is `[]`.
 fn numbers_of(alloc: Global, text: &str) -> Option<Vec<SignedMagnitude>> {
     let mut numbers = Vec::new(alloc);
     if text != "[]" {

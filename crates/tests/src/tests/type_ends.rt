@@ -21,7 +21,7 @@ const HALF: i128 = (1 << 99) - 1;
 /// As many as `MAX` has bits, but one.
 const ITERATIONS: i128 = 1 << 97;
 
-/// Outside the domain, or out of range.
+/// The precondition does not hold, or the result is out of range.
 const OUT: i128 = i128::MAX;
 
 /// A number and 0; the number, one more, one less, the other sign, 1 if it is even, and 1 if it is odd.

@@ -1,3 +1,4 @@
+-- The string of a fraction is parsed as the same fraction, by the law `text_is_read_back`.
 use Rattle.std.specs.Prelude.{FitsSigned}
 use Rattle.std.specs.Int.{w64}
 use Rattle.std.proofs.Common.{rules}

@@ -10,7 +10,7 @@ use std::io::ErrorKind::{Interrupted, Other};
 /// Words and a line.
 type Row = (&'static [&'static str], &'static str);
 
-/// An answer, a refusal, and words that ask for nothing.
+/// A result, a refusal, and words that are no call.
 const ROWS: [Row; 3] = [
     (&["i64", "div_mod_floor", "-8", "3"], "-3 1\n"),
     (&["i64", "div_floor", "1", "0"], "refused 2 ZeroDivisor\n"),

@@ -5,7 +5,7 @@ ruleset of_reduced_pairs = (law.exact_result_exists, law.exact_result_is_only, l
 
 ruleset of_order = (law.order_is_total, law.order_agrees_with_equality, law.order_over_one_denominator)
 
-ruleset of_rounding = (law.rounded_is_only, law.rounded_even_is_only, law.nearest_is_only, law.nearest_to_exact_result)
+ruleset of_rounding = (law.rounded_is_only, law.rounded_even_is_only, law.nearest_is_only, law.nearest_to_exact_result, law.nearest_parts_are_only)
 
 ruleset of_sums = (law.sums_of_equal_fractions, law.products_of_equal_fractions)
 
