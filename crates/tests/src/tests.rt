@@ -18,5 +18,7 @@ mod residues;
 mod results;
 mod roots;
 mod rows;
+mod schedules;
+mod shares;
 mod type_ends;
 mod worked_rows;

@@ -1,0 +1,88 @@
+//! Shares by largest remainders, against fractions of Python.
+
+use super::rows::holds_at;
+use applied::shares::{SharesError, shares_by_largest_remainder};
+
+const MAX: u64 = u64::MAX;
+
+/// An amount, weights, and their shares.
+static SHARES: [(u64, &[u64], &[u64]); 18] = [
+    (1, &[1, 1000000], &[0, 1]),
+    (2, &[1, 1, 98], &[0, 0, 2]),
+    (100, &[1, 1, 1], &[34, 33, 33]),
+    (100, &[1, 2], &[33, 67]),
+    (299, &[5, 3, 2], &[149, 90, 60]),
+    (10, &[1, 1, 1, 1, 1, 1, 1], &[2, 2, 2, 1, 1, 1, 1]),
+    (
+        100,
+        &[47000, 16000, 15900, 12000, 6000, 3100],
+        &[47, 16, 16, 12, 6, 3],
+    ),
+    (0, &[3, 0, 5], &[0, 0, 0]),
+    (7, &[0, 0, 2], &[0, 0, 7]),
+    (5, &[2, 0, 2, 2], &[2, 0, 2, 1]),
+    (1000, &[333, 333, 334], &[333, 333, 334]),
+    (MAX, &[MAX], &[MAX]),
+    (MAX, &[MAX, 1], &[18446744073709551614, 1]),
+    (MAX, &[1, MAX], &[1, 18446744073709551614]),
+    (
+        MAX,
+        &[9223372036854775808, 9223372036854775809, 5],
+        &[9223372036854775805, 9223372036854775805, 5],
+    ),
+    (
+        MAX,
+        &[MAX, MAX, MAX],
+        &[
+            6148914691236517205,
+            6148914691236517205,
+            6148914691236517205,
+        ],
+    ),
+    (
+        3,
+        &[
+            MAX,
+            18446744073709551614,
+            18446744073709551613,
+            18446744073709551614,
+        ],
+        &[1, 1, 0, 1],
+    ),
+    (1, &[MAX, MAX, MAX], &[1, 0, 0]),
+];
+
+#[test]
+fn largest_remainders(rt: HostRuntime) {
+    for row in &SHARES {
+        let &(amount, weights, expected) = row;
+        let mut parts = [0; 7];
+        holds_at(&rt, weights.len() <= parts.len(), row);
+        let length = weights.len();
+        let shared = shares_by_largest_remainder(amount, weights, &mut parts[..length]);
+        holds_at(&rt, shared.is_ok() && &parts[..length] == expected, row);
+    }
+}
+
+/// Weights, how many shares there are, and why the call writes none.
+static WRONG_WEIGHTS: [(&[u64], usize, SharesError); 7] = [
+    (&[], 0, SharesError::ZeroWeights),
+    (&[0], 1, SharesError::ZeroWeights),
+    (&[0, 0, 0], 3, SharesError::ZeroWeights),
+    (&[], 1, SharesError::DifferentLengths),
+    (&[0, 0], 1, SharesError::DifferentLengths),
+    (&[1, 2], 1, SharesError::DifferentLengths),
+    (&[1, 2], 3, SharesError::DifferentLengths),
+];
+
+/// The error, and that the call writes nothing.
+#[test]
+fn largest_remainders_of_wrong_weights(rt: HostRuntime) {
+    for row in &WRONG_WEIGHTS {
+        let (weights, length, ref error) = *row;
+        let mut parts = [9, 8, 7];
+        holds_at(&rt, length <= parts.len(), row);
+        let shared = shares_by_largest_remainder(100, weights, &mut parts[..length]);
+        holds_at(&rt, shared == Err(*error) && parts == [9, 8, 7], row);
+    }
+}
