@@ -25,7 +25,7 @@ lcm_of_is_first_common_multiple = λ numbers l nonzero. (
 
 -- ---- calls that return the least common multiple of a list if it fits
 
--- A call that does returns the first common multiple, or no first common multiple fits.
+-- Such a call returns the first common multiple, or None if it does not fit.
 pub first_multiple_of_answers : {X : Type 0} (value : X → ℤ) (fits : ℤ → Type 0) (numbers : List ℤ) (r : Option X) → All (λ x. x ≢ pos 0) numbers
     → AnswersWhere (EachFits fits (IsLeastCommonMultipleOf numbers)) (FitsWith fits value (IsLeastCommonMultipleOf numbers)) r
     → MatchOption r ((t : ℤ) → IsLeastFrom (pos 1) (λ u. All (λ x. Divides x u) numbers) t → ¬ (fits t)) (λ x. IsLeastFrom (pos 1) (λ u. All (λ x. Divides x u) numbers) (value x))

@@ -5,6 +5,8 @@ use Rattle.applied.proofs.Common.{AnswersWhere, EachFits, FitsWith, IfSome, None
 
 -- ---- what fits
 
+-- p is a page, s the size of a page, and q the place of an item on its page
+
 -- a positive divisor is not 0
 pub positive_is_other : {d : ℤ} → pos 0 <ℤ d → d ≢ pos 0
 positive_is_other up none = omega (arith, linear)
@@ -54,7 +56,7 @@ item_is_only fits value p q s (Some x) h = λ y k. k.equation ∙ sym h.1.1.equa
 
 -- ---- the range of a page
 
--- an item lies on a page if it is from the page times its size on, and before the same of the next page
+-- the range of a page: each of its items is on the page, and each item on the page is one of them
 page_range_is : {page size items first end : ℤ} → pos 0 ≤ℤ first → first ≤ℤ end → end ≤ℤ items
     → ((item : ℤ) → first ≤ℤ item → item <ℤ end → (pos 0 ≤ℤ item) × ((page *ℤ size) ≤ℤ item) × (item <ℤ (page *ℤ size +ℤ size)))
     → ((item : ℤ) → pos 0 ≤ℤ item → item <ℤ items → (page *ℤ size) ≤ℤ item → item <ℤ (page *ℤ size +ℤ size) → (first ≤ℤ item) × (item <ℤ end))

@@ -17,7 +17,7 @@ gcd_of_none = record {
 pub split_last : (P : ℤ → Type 0) (numbers : List ℤ) (x : ℤ) → All P (numbers ++ x ∷ []) → All P numbers × P x
 split_last P numbers x each = All-pop P (numbers ++ x ∷ []) numbers (Some x) refl each
 
--- the gcd of a list with one number more at its end is the gcd of that of the list and this number
+-- the gcd of a list with one number more at its end is the gcd of the list's gcd and this number
 pub gcd_of_more : {numbers : List ℤ} {g x h : ℤ} → IsGreatestCommonDivisorOf numbers g → IsGreatestCommonDivisor g x h → IsGreatestCommonDivisorOf (numbers ++ x ∷ []) h
 gcd_of_more {numbers} {g} {x} {h} before both = record {
   from_zero = both.from_zero;
@@ -29,7 +29,7 @@ gcd_of_more {numbers} {g} {x} {h} before both = record {
 
 -- ---- each list has a gcd
 
--- a list has a number of a kind if the first of its numbers have one, and one number more has one by that of those before it
+-- induction: if the first numbers have a result, and each further number gives the next one, the whole list has one
 pub each_list : (Fit : ℤ → Type 0) (Is : List ℤ → ℤ → Type 0) → ((xs : List ℤ) (x g : ℤ) → Fit x → Is xs g → (h : ℤ) × Is (xs ++ x ∷ []) h)
     → (first rest : List ℤ) (g : ℤ) → Is first g → All Fit rest → (h : ℤ) × Is (first ++ rest) h
 each_list Fit Is more first [] g own each = (g, rw (append-nil first) own)
@@ -37,7 +37,7 @@ each_list Fit Is more first (x ∷ rest) g own each =
     let next = more first x g (All-head Fit x rest each) own in
     rw (append_assoc first (x ∷ []) rest) at (each_list Fit Is more (first ++ x ∷ []) rest next.0 next.1 (All-tail Fit x rest each))
 
--- a list has a number of a kind if no number has one, and one number more has that of this number and the one of those before it
+-- the same from the empty list, where the next result is that result and the next number combined
 each_has : {Is : List ℤ → ℤ → Type 0} {Both : ℤ → ℤ → ℤ → Type 0} (z : ℤ) → Is [] z → ((g x : ℤ) → (h : ℤ) × Both g x h)
     → ((first : List ℤ) (g x h : ℤ) → Is first g → Both g x h → Is (first ++ x ∷ []) h) → (numbers : List ℤ) → (g : ℤ) × Is numbers g
 each_has {Is} z none pair more numbers =
@@ -121,7 +121,7 @@ lcm_of_none = record {
   least = λ m _. one_divides m;
 }
 
--- the lcm of a list with one number more at its end is the lcm of that of the list and this number
+-- the lcm of a list with one number more at its end is the lcm of the list's lcm and this number
 pub lcm_of_more : {numbers : List ℤ} {l x m : ℤ} → IsLeastCommonMultipleOf numbers l → IsLeastCommonMultiple l x m → IsLeastCommonMultipleOf (numbers ++ x ∷ []) m
 lcm_of_more {numbers} {l} {x} {m} before both = record {
   from_zero = both.from_zero;

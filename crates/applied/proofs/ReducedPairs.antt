@@ -107,7 +107,7 @@ reduced_by_gcd {a} {b} {g} {x} {y} up h first second =
       coprime = λ _. divided_by_gcd (λ none. omega (arith, linear)) times;
     }
 
--- each pair has one
+-- each pair of numbers has a reduced pair
 pub reduced_pair_exists : (a b : ℤ) → (x y : ℤ) × IsReducedPair a b x y
 reduced_pair_exists a b =
     let own = gcd_exists a b in
@@ -118,7 +118,7 @@ reduced_pair_exists a b =
           (own.1.divides_left.factor, own.1.divides_right.factor, reduced_by_gcd up own.1 own.1.divides_left.product own.1.divides_right.product)
     ]
 
--- ---- the only one
+-- ---- there is only one reduced pair
 
 -- only 0 has the sign of 0
 zero_of_zero : {a x : ℤ} → HasSignOf a x → a ≡ pos 0 → x ≡ pos 0

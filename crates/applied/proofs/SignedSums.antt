@@ -1,4 +1,4 @@
--- Sums of signed numbers, and their running totals.
+-- Sums of signed numbers, and totals that no type has.
 use Rattle.std.specs.Prelude.{◌≡◌, ◌<◌, ◌≤◌, ◌^◌, ◌+◌, ◌+ℤ◌, ◌∷◌, ◌++◌}
 use Rattle.applied.proofs.Common.{ℕ, ℤ, pos, unsigned_abs, List, [], length, get_or, map, take, arith, inl, inr, refl, map_more, IsRange, linear, sizes, signed_sum}
 
@@ -20,7 +20,7 @@ pub signed_sum_more : {X : Type 0} (value : X → ℤ) (items : List X) (i : ℕ
 signed_sum_more value items i {x = x} before within at is =
     rw (map_more value items i x within, ← at, signed_sum-append (map value (take i items)) (value x ∷ [])) (omega (arith, linear, before, is))
 
--- ---- totals
+-- ---- totals out of range
 
 -- a number whose magnitude has more than 128 bits is out of each range
 pub wide_out_of_range : {fits : ℤ → Type 0} {low high : ℤ} {z : ℤ} → IsRange fits low high → 2 ^ 128 ≤ unsigned_abs z → ¬ (fits z)

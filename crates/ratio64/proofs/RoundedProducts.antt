@@ -9,7 +9,7 @@ use Rattle.ratio64.proofs.WideSums.{read}
 use Rattle.ratio64.specs.ReducedPairs.{positive_is_nonzero}
 use Rattle.ratio64.specs.Times.{AreTimes}
 
--- p and q are the parts of a fraction times n, and t reads n from its bits
+-- p and q are num times t, and den, in i128; t is n, read from its bits
 module _ {num den t p q : ℤ} (h : AreTimes num den t p q) where
   den_read : to_z w128 (of_z w128 q) ≡ den
   den_read = read q h.den_below ∙ h.den_is

@@ -60,9 +60,7 @@ impl Ratio {
     }
 }
 
-/// Returns the integer nearest to `num / den`, and of two equally near the one farther from 0.
-///
-/// `den` must be positive.
+/// Returns the integer nearest to `num / den`, where `den` is positive, and of two equally near the one farther from 0.
 pub(crate) fn nearest<T: Integer + Copy>(num: T, den: T) -> T
     requires in_range { T.fits (T.value num) × T.fits (T.value den) }
     requires positive { pos 0 <ℤ T.value den }
@@ -84,9 +82,7 @@ pub(crate) fn nearest<T: Integer + Copy>(num: T, den: T) -> T
     }
 }
 
-/// Returns the integer nearest to `num / den`, and of two equally near the even one.
-///
-/// `den` must be positive.
+/// Returns the integer nearest to `num / den`, where `den` is positive, and of two equally near the even one.
 pub(crate) fn nearest_even<T: Integer + Copy>(num: T, den: T) -> T
     requires in_range { T.fits (T.value num) × T.fits (T.value den) }
     requires positive { pos 0 <ℤ T.value den }

@@ -96,9 +96,8 @@ impl Ratio {
     }
 }
 
-/// Returns the integer nearest to `num / den`, and of two equally near the one farther from 0.
-///
-/// `den` must be positive.
+/// Returns the integer nearest to `num / den`, where `den` is positive, and of two equally near the
+/// one farther from 0.
 #[track_caller]
 pub(crate) fn nearest<T: Integer + Copy>(num: T, den: T) -> T {
     let (whole, rest) = div_rem(num, den);
@@ -115,9 +114,8 @@ pub(crate) fn nearest<T: Integer + Copy>(num: T, den: T) -> T {
     }
 }
 
-/// Returns the integer nearest to `num / den`, and of two equally near the even one.
-///
-/// `den` must be positive.
+/// Returns the integer nearest to `num / den`, where `den` is positive, and of two equally near the
+/// even one.
 #[track_caller]
 pub(crate) fn nearest_even<T: Integer + Copy>(num: T, den: T) -> T {
     let (below, rest) = div_mod_floor(num, den);
