@@ -38,7 +38,8 @@ def picture(page: str) -> str:
         x, y = centre(name)
         parts.append(f'<rect x="{x - WIDE / 2:.0f}" y="{y - HIGH / 2:.0f}" width="{WIDE}" height="{HIGH}" rx="6" fill="#f6f8fa" stroke="#57606a"/>')
         parts.append(f'<text x="{x:.0f}" y="{y + 5:.0f}" fill="#1f2328">{name}</text>')
-    return filled(ROOT / 'tools/pages/templates/trust.svg', wide=str(32 + WIDE + ACROSS * columns), high=str(32 + HIGH + DOWN * lines), parts='\n'.join(parts))
+    size = {'wide': str(32 + WIDE + ACROSS * columns), 'high': str(32 + HIGH + DOWN * lines)}
+    return filled(ROOT / 'tools/pages/templates/trust.svg', **size, parts='\n'.join(parts))
 
 
 def made() -> dict[str, str]:
