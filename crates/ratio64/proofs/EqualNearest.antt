@@ -1,12 +1,6 @@
 -- Equal fractions have the same nearest fraction with a small denominator.
-use Rattle.std.specs.Prelude.{◌≡◌, ◌<◌, ◌≤◌, ◌*◌, ◌<ℤ◌, ◌-ℤ◌, ◌*ℤ◌, ℕ, ℤ, pos, unsigned_abs}
-use Rattle.std.proofs.Common.{ap, arith, mul-le-mul_left, ◌∙◌}
-use Rattle.std.proofs.Math.Nat.{eq_of_mul-eq-mul_left}
-use Rattle.std.proofs.lemmas.Int.{ints, unsigned_abs-mul}
-use Rattle.num_integer.proofs.ForCallers.{expand, factor_positive}
+use Rattle.ratio64.proofs.Common.{◌≡◌, ◌<◌, ◌≤◌, ◌*◌, ◌<ℤ◌, ◌-ℤ◌, ◌*ℤ◌, ℕ, ℤ, pos, unsigned_abs, ap, arith, mul-le-mul_left, ◌∙◌, eq_of_mul-eq-mul_left, ints, unsigned_abs-mul, expand, factor_positive, IsExact, IsNearestWithin, gap}
 use Rattle.ratio64.proofs.FittingParts.{common_factor}
-use Rattle.ratio64.specs.Fraction.{IsExact}
-use Rattle.ratio64.specs.Limiting.{IsNearestWithin, gap}
 use Rattle.ratio64.specs.Laws as law
 
 -- the gap from a fraction grows with its common factor

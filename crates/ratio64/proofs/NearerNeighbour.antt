@@ -1,15 +1,6 @@
 -- The nearer of two neighbours is the nearest of all fractions up to the limit.
-use Rattle.std.specs.Prelude.{◌≡◌, ◌⊎◌, ◌<◌, ◌≤◌, ◌+◌, ◌*◌, ◌<ℤ◌, ◌≤ℤ◌, ◌+ℤ◌, ◌-ℤ◌, ◌*ℤ◌, ℤ, ℕ, pos, negsuc, neg_ℤ, unsigned_abs}
-use Rattle.std.proofs.Common.{arith, ap, sym, ◌∙◌, inl, inr, le-mul_of_pos_right, mul-le-mul_left, mul-pos, subst}
-use Rattle.std.proofs.Math.Nat.{le_of_mul-le-mul_left}
-use Rattle.std.proofs.lemmas.Int.{by_lt_z, ints, unsigned_abs-mul}
-use Rattle.num_integer.proofs.ForCallers.{Divides-sum, cancel, comm, divisor_at_most, expand, from_not_less, linear, multiples_apart, products, sizes}
-use Rattle.num_integer.specs.Divisors.{Divides}
-use Rattle.ratio64.specs.Fraction.{IsReduced}
-use Rattle.ratio64.specs.Limiting.{IsNearestWithin, gap}
-use Rattle.ratio64.specs.ReducedPairs.{denominator_divides, positive_is_nonzero}
+use Rattle.ratio64.proofs.Common.{◌≡◌, ◌⊎◌, ◌<◌, ◌≤◌, ◌+◌, ◌*◌, ◌<ℤ◌, ◌≤ℤ◌, ◌+ℤ◌, ◌-ℤ◌, ◌*ℤ◌, ℤ, ℕ, pos, negsuc, neg_ℤ, unsigned_abs, arith, ap, sym, ◌∙◌, inl, inr, le-mul_of_pos_right, mul-le-mul_left, mul-pos, subst, le_of_mul-le-mul_left, by_lt_z, ints, unsigned_abs-mul, Divides-sum, cancel, comm, divisor_at_most, expand, from_not_less, linear, multiples_apart, products, sizes, Divides, IsReduced, IsNearestWithin, gap, denominator_divides, positive_is_nonzero, Neighbour}
 use Rattle.ratio64.proofs.ReducedParts.{coprime_by}
-use Rattle.ratio64.specs.declared.neighbours.Neighbour.{Neighbour}
 
 -- ---- two neighbours, by a sign
 
