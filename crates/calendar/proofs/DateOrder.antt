@@ -1,13 +1,6 @@
 -- Dates in their order, and their days.
-use Rattle.calendar.proofs.Common.{◌≡◌, ◌⊎◌, ◌+◌, ◌-◌, ◌<◌, ◌≤◌, ◌<ℤ◌, ◌+ℤ◌, ℕ, ℤ, pos, List, length, take, sum, slice_index, ◌∙◌, ap, arith, inl, inr, le_refl, sym, ints, to_z-of_z, take-take, linear}
-use Rattle.std.proofs.Props.{props}
-use Rattle.std.proofs.lemmas.List.Sums.{sum_by-take-le, sum_by_more}
-use mathlib.Core.HLevel.{is_prop→PathP}
-use Rattle.calendar.specs.declared.date.Date.{Date}
-use Rattle.calendar.specs.Dates.{IsEarlier, number_of}
-use Rattle.calendar.specs.Laws.{DateIsOnly, DateOfPartsIsOnly, DateOfYearDayIsOnly, OrderOfDates}
-use Rattle.calendar.specs.Months.{IsDate, days_before_month, days_in_month, months_of}
-use Rattle.calendar.specs.Years.{day_number, days_in_year, first_day}
+use Rattle.calendar.proofs.Common.{◌≡◌, ◌⊎◌, ◌+◌, ◌-◌, ◌<◌, ◌≤◌, ◌<ℤ◌, ◌+ℤ◌, ℕ, ℤ, pos, List, length, take, sum, slice_index, ◌∙◌, ap, arith, inl, inr, le_refl, sym, ints, to_z-of_z, take-take, linear, props, sum_by-take-le, sum_by_more, is_prop→PathP, Date, IsEarlier, number_of, DateIsOnly, DateOfPartsIsOnly, DateOfYearDayIsOnly, OrderOfDates, IsDate, days_before_month, days_in_month, months_of, day_number, first_day}
+use Rattle.calendar.specs.Years.{days_in_year}
 use Rattle.calendar.proofs.YearLengths.{later_year, next_first_day}
 
 -- ---- months

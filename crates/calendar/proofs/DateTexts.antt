@@ -1,15 +1,6 @@
 -- Dates as they are written, and as they are read.
-use Rattle.calendar.proofs.Common.{cond, ◌≡◌, ◌≢◌, ◌↔◌, ◌⊎◌, ◌+◌, ◌-◌, ◌*◌, ◌/◌, ◌%◌, ◌<◌, ◌≤◌, ◌++◌, ◌≤ℤ◌, ◌<ℤ◌, ℕ, suc, ℤ, pos, negsuc, List, [], ◌∷◌, drop, take, length, get_or, Bool, true, false, Option, Some, None, MatchOption, arith, ap, append_assoc, inl, inr, refl, sym, ◌∙◌, ints, append-nil, get_or-drop, length-append, take-append-drop}
-use Rattle.std.specs.Fmt.{char_count, decimal, format_spec, padded_integral, styled_signed_decimal}
-use Rattle.std.specs.Str.{IsCharBoundary}
-use Rattle.std.proofs.Math.Seq.{drop-append_seam, take-append_seam}
-use lib.Signed.{lt_z}
-use Rattle.calendar.specs.Dates.{HasParts}
-use Rattle.calendar.specs.Laws.{TextIsOnly}
-use Rattle.calendar.specs.Months.{IsDate}
-use Rattle.calendar.specs.declared.date.Date.{Date}
-use Rattle.calendar.specs.declared.iso_weeks.IsoWeek.{IsoWeek}
-use Rattle.calendar.specs.Text.{padded, text_of, week_text, with_number, year_text}
+use Rattle.calendar.proofs.Common.{cond, ◌≡◌, ◌≢◌, ◌↔◌, ◌⊎◌, ◌+◌, ◌-◌, ◌*◌, ◌/◌, ◌%◌, ◌<◌, ◌≤◌, ◌++◌, ◌≤ℤ◌, ◌<ℤ◌, ℕ, suc, ℤ, pos, negsuc, List, [], ◌∷◌, drop, take, length, get_or, Bool, true, false, Option, Some, None, MatchOption, arith, ap, append_assoc, inl, inr, refl, sym, ◌∙◌, ints, append-nil, get_or-drop, length-append, take-append-drop, decimal, format_spec, styled_signed_decimal, IsCharBoundary, drop-append_seam, take-append_seam, lt_z, HasParts, TextIsOnly, IsDate, Date, IsoWeek, padded, text_of, week_text, with_number, year_text}
+use Rattle.std.specs.Fmt.{char_count, padded_integral}
 use Rattle.calendar.proofs.DateOrder.{of_parts}
 use Rattle.calendar.proofs.MonthLengths.{month_length_range}
 use Rattle.calendar.proofs.PaddedNumbers.{two_places}

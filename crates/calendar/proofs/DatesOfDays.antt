@@ -1,12 +1,5 @@
 -- Each day has a date, and is in a year and in a week.
-use Rattle.calendar.proofs.Common.{◌≡◌, ◌+◌, ◌*◌, ◌/◌, ◌<◌, ◌≤◌, ◌+ℤ◌, ◌-ℤ◌, ℕ, zero, suc, ℤ, pos, negsuc, unsigned_abs, FitsSigned, MatchOption, Option, Some, None, w64, ◌∙◌, ap, arith, inl, inr, le_refl, refl, subst, sym, cases_lt, ints}
-use Rattle.std.specs.Prelude.{IfSome, IsSome}
-use Rattle.calendar.specs.declared.date.Date.{Date}
-use Rattle.calendar.specs.declared.weekday.Weekday.TheVariants.{Thursday}
-use Rattle.calendar.specs.Dates.{number_of}
-use Rattle.calendar.specs.Laws.{DateExists, IsoWeekExists, YearOfDayExists}
-use Rattle.calendar.specs.Months.{days_in_month}
-use Rattle.calendar.specs.Years.{HasDay, day_number, first_day}
+use Rattle.calendar.proofs.Common.{◌≡◌, ◌+◌, ◌*◌, ◌/◌, ◌<◌, ◌≤◌, ◌+ℤ◌, ◌-ℤ◌, ℕ, zero, suc, ℤ, pos, negsuc, unsigned_abs, FitsSigned, MatchOption, Option, Some, None, w64, ◌∙◌, ap, arith, inl, inr, le_refl, refl, subst, sym, cases_lt, ints, IfSome, IsSome, Date, Thursday, number_of, DateExists, IsoWeekExists, YearOfDayExists, days_in_month, HasDay, day_number, first_day}
 use Rattle.calendar.proofs.DateOrder.{last_of_year, next_month, next_year, year_day_range}
 use Rattle.calendar.proofs.LaterEras.{later, number_later}
 use Rattle.calendar.proofs.MonthLengths.{month_length_range}
@@ -85,9 +78,10 @@ pub some_date : (o : Option Date) {day : ℤ} → MatchOption o ((date : Date) �
 some_date None {day = day} beyond fits = let (date, is) = date_exists day in absurd (beyond date is (fits date is))
 some_date (Some date) own fits = refl
 
-pub this_date : (o : Option Date) (date : Date) (P : Type 0) {day : ℤ} → MatchOption o P (λ date. number_of date ≡ day) → IsSome o → IfSome o (λ found. found ≡ date) → number_of date ≡ day
-this_date None date P none there same = absurd (cc)
-this_date (Some found) date P own there same = ap number_of (sym same) ∙ own
+pub this_date : (o : Option Date) (date : Date) {day : ℤ} → MatchOption o ((date : Date) → number_of date ≡ day → ¬ (FitsSigned w64 date.year)) (λ date. number_of date ≡ day)
+    → ((date : Date) → number_of date ≡ day → FitsSigned w64 date.year) → IfSome o (λ found. found ≡ date) → number_of date ≡ day
+this_date None date beyond fits same = let none = some_date None beyond fits in absurd (cc)
+this_date (Some found) date own fits same = ap number_of (sym same) ∙ own
 
 -- ---- its year
 

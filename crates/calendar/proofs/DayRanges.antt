@@ -1,8 +1,6 @@
 -- The days from one date to another: the first of them and the others, and how many they are.
-use Rattle.std.specs.Prelude.{not}
-use Rattle.calendar.proofs.Common.{Bool, IsTrue, true, false, ◌↔◌, from_not_less, ◌≡◌, ◌≤◌, ◌++◌, ◌<ℤ◌, ◌≤ℤ◌, ◌+ℤ◌, ◌-ℤ◌, ℕ, zero, suc, ℤ, pos, List, [], ◌∷◌, length, unsigned_abs, int_max, ap, arith, inl, inr, refl, by_lt_z, clamps, ints, linear, sizes}
-use Rattle.calendar.specs.declared.date.Date.{Date}
-use Rattle.calendar.specs.Dates.{day_numbers, number_of, numbers_from}
+use Rattle.calendar.proofs.Common.{not, Bool, IsTrue, true, false, ◌↔◌, from_not_less, ◌≡◌, ◌≤◌, ◌++◌, ◌<ℤ◌, ◌≤ℤ◌, ◌+ℤ◌, ◌-ℤ◌, ℕ, zero, suc, ℤ, pos, List, [], ◌∷◌, length, unsigned_abs, int_max, ap, arith, inl, inr, refl, by_lt_z, clamps, ints, linear, sizes, Date, day_numbers, number_of}
+use Rattle.calendar.specs.Dates.{numbers_from}
 use Rattle.calendar.proofs.DateOrder.{order}
 use Rattle.calendar.proofs.MonthLengths.{month_length_range}
 

@@ -1,12 +1,5 @@
 -- The date of Easter.
-use Rattle.calendar.proofs.Common.{◌≡◌, ◌⊎◌, ◌+◌, ◌-◌, ◌*◌, ◌/◌, ◌<◌, ◌+ℤ◌, ◌-ℤ◌, ◌*ℤ◌, ℕ, ℤ, pos, unsigned_abs, ◌∙◌, ap, arith, inl, inr, refl, sym, nat_tests, by_lt_z, ints, floored_by_range, floored_quotient_range, floored_remainder_range, linear, only_floored, IsFloored, IsQuotient, IsRemainder}
-use Rattle.calendar.specs.Easter.{IsEaster, IsEpact, IsLunarCorrection, IsPaschalFullMoon, IsSolarCorrection, days_to_full_moon}
-use Rattle.calendar.specs.Laws.{EarlierFullMoons, EasterIsOnly, EpactOfTheFirstYear, EpactOfTheNextYear, FullMoonsDiffer, LunarCorrectionOfTwentyFiveCenturies, LunarCorrectionsFrom1800, SolarCorrectionOfTheNextCentury}
-use Rattle.calendar.specs.Weekday.{weekday_number}
-use Rattle.calendar.specs.Weeks.{HasWeekday, IsFirstWeekday}
-use Rattle.calendar.specs.Years.{day_number}
-use Rattle.calendar.specs.declared.weekday.Weekday.{Weekday}
-use Rattle.calendar.specs.declared.weekday.Weekday.TheVariants.{Sunday}
+use Rattle.calendar.proofs.Common.{◌≡◌, ◌⊎◌, ◌+◌, ◌-◌, ◌*◌, ◌/◌, ◌<◌, ◌+ℤ◌, ◌-ℤ◌, ◌*ℤ◌, ℕ, ℤ, pos, unsigned_abs, ◌∙◌, ap, arith, inl, inr, refl, sym, nat_tests, by_lt_z, ints, floored_by_range, floored_quotient_range, floored_remainder_range, linear, only_floored, IsFloored, IsQuotient, IsRemainder, IsEaster, IsEpact, IsLunarCorrection, IsPaschalFullMoon, IsSolarCorrection, days_to_full_moon, EarlierFullMoons, EasterIsOnly, EpactOfTheFirstYear, EpactOfTheNextYear, FullMoonsDiffer, LunarCorrectionOfTwentyFiveCenturies, LunarCorrectionsFrom1800, SolarCorrectionOfTheNextCentury, weekday_number, HasWeekday, IsFirstWeekday, day_number, Weekday, Sunday}
 use Rattle.calendar.proofs.WeekdayPlaces.{days_later, first_within, only_first}
 
 -- the Sunday after a day

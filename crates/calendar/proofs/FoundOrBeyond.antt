@@ -1,7 +1,5 @@
 -- Results that exist, and numbers that fit an `i64` or lie beyond it.
-use Rattle.calendar.proofs.Common.{◌≡◌, ℤ, FitsSigned, MatchOption, Option, Result, Ok, Err, Some, None, w64, SomeIff, refl, subst, sym}
-use Rattle.std.specs.Prelude.{IsSome}
-use Rattle.std.specs.Result.{OkIff, result_ok}
+use Rattle.calendar.proofs.Common.{◌≡◌, ℤ, FitsSigned, MatchOption, Option, Result, Ok, Err, Some, None, w64, SomeIff, refl, subst, sym, IsSome, OkIff, result_ok}
 
 -- A result is there if something meets its condition.
 pub is_found : {A : Type 0} (P : A → Type 0) (o : Option A) → (x : A) × P x → MatchOption o ((x : A) → ¬ (P x)) P → IsSome o

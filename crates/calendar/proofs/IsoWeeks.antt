@@ -1,17 +1,5 @@
 -- The weeks of ISO 8601.
-use Rattle.calendar.proofs.Common.{◌≡◌, ◌+◌, ◌-◌, ◌/◌, ◌%◌, ◌<◌, ◌≤◌, ◌≤ℤ◌, ◌<ℤ◌, ◌+ℤ◌, ◌-ℤ◌, ◌*ℤ◌, ℕ, ℤ, pos, negsuc, FitsSigned, MatchOption, Option, Some, None, w64, ap, arith, inl, inr, refl, subst, sym, cases_lt, ints, floored_by_range, floored_remainder_range, linear, IsFloored, IsRemainder}
-use Rattle.std.proofs.Math.Logic.{∥∥₁_elim, ∥∥₁_prop}
-use Rattle.std.proofs.Props.{props}
-use mathlib.Core.HLevel.{is_prop→PathP}
-use Rattle.calendar.specs.declared.date.Date.{Date}
-use Rattle.calendar.specs.Dates.{number_of}
-use Rattle.calendar.specs.IsoWeeks.{HasIsoWeek, HasIsoWeeks, IsDayOfIsoWeek, IsInIsoWeek, IsThursdayOfWeek}
-use Rattle.calendar.specs.Laws.{IsoDayExists, IsoDayIsOnly, IsoWeekIsOnly, IsoWeekOfNumbersIsOnly, IsoWeeksAreOnly, OrderOfIsoWeeks, WeeksOfAYear, YearOfDayIsOnly}
-use Rattle.calendar.specs.Years.{HasDay, days_in_year, first_day}
-use Rattle.calendar.specs.Weekday.{weekday_number}
-use Rattle.calendar.specs.Weeks.{HasWeekday}
-use Rattle.calendar.specs.declared.weekday.Weekday.{Weekday}
-use Rattle.calendar.specs.declared.weekday.Weekday.TheVariants.{Monday, Thursday}
+use Rattle.calendar.proofs.Common.{◌≡◌, ◌+◌, ◌-◌, ◌/◌, ◌%◌, ◌<◌, ◌≤◌, ◌≤ℤ◌, ◌<ℤ◌, ◌+ℤ◌, ◌-ℤ◌, ◌*ℤ◌, ℕ, ℤ, pos, negsuc, FitsSigned, MatchOption, Option, Some, None, w64, ap, arith, inl, inr, refl, subst, sym, cases_lt, ints, floored_by_range, floored_remainder_range, linear, IsFloored, IsRemainder, ∥∥₁_elim, ∥∥₁_prop, props, is_prop→PathP, Date, number_of, HasIsoWeek, HasIsoWeeks, IsDayOfIsoWeek, IsInIsoWeek, IsThursdayOfWeek, IsoDayExists, IsoDayIsOnly, IsoWeekIsOnly, IsoWeekOfNumbersIsOnly, IsoWeeksAreOnly, OrderOfIsoWeeks, WeeksOfAYear, YearOfDayIsOnly, HasDay, days_in_year, first_day, weekday_number, HasWeekday, Weekday, Monday, Thursday}
 use Rattle.calendar.proofs.DateOrder.{year_day_range}
 use Rattle.calendar.proofs.WeekdayPlaces.{below_seven, days_earlier, days_later, on_weekday, same_day, weekday_within, weeks_apart}
 use Rattle.calendar.proofs.YearLengths.{later_year, length_range, next_first_day}

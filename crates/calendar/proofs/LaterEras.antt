@@ -1,11 +1,6 @@
 -- Eras of 400 years, after which the calendar repeats.
-use Rattle.calendar.proofs.Common.{◌≡◌, ◌+◌, ◌-◌, ◌/◌, ◌%◌, ◌<◌, ◌+ℤ◌, ◌-ℤ◌, ◌*ℤ◌, ℕ, ℤ, pos, negsuc, neg_ℤ, FitsSigned, MatchOption, Option, Some, None, w64, ◌∙◌, arith, subst, sym, nat_tests, ints, dist-left, divides_by_magnitude, mul-neg}
-use Rattle.integer_core.specs.Divisors.{Divides}
-use Rattle.calendar.specs.Dates.{HasParts, number_of}
+use Rattle.calendar.proofs.Common.{◌≡◌, ◌+◌, ◌-◌, ◌/◌, ◌%◌, ◌<◌, ◌+ℤ◌, ◌-ℤ◌, ◌*ℤ◌, ℕ, ℤ, pos, negsuc, neg_ℤ, FitsSigned, MatchOption, Option, Some, None, w64, ◌∙◌, arith, subst, sym, nat_tests, ints, dist-left, divides_by_magnitude, mul-neg, Divides, HasParts, number_of, IsDate, first_day, Date}
 use Rattle.calendar.specs.LeapYears.{is_leap_year, is_multiple}
-use Rattle.calendar.specs.Months.{IsDate}
-use Rattle.calendar.specs.Years.{first_day}
-use Rattle.calendar.specs.declared.date.Date.{Date}
 use Rattle.calendar.proofs.DateOrder.{only_date}
 use Rattle.calendar.proofs.YearLengths.{in_era}
 

@@ -1,6 +1,5 @@
 -- The laws of specs/Laws.antt, a lemma each.
-use Rattle.calendar.proofs.Common.{arith, nat_tests, ints, divides_by_magnitude}
-use Rattle.calendar.specs.Laws.{FirstDay, LeapYearsByDivisors, LengthsOfYears}
+use Rattle.calendar.proofs.Common.{arith, nat_tests, ints, divides_by_magnitude, FirstDay, LeapYearsByDivisors, LengthsOfYears}
 use Rattle.calendar.specs.LeapYears.{is_leap_year, is_multiple}
 use Rattle.calendar.specs.Years.{days_in_year}
 use Rattle.calendar.proofs.YearLengths.{length_of}

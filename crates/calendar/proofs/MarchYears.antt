@@ -1,11 +1,6 @@
 -- The months, and years that begin on 1 March.
-use Rattle.calendar.proofs.Common.{◌≡◌, ◌+◌, ◌-◌, ◌*◌, ◌/◌, ◌%◌, ◌<◌, ◌≤◌, ◌+ℤ◌, ◌-ℤ◌, ◌*ℤ◌, ℕ, ℤ, pos, ◌⊎◌, Bool, true, false, sum, take, ap, arith, inl, inr, refl, rules, cases_lt, ints, to_z-of_z}
-use Rattle.std.specs.List.{All, range_with_len}
-use Rattle.std.proofs.lemmas.List.Elements.{All-get_or}
-use Rattle.std.proofs.lemmas.List.FromFn.{get_or-range_with_len}
-use Rattle.calendar.specs.LeapYears.{is_leap_year}
-use Rattle.calendar.specs.Months.{days_before_month, month_lengths}
-use Rattle.calendar.specs.Years.{day_number, days_in_year, first_day}
+use Rattle.calendar.proofs.Common.{◌≡◌, ◌+◌, ◌-◌, ◌*◌, ◌/◌, ◌%◌, ◌<◌, ◌≤◌, ◌+ℤ◌, ◌-ℤ◌, ◌*ℤ◌, ℕ, ℤ, pos, ◌⊎◌, Bool, true, false, sum, take, ap, arith, inl, inr, refl, rules, cases_lt, ints, to_z-of_z, All, range_with_len, All-get_or, get_or-range_with_len, is_leap_year, days_before_month, month_lengths, day_number, first_day}
+use Rattle.calendar.specs.Years.{days_in_year}
 use Rattle.calendar.proofs.YearLengths.{in_era, length_range, march_days, next_first_day}
 
 -- ---- months

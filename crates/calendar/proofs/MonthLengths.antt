@@ -1,9 +1,5 @@
 -- The lengths of the months.
-use Rattle.calendar.proofs.Common.{◌≤◌, ◌-◌, ℕ, ℤ, Bool, true, false, arith, rules}
-use Rattle.std.specs.List.{All}
-use Rattle.std.proofs.lemmas.List.Elements.{All-get_or}
-use Rattle.calendar.specs.LeapYears.{is_leap_year}
-use Rattle.calendar.specs.Months.{days_in_month, month_lengths, months_of}
+use Rattle.calendar.proofs.Common.{◌≤◌, ◌-◌, ℕ, ℤ, Bool, true, false, arith, rules, All, All-get_or, is_leap_year, days_in_month, month_lengths, months_of}
 
 lengths : (leap : Bool) → All (λ days. (28 ≤ days) × (days ≤ 31)) (month_lengths leap)
 lengths true = search rules

@@ -1,9 +1,5 @@
 -- Dates some months apart.
-use Rattle.calendar.proofs.Common.{◌≡◌, ◌<◌, ◌≤◌, ◌+◌, ◌-◌, ◌/◌, ◌%◌, ◌≤ℤ◌, ◌<ℤ◌, ◌+ℤ◌, ◌-ℤ◌, ◌*ℤ◌, ℕ, ℤ, pos, negsuc, min, unsigned_abs, ◌∙◌, arith, inl, inr, refl, sym, cases_lt, by_lt_z, ints, floored_quotient_range, floored_remainder_range, linear, IsFloored, IsQuotient}
-use Rattle.calendar.specs.Dates.{IsMonthsAfter, IsMonthsBetween, IsYearsBetween, number_of}
-use Rattle.calendar.specs.Laws.{MonthsAfterExists, MonthsAfterIsOnly, MonthsBetweenIsOnly, YearsBetweenIsOnly}
-use Rattle.calendar.specs.Months.{days_in_month, month_number}
-use Rattle.calendar.specs.declared.date.Date.{Date}
+use Rattle.calendar.proofs.Common.{◌≡◌, ◌<◌, ◌≤◌, ◌+◌, ◌-◌, ◌/◌, ◌%◌, ◌≤ℤ◌, ◌<ℤ◌, ◌+ℤ◌, ◌-ℤ◌, ◌*ℤ◌, ℕ, ℤ, pos, negsuc, min, unsigned_abs, ◌∙◌, arith, inl, inr, refl, sym, cases_lt, by_lt_z, ints, floored_quotient_range, floored_remainder_range, linear, IsFloored, IsQuotient, IsMonthsAfter, IsMonthsBetween, IsYearsBetween, number_of, MonthsAfterExists, MonthsAfterIsOnly, MonthsBetweenIsOnly, YearsBetweenIsOnly, days_in_month, month_number, Date}
 use Rattle.calendar.proofs.DateOrder.{of_parts, order}
 use Rattle.calendar.proofs.MonthLengths.{month_length_range}
 

@@ -1,14 +1,5 @@
 -- The days of a month that have a given day of the week.
-use Rattle.calendar.proofs.Common.{◌≡◌, ◌↔◌, ◌+◌, ◌-◌, ◌*◌, ◌%◌, ◌<◌, ◌≤◌, ◌+ℤ◌, ◌-ℤ◌, ◌*ℤ◌, ℕ, ℤ, pos, negsuc, MatchOption, Option, Some, None, arith, refl, sym, by_lt_z, ints}
-use Rattle.std.specs.Prelude.{IsSome}
-use Rattle.calendar.specs.declared.date.Date.{Date}
-use Rattle.calendar.specs.declared.weekday.Weekday.{Weekday}
-use Rattle.calendar.specs.Dates.{HasFifthWeekday, HasParts, IsLastWeekdayOfMonth, IsNthWeekday, number_of}
-use Rattle.calendar.specs.Laws.{LastWeekdayOfMonthIsOnly, NthWeekdayIsOnly}
-use Rattle.calendar.specs.Months.{IsDate, days_in_month}
-use Rattle.calendar.specs.Weekday.{weekday_number}
-use Rattle.calendar.specs.Weeks.{HasWeekday}
-use Rattle.calendar.specs.Years.{day_number}
+use Rattle.calendar.proofs.Common.{◌≡◌, ◌↔◌, ◌+◌, ◌-◌, ◌*◌, ◌%◌, ◌<◌, ◌≤◌, ◌+ℤ◌, ◌-ℤ◌, ◌*ℤ◌, ℕ, ℤ, pos, negsuc, MatchOption, Option, Some, None, arith, refl, sym, by_lt_z, ints, IsSome, Date, Weekday, HasFifthWeekday, HasParts, IsLastWeekdayOfMonth, IsNthWeekday, number_of, LastWeekdayOfMonthIsOnly, NthWeekdayIsOnly, IsDate, days_in_month, weekday_number, HasWeekday, day_number}
 use Rattle.calendar.proofs.DateOrder.{only_date}
 use Rattle.calendar.proofs.FoundOrBeyond.{is_found}
 use Rattle.calendar.proofs.MonthLengths.{month_length_range}

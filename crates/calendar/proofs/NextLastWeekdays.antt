@@ -1,10 +1,5 @@
 -- The dates that are the last of a day of the week in their months, one after the other.
-use Rattle.calendar.proofs.Common.{◌≡◌, ◌<◌, ◌≤◌, ◌<ℤ◌, ◌≤ℤ◌, ◌+ℤ◌, ℕ, ℤ, pos, FitsSigned, w64, arith, inr, subst, sym, by_lt_z, ints, linear}
-use Rattle.calendar.specs.Dates.{IsLastWeekdayOfMonth, IsMonthsAfter, IsNextLastWeekday, number_of}
-use Rattle.calendar.specs.Laws.{NextLastWeekdayExists, NextLastWeekdayIsOnly}
-use Rattle.calendar.specs.Months.{month_number}
-use Rattle.calendar.specs.declared.date.Date.{Date}
-use Rattle.calendar.specs.declared.weekday.Weekday.{Weekday}
+use Rattle.calendar.proofs.Common.{◌≡◌, ◌<◌, ◌≤◌, ◌<ℤ◌, ◌≤ℤ◌, ◌+ℤ◌, ℕ, ℤ, pos, FitsSigned, w64, arith, inr, subst, sym, by_lt_z, ints, linear, IsLastWeekdayOfMonth, IsMonthsAfter, IsNextLastWeekday, number_of, NextLastWeekdayExists, NextLastWeekdayIsOnly, month_number, Date, Weekday}
 use Rattle.calendar.proofs.DateOrder.{only_date, order}
 use Rattle.calendar.proofs.MonthSteps.{later_month, months_after_exists, same_month}
 use Rattle.calendar.proofs.MonthWeekdays.{last_weekday_exists}

@@ -1,12 +1,5 @@
 -- Numbers with zeros in front.
-use Rattle.calendar.proofs.Common.{◌≡◌, ◌≢◌, ◌↔◌, ◌≤◌, ◌+◌, ◌-◌, ◌*◌, ◌/◌, ◌%◌, ◌^◌, ◌<◌, ◌++◌, ℕ, zero, suc, List, [], ◌∷◌, length, replicate, get_or, Option, Some, None, Result, Ok, arith, ap, inl, inr, refl, subst, sym, ◌∙◌, cases_lt, length-append, length-replicate}
-use Rattle.std.specs.Fmt.{decimal}
-use Rattle.std.specs.Char.{digit_value}
-use Rattle.std.specs.Str.Parse.{AllDigits, ParsesUnsigned, digits_value, digits_value_after}
-use Rattle.std.proofs.lemmas.Fmt.{decimal-digits_value, decimal_digit, decimal_is_IsNumeral, decimal_step, first_decimal, length-decimal-le, length-decimal-le_succ}
-use Rattle.std.proofs.lemmas.Str.{digit_value_digit}
-use Rattle.std.proofs.lemmas.Str.Parse.{IsNumeralModel, digit_at, digit_from_value, digits_value_short, numerals_by_value, parse_gives, parse_plain, tells_digits}
-use Rattle.calendar.specs.Text.{IsShortest, padded}
+use Rattle.calendar.proofs.Common.{◌≡◌, ◌≢◌, ◌↔◌, ◌≤◌, ◌+◌, ◌-◌, ◌*◌, ◌/◌, ◌%◌, ◌^◌, ◌<◌, ◌++◌, ℕ, zero, suc, List, [], ◌∷◌, length, replicate, get_or, Option, Some, None, Result, Ok, arith, ap, inl, inr, refl, subst, sym, ◌∙◌, cases_lt, length-append, length-replicate, decimal, digit_value, AllDigits, ParsesUnsigned, digits_value, digits_value_after, decimal-digits_value, decimal_digit, decimal_is_IsNumeral, decimal_step, first_decimal, length-decimal-le, length-decimal-le_succ, digit_value_digit, IsNumeralModel, digit_at, digit_from_value, digits_value_short, numerals_by_value, parse_gives, parse_plain, tells_digits, IsShortest, padded}
 
 pub decimal_numerals : IsNumeralModel (AllDigits 10) (digits_value 10)
 decimal_numerals = numerals_by_value (AllDigits 10) tells_digits

@@ -1,12 +1,5 @@
 -- Division by a positive number, with a remainder that is not negative, and the remainder of `%`.
-use Rattle.calendar.proofs.Common.{◌≡◌, ◌↔◌, ◌<◌, ◌%◌, ◌≤ℤ◌, ◌<ℤ◌, ◌+ℤ◌, ◌*ℤ◌, ℕ, ℤ, ◌-ℤ◌, pos, negsuc, unsigned_abs, arith, ints, divides_by_magnitude}
-use Rattle.std.specs.Int.{int_div_euclid, int_rem_euclid}
-use Rattle.std.proofs.Common.{int_div, int_rem}
-use Rattle.std.proofs.Math.Nat.{div-add-mod}
-use Rattle.std.proofs.lemmas.Nat.{mod_below}
-use Rattle.std.proofs.lemmas.Int.{quot-rem, rem_below}
-use Rattle.integer_core.proofs.Quotients.{small_multiple}
-use Rattle.integer_core.proofs.Whole.{expand, products, sizes}
+use Rattle.calendar.proofs.Common.{◌≡◌, ◌↔◌, ◌<◌, ◌%◌, ◌≤ℤ◌, ◌<ℤ◌, ◌+ℤ◌, ◌*ℤ◌, ℕ, ℤ, ◌-ℤ◌, pos, negsuc, unsigned_abs, arith, ints, divides_by_magnitude, int_div_euclid, int_rem_euclid, int_div, int_rem, div-add-mod, mod_below, quot-rem, rem_below, small_multiple, expand, products, sizes}
 
 pub euclidean : (n d : ℤ) → pos 0 <ℤ d → (n ≡ d *ℤ int_div_euclid n d +ℤ int_rem_euclid n d) × (pos 0 ≤ℤ int_rem_euclid n d) × (int_rem_euclid n d <ℤ d)
 euclidean (pos a) (pos d) up = (omega (arith, ints, products, div-add-mod a d), omega (arith, ints), omega (arith, ints, mod_below a d (omega (arith, ints))))

@@ -1,10 +1,5 @@
 -- Days that have a given day of the week, and the first and the last of them.
-use Rattle.calendar.proofs.Common.{◌≡◌, ◌+◌, ◌-◌, ◌/◌, ◌%◌, ◌<◌, ◌≤ℤ◌, ◌<ℤ◌, ◌+ℤ◌, ◌-ℤ◌, ◌*ℤ◌, ℕ, ℤ, pos, negsuc, unsigned_abs, List, [], ◌∷◌, get_or, FitsSigned, MatchOption, Option, w64, SomeIff, ◌∙◌, ap, arith, refl, sym, ints, floored_by_range, greatest_is_only, least_is_only, linear, only_floored}
-use Rattle.calendar.specs.declared.weekday.Weekday.{Weekday}
-use Rattle.calendar.specs.declared.weekday.Weekday.TheVariants.{Sunday, Monday, Tuesday, Wednesday, Thursday, Friday, Saturday}
-use Rattle.calendar.specs.Laws.{FirstWeekdayExists, FirstWeekdayIsOnly, IsoNumberIsOnly, LastWeekdayExists, LastWeekdayIsOnly, WeekdayIsOnly, WeekdaysFollow}
-use Rattle.calendar.specs.Weekday.{weekday_number}
-use Rattle.calendar.specs.Weeks.{HasWeekday, IsFirstWeekday, IsLastWeekday}
+use Rattle.calendar.proofs.Common.{◌≡◌, ◌+◌, ◌-◌, ◌/◌, ◌%◌, ◌<◌, ◌≤ℤ◌, ◌<ℤ◌, ◌+ℤ◌, ◌-ℤ◌, ◌*ℤ◌, ℕ, ℤ, pos, negsuc, unsigned_abs, List, [], ◌∷◌, get_or, FitsSigned, MatchOption, Option, w64, SomeIff, ◌∙◌, ap, arith, refl, sym, ints, floored_by_range, greatest_is_only, least_is_only, linear, only_floored, Weekday, Sunday, Monday, Tuesday, Wednesday, Thursday, Friday, Saturday, FirstWeekdayExists, FirstWeekdayIsOnly, IsoNumberIsOnly, LastWeekdayExists, LastWeekdayIsOnly, WeekdayIsOnly, WeekdaysFollow, weekday_number, HasWeekday, IsFirstWeekday, IsLastWeekday}
 use Rattle.calendar.proofs.FoundOrBeyond.{only_or_beyond}
 
 -- ---- days of one day of the week

@@ -1,10 +1,8 @@
 -- The days of years, and the days on which they begin.
-use Rattle.calendar.proofs.Common.{◌≡◌, ◌+◌, ◌-◌, ◌*◌, ◌/◌, ◌≤◌, ◌≤ℤ◌, ◌<ℤ◌, ◌+ℤ◌, ◌-ℤ◌, ◌*ℤ◌, ℕ, zero, suc, ℤ, pos, negsuc, Bool, true, false, cond, sum, arith, add-one, refl, nat_tests, by_lt_z, ints, to_z-of_z}
-use Rattle.calendar.proofs.Remainders.{rem_zero}
-use Rattle.calendar.specs.Laws.{YearsFollow}
+use Rattle.calendar.proofs.Common.{◌≡◌, ◌+◌, ◌-◌, ◌*◌, ◌/◌, ◌≤◌, ◌≤ℤ◌, ◌<ℤ◌, ◌+ℤ◌, ◌-ℤ◌, ◌*ℤ◌, ℕ, zero, suc, ℤ, pos, negsuc, Bool, true, false, cond, sum, arith, add-one, refl, nat_tests, by_lt_z, ints, to_z-of_z, YearsFollow, month_lengths, first_day}
 use Rattle.calendar.specs.LeapYears.{is_leap_year, is_multiple}
-use Rattle.calendar.specs.Months.{month_lengths}
-use Rattle.calendar.specs.Years.{days_after, days_before, days_in_year, first_day}
+use Rattle.calendar.specs.Years.{days_after, days_before, days_in_year}
+use Rattle.calendar.proofs.Remainders.{rem_zero}
 
 -- ---- the days of years
 

@@ -1,7 +1,6 @@
 -- Years as they are written.
-use Rattle.calendar.proofs.Common.{◌≡◌, ◌≢◌, ◌↔◌, ◌-◌, ◌^◌, ◌<◌, ◌≤◌, ℕ, zero, suc, ℤ, pos, negsuc, neg_ℤ, unsigned_abs, List, ◌∷◌, get_or, FitsSigned, Option, Some, None, w64, arith, ap, inl, inr, refl, sym, ◌∙◌, cases_lt, nat_tests, ints}
-use Rattle.std.specs.Str.Parse.{digits_value}
-use Rattle.calendar.specs.Text.{padded, year_text}
+use Rattle.calendar.proofs.Common.{◌≡◌, ◌≢◌, ◌↔◌, ◌-◌, ◌^◌, ◌<◌, ◌≤◌, ℕ, zero, suc, ℤ, pos, negsuc, neg_ℤ, unsigned_abs, List, ◌∷◌, get_or, FitsSigned, Option, Some, None, w64, arith, ap, inl, inr, refl, sym, ◌∙◌, cases_lt, nat_tests, ints, digits_value, padded}
+use Rattle.calendar.specs.Text.{year_text}
 use Rattle.calendar.proofs.PaddedNumbers.{Reads, padded_shortest, padded_value}
 
 pub below : (n : ℕ) → n < 10000 → year_text (pos n) ≡ padded 4 n

@@ -1,17 +1,6 @@
 -- The text of a date is ASCII.
-use Rattle.std.specs.Prelude.{◌<◌, ◌-◌, ◌^◌, ◌++◌, ℕ, ℤ, zero, suc, pos, negsuc, List, [], ◌∷◌, length, nat_lt, replicate, FitsSigned}
-use Rattle.std.specs.Fmt.{decimal}
-use Rattle.std.specs.Int.{w64}
-use Rattle.std.specs.Str.{IsAscii, IsUtf8}
-use Rattle.std.proofs.Common.{arith, inl, inr}
-use Rattle.std.proofs.lemmas.Bool.{cases_Bool}
-use Rattle.std.proofs.lemmas.Fmt.{IsAscii-decimal}
-use Rattle.std.proofs.lemmas.Int.{ints}
-use Rattle.std.proofs.lemmas.Str.{IsAscii-append, IsUtf8-from_ascii}
-use Rattle.std.proofs.lemmas.Str.Ascii.{IsAscii-cons, IsAscii-nil}
-use Rattle.calendar.proofs.ForCallers.{month_length_range}
-use Rattle.calendar.specs.Text.{padded, text_of, with_number, year_text}
-use Rattle.calendar.specs.declared.date.Date.{Date}
+use Rattle.cellarcove_c.proofs.Common.{◌<◌, ◌-◌, ◌^◌, ◌++◌, ℕ, ℤ, zero, suc, pos, negsuc, List, [], ◌∷◌, length, nat_lt, replicate, FitsSigned, decimal, w64, IsAscii, IsUtf8, arith, inl, inr, cases_Bool, IsAscii-decimal, ints, IsAscii-append, IsUtf8-from_ascii, IsAscii-cons, IsAscii-nil, month_length_range, padded, text_of, with_number, Date}
+use Rattle.calendar.specs.Text.{year_text}
 
 zeros_ascii : (k : ℕ) → IsAscii (replicate k 48)
 zeros_ascii zero = IsAscii-nil

@@ -1,13 +1,5 @@
 -- What a call for the class of two congruences returns.
-use Rattle.std.specs.Prelude.{◌≡◌, ◌⊎◌, ◌↔◌, ◌<ℤ◌, ◌≤ℤ◌, ℕ, ℤ, pos, zero, suc, MatchOption, Option}
-use Rattle.std.proofs.Common.{arith, inl, inr, refl, subst, sym}
-use Rattle.std.proofs.lemmas.Int.{ints}
-use Rattle.modular.specs.Congruences.{IsResidueClass, SolvesBothCongruences}
-use Rattle.num_integer.specs.Divisors.{IsLeastCommonMultiple}
-use Rattle.num_integer.specs.Range.{EachFits}
-use Rattle.cellarcove_c.specs.Answers.{Refuses}
-use Rattle.cellarcove_c.specs.Congruences.{IsClassOfBoth, IsNever}
-use Rattle.cellarcove_c.specs.Statuses.{StatusIsOneOf, StatusIs, answer_of, bad_modulus, no_solution, not_fitting}
+use Rattle.cellarcove_c.proofs.Common.{◌≡◌, ◌⊎◌, ◌↔◌, ◌<ℤ◌, ◌≤ℤ◌, ℕ, ℤ, pos, zero, suc, MatchOption, Option, arith, inl, inr, refl, subst, sym, ints, IsResidueClass, SolvesBothCongruences, IsLeastCommonMultiple, EachFits, Refuses, IsClassOfBoth, IsNever, StatusIsOneOf, StatusIs, answer_of, bad_modulus, no_solution, not_fitting}
 use Rattle.cellarcove_c.proofs.CommonSolutions.{class_has, no_third}
 
 -- two moduli are bad, or both are positive

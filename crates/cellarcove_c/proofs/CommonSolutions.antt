@@ -1,15 +1,5 @@
 -- Two congruences, and whether a number solves both.
-use Rattle.std.specs.Prelude.{◌≡◌, ◌≢◌, ℕ, ℤ, zero, suc}
-use Rattle.std.proofs.Common.{◌∙◌, arith, inl, inr, refl, subst, sym}
-use Rattle.modular.specs.CommonSolutions.{MatchCommonSolution}
-use Rattle.modular.specs.Congruences.{IsResidueClass}
-use Rattle.modular.specs.declared.common_solutions.CommonSolution.{CommonSolution}
-use Rattle.modular.specs.declared.common_solutions.CommonSolution.TheVariants.{Never, Beyond, At}
-use Rattle.modular.proofs.ForCallers.{congruent-refl}
-use Rattle.num_integer.specs.Least.{IsLeastFrom}
-use Rattle.cellarcove_c.specs.Answers.{Refuses}
-use Rattle.cellarcove_c.specs.Congruences.{IsBeyond, IsNever}
-use Rattle.cellarcove_c.specs.Statuses.{StatusIsOneOf, common_solution_of, no_solution, not_fitting}
+use Rattle.cellarcove_c.proofs.Common.{◌≡◌, ◌≢◌, ℕ, ℤ, zero, suc, ◌∙◌, arith, inl, inr, refl, subst, sym, MatchCommonSolution, IsResidueClass, CommonSolution, Never, Beyond, At, congruent-refl, IsLeastFrom, Refuses, IsBeyond, IsNever, StatusIsOneOf, common_solution_of, no_solution, not_fitting}
 
 -- a status that is one of two is no third
 pub no_third : {status one two three : ℕ} → StatusIsOneOf one two status → ¬ (one ≡ three) → ¬ (two ≡ three) → ¬ (status ≡ three)

@@ -1,9 +1,5 @@
 -- Congruences, copied one by one.
-use Rattle.std.specs.Prelude.{◌≡◌, ◌<◌, ◌≤◌, ◌<ℤ◌, ◌+◌, ℕ, ℤ, pos, List, [], ◌∷◌, ◌++◌, length, map}
-use Rattle.std.specs.List.{All}
-use Rattle.std.proofs.Common.{◌∙◌, ap, arith, get_or, refl, set, subst, sym, take}
-use Rattle.std.proofs.lemmas.List.{get_or-map, length-map, map_more, take_all, take_more_set}
-use Rattle.std.proofs.lemmas.List.Elements.{All-get_or, All-nil, All-push}
+use Rattle.cellarcove_c.proofs.Common.{◌≡◌, ◌<◌, ◌≤◌, ◌<ℤ◌, ◌+◌, ℕ, ℤ, pos, List, [], ◌∷◌, ◌++◌, length, map, All, ◌∙◌, ap, arith, get_or, refl, set, subst, sym, take, get_or-map, length-map, map_more, take_all, take_more_set, All-get_or, All-nil, All-push}
 
 -- the first i pairs are those of the first i congruences, and have a property
 pub record AreCopied {C P : Type 0} (pair : C → P) (FitsWith : P → Type 0) (congruences : List C) (pairs : List P) (i : ℕ) : Type 0 where

@@ -1,14 +1,5 @@
 -- The digits of decimal numbers.
-use Rattle.std.specs.Prelude.{◌≡◌, ◌↔◌, ◌<◌, ◌≤◌, ◌*◌, ◌/◌, ◌%◌, ◌^◌, ◌<ℤ◌, ◌*ℤ◌, ℕ, ℤ, Bool, pos, unsigned_abs, FitsSigned, IsTrue}
-use Rattle.std.specs.Int.{w64}
-use Rattle.std.proofs.Common.{Fits, arith, div-lt_iff_lt-mul, mul-le-mul_right}
-use Rattle.std.proofs.lemmas.Int.{unsigned_abs-mul}
-use Rattle.std.proofs.Math.Nat.{div-add-mod, mod-lt}
-use Rattle.ratio64.proofs.DecimalTexts.{ten_grows, ten_up}
-use Rattle.ratio64.proofs.NearestNumbers.{quotient_size, rounded_even_division}
-use Rattle.ratio64.proofs.WideSums.{part_size}
-use Rattle.ratio64.specs.Rounding.{IsRoundedEven}
-use Rattle.cellarcove_c.specs.Decimals.{HasDigits}
+use Rattle.cellarcove_c.proofs.Common.{◌≡◌, ◌↔◌, ◌<◌, ◌≤◌, ◌*◌, ◌/◌, ◌%◌, ◌^◌, ◌<ℤ◌, ◌*ℤ◌, ℕ, ℤ, Bool, pos, unsigned_abs, FitsSigned, IsTrue, w64, Fits, arith, div-lt_iff_lt-mul, mul-le-mul_right, unsigned_abs-mul, div-add-mod, mod-lt, ten_grows, ten_up, quotient_size, rounded_even_division, part_size, IsRoundedEven, HasDigits}
 
 -- the integer part is at most the magnitude of the numerator
 pub whole_below : {num d units : ℤ} (places : ℕ) → FitsSigned w64 num → pos 0 <ℤ d → IsRoundedEven (num *ℤ pos (10 ^ places)) d units → unsigned_abs units / 10 ^ places < 2 ^ 64

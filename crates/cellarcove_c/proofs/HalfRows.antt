@@ -1,11 +1,5 @@
 -- Rows of Pascal's triangle one after the other, each up to its middle.
-use Rattle.std.specs.Prelude.{◌≡◌, ◌+◌, ◌-◌, ◌*◌, ◌/◌, ◌<◌, ◌≤◌, ℕ, zero, suc, min, List, [], ◌∷◌, ◌++◌, length, take, get_or}
-use Rattle.std.proofs.Common.{◌∙◌, ap, arith, inl, inr, le_refl, refl, sym}
-use Rattle.std.proofs.lemmas.Bool.{cases_lt}
-use Rattle.std.proofs.lemmas.List.{get_or-append_right, get_or-take, get_or_append_left, length-take-le}
-use Rattle.num_integer.specs.Coefficient.{coefficient}
-use Rattle.num_integer.proofs.ForCallers.{coefficient-zero, none_above, pascal}
-use Rattle.num_integer.proofs.Laws.{coefficient_mirror}
+use Rattle.cellarcove_c.proofs.Common.{◌≡◌, ◌+◌, ◌-◌, ◌*◌, ◌/◌, ◌<◌, ◌≤◌, ℕ, zero, suc, min, List, [], ◌∷◌, ◌++◌, length, take, get_or, ◌∙◌, ap, arith, inl, inr, le_refl, refl, sym, cases_lt, get_or-append_right, get_or-take, get_or_append_left, length-take-le, coefficient, coefficient-zero, none_above, pascal, coefficient_mirror}
 
 -- the sums of each two neighbours of a row, whose first number follows `before`
 unfoldable pub sums : ℕ → List ℕ → List ℕ

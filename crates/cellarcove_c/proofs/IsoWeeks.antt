@@ -1,17 +1,5 @@
 -- The weeks of a year, and their days.
-use Rattle.std.specs.Prelude.{◌≡◌, ◌↔◌, ◌+◌, ◌-◌, ◌≤◌, ◌-ℤ◌, ◌*ℤ◌, ℕ, ℤ, pos, FitsSigned}
-use Rattle.std.specs.Int.{w64}
-use Rattle.std.proofs.Common.{◌∙◌, arith, subst, sym}
-use Rattle.std.proofs.lemmas.Int.{ints}
-use Rattle.calendar.specs.Dates.{HasParts, number_of}
-use Rattle.calendar.specs.IsoWeeks.{HasIsoWeek, HasIsoWeeks, IsDayOfIsoWeek, IsInIsoWeek}
-use Rattle.calendar.specs.Weekday.{iso_number}
-use Rattle.calendar.specs.Years.{HasDay}
-use Rattle.calendar.specs.declared.date.Date.{Date}
-use Rattle.calendar.specs.declared.weekday.Weekday.{Weekday}
-use Rattle.calendar.proofs.ForCallers.{in_its_year, weeks_apart}
-use Rattle.calendar.proofs.Laws.{iso_day_exists, iso_day_is_only, iso_number_is_only, weeks_of_a_year}
-use Rattle.cellarcove_c.specs.Dates.{IsDayBeyond, IsOfIsoNumber}
+use Rattle.cellarcove_c.proofs.Common.{◌≡◌, ◌↔◌, ◌+◌, ◌-◌, ◌≤◌, ◌-ℤ◌, ◌*ℤ◌, ℕ, ℤ, pos, FitsSigned, w64, ◌∙◌, arith, subst, sym, ints, HasParts, number_of, HasIsoWeek, HasIsoWeeks, IsDayOfIsoWeek, IsInIsoWeek, iso_number, HasDay, Date, Weekday, in_its_year, weeks_apart, iso_day_exists, iso_day_is_only, iso_number_is_only, weeks_of_a_year, IsDayBeyond, IsOfIsoNumber}
 
 -- ---- weeks
 

@@ -1,36 +1,8 @@
 -- The laws of specs/Laws.antt, a lemma each.
-use Rattle.std.specs.Prelude.{◌≡◌, ◌≢◌, ◌⊎◌, ◌↔◌, ◌<◌, ◌≤◌, ◌+◌, ◌*◌, ◌<ℤ◌, ◌≤ℤ◌, ◌+ℤ◌, ◌-ℤ◌, ℕ, ℤ, zero, suc, pos, negsuc, Bool, List, true, false, length, FitsSigned, IfSome, IsTrue, MatchOption, MatchResult, Option, Some, None, Ok, Err, Result}
-use Rattle.std.specs.Int.{w64}
-use Rattle.std.specs.declared.cmp.Ordering.TheVariants.{Equal, Greater, Less}
-use Rattle.std.proofs.Common.{◌∙◌, ap, arith, inl, inr, mul-le-mul_right, refl, subst, sym}
-use Rattle.std.proofs.lemmas.Bool.{cases_lt, iff_false}
-use Rattle.std.proofs.lemmas.Int.{by_lt_z, ints}
-use Rattle.num_integer.proofs.ForCallers.{Divides-difference, least_is_only, linear, sizes, small_multiple_is_zero, zero_or_not}
-use Rattle.num_integer.proofs.Laws.{remainder_is_only, root_is_only}
-use Rattle.num_integer.specs.Division.{IsRemainder, IsTruncated}
-use Rattle.num_integer.specs.Divisors.{Divides, IsLeastCommonMultiple}
-use Rattle.num_integer.specs.Least.{IsLeastFrom}
-use Rattle.modular.proofs.Laws.{residue_class_is_only}
-use Rattle.modular.specs.CommonSolutions.{MatchCommonSolution}
-use Rattle.modular.specs.Congruences.{IsResidueClass, SolvesBothCongruences, SolvesEach}
-use Rattle.calendar.specs.Dates.{HasParts, IsMonthsBetween, IsYearsBetween}
-use Rattle.calendar.specs.declared.date.Date.{Date}
-use Rattle.calendar.specs.declared.weekday.Weekday.{Weekday}
-use Rattle.calendar.proofs.ForCallers.{same_month}
-use Rattle.calendar.proofs.Laws.{date_of_parts_is_only, iso_number_is_only, text_is_only}
+use Rattle.cellarcove_c.proofs.Common.{◌≡◌, ◌≢◌, ◌⊎◌, ◌↔◌, ◌<◌, ◌≤◌, ◌+◌, ◌*◌, ◌<ℤ◌, ◌≤ℤ◌, ◌+ℤ◌, ◌-ℤ◌, ℕ, ℤ, zero, suc, pos, negsuc, Bool, List, true, false, length, FitsSigned, IfSome, IsTrue, MatchOption, MatchResult, Option, Some, None, Ok, Err, Result, w64, Equal, Greater, Less, ◌∙◌, ap, arith, inl, inr, mul-le-mul_right, refl, subst, sym, cases_lt, iff_false, by_lt_z, ints, Divides-difference, least_is_only, linear, sizes, small_multiple_is_zero, zero_or_not, remainder_is_only, root_is_only, IsRemainder, IsTruncated, Divides, IsLeastCommonMultiple, IsLeastFrom, residue_class_is_only, MatchCommonSolution, IsResidueClass, SolvesBothCongruences, SolvesEach, HasParts, IsMonthsBetween, IsYearsBetween, Date, Weekday, same_month, date_of_parts_is_only, iso_number_is_only, text_is_only, IsBeyond, IsClassOfBoth, IsNever, IsNextOfSeveral, IsReasonOfCongruences, IsReasonOfSeveral, HasText, ReadsDate, HasDigits, StatusIsOneOf, bad_modulus, common_solution_of, no_solution, not_fitting, outside, FractionAnswer, AnswersIsOnly, AnswersModuloIsOnly, ClassOfBothIsOnly, DayOfIsoNumberIsOnly, FewestPagesIsOnly, FractIsOnly, InDigitsIsOnly, InPartsIsOnly, MonthsBetweenIsOnly, MonthsLaterIsOnly, NextOfSeveralIsOnly, OfIsoNumberIsOnly, OnBothIsOnly, OrderNumberIsOnly, PaddingIsOnly, PowerIsOnly, ReadDateIsOnly, ReasonIsOnly, RootWithRestIsOnly, StandsForIsOnly, StandsForNumberIsOnly, StandsForReadIsOnly, YearsBetweenIsOnly, answer_is_only, rounded_even_is_only, den_of, num_of, RatioError, Ratio}
 use Rattle.calendar.proofs.Laws.{months_between_is_only as whole_months_are_only, years_between_is_only as whole_years_are_only}
-use Rattle.cellarcove_c.specs.Congruences.{IsBeyond, IsClassOfBoth, IsNever, IsNextOfSeveral, IsReasonOfCongruences, IsReasonOfSeveral}
-use Rattle.cellarcove_c.specs.DateTexts.{HasText, ReadsDate}
-use Rattle.cellarcove_c.specs.Decimals.{HasDigits}
-use Rattle.cellarcove_c.specs.Statuses.{StatusIsOneOf, bad_modulus, common_solution_of, no_solution, not_fitting, outside}
 use Rattle.cellarcove_c.specs.declared.dates.Date.{Date as Parts}
-use Rattle.cellarcove_c.specs.declared.fractions.FractionAnswer.{FractionAnswer}
-use Rattle.cellarcove_c.specs.Laws.{AnswersIsOnly, AnswersModuloIsOnly, ClassOfBothIsOnly, DayOfIsoNumberIsOnly, FewestPagesIsOnly, FractIsOnly, InDigitsIsOnly, InPartsIsOnly, MonthsBetweenIsOnly, MonthsLaterIsOnly, NextOfSeveralIsOnly, OfIsoNumberIsOnly, OnBothIsOnly, OrderNumberIsOnly, PaddingIsOnly, PowerIsOnly, ReadDateIsOnly, ReasonIsOnly, RootWithRestIsOnly, StandsForIsOnly, StandsForNumberIsOnly, StandsForReadIsOnly, YearsBetweenIsOnly}
-use Rattle.ratio64.proofs.Laws.{answer_is_only, rounded_even_is_only}
-use Rattle.ratio64.specs.Ratio.{den_of, num_of}
 use Rattle.ratio64.specs.RatioError.{number_of}
-use Rattle.ratio64.specs.declared.error.RatioError.{RatioError}
-use Rattle.ratio64.specs.declared.fraction.Ratio.{Ratio}
 
 -- ---- statuses
 

@@ -1,15 +1,5 @@
 -- What a call for several congruences returns.
-use Rattle.std.specs.Prelude.{◌≡◌, ◌<◌, ◌≤◌, ℕ, ℤ, List, length, map}
-use Rattle.std.proofs.Common.{arith, inl, inr, refl}
-use Rattle.std.proofs.lemmas.List.{length-map}
-use Rattle.num_integer.specs.Least.{IsLeastFrom}
-use Rattle.modular.specs.CommonSolutions.{MatchCommonSolution}
-use Rattle.modular.specs.Congruences.{SolvesEach}
-use Rattle.modular.specs.declared.common_solutions.CommonSolution.{CommonSolution}
-use Rattle.modular.specs.declared.common_solutions.CommonSolution.TheVariants.{Never, Beyond, At}
-use Rattle.cellarcove_c.specs.Answers.{Refuses}
-use Rattle.cellarcove_c.specs.Congruences.{HavePositiveModuli, IsBeyond, IsNever, IsNextOfSeveral}
-use Rattle.cellarcove_c.specs.Statuses.{StatusIsOneOf, bad_modulus, common_solution_of, no_solution, not_fitting, outside}
+use Rattle.cellarcove_c.proofs.Common.{◌≡◌, ◌<◌, ◌≤◌, ℕ, ℤ, List, length, map, arith, inl, inr, refl, length-map, IsLeastFrom, MatchCommonSolution, SolvesEach, CommonSolution, Never, Beyond, At, Refuses, HavePositiveModuli, IsBeyond, IsNever, IsNextOfSeveral, StatusIsOneOf, bad_modulus, common_solution_of, no_solution, not_fitting, outside}
 use Rattle.cellarcove_c.proofs.CommonSolutions.{no_third}
 
 module _ {X C : Type 0} (value : X → ℤ) (fits : ℤ → Type 0) (from : ℤ) (pair : C → X × X) (congruences : List C) (zero_value : X) (within : length congruences ≤ 64) where

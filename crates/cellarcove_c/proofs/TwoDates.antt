@@ -1,11 +1,5 @@
 -- What a call for two dates returns.
-use Rattle.std.specs.Prelude.{◌≡◌, ◌⊎◌, ℕ, ℤ, Option, Some, None, FitsSigned}
-use Rattle.std.specs.Int.{w64}
-use Rattle.std.specs.Option.{SomeIff}
-use Rattle.std.proofs.Common.{arith, inl, inr}
-use Rattle.num_integer.specs.Checked.{AnswersWhere}
-use Rattle.cellarcove_c.specs.Answers.{Refuses}
-use Rattle.cellarcove_c.specs.Statuses.{StatusIs, no_date, not_fitting}
+use Rattle.cellarcove_c.proofs.Common.{◌≡◌, ◌⊎◌, ℕ, ℤ, Option, Some, None, FitsSigned, w64, SomeIff, arith, inl, inr, AnswersWhere, Refuses, StatusIs, no_date, not_fitting}
 
 -- two dates that exist are not missing
 pub not_missing : {P Q : Type 0} → P → Q → ¬ ((¬ P) ⊎ (¬ Q))

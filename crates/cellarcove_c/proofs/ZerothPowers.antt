@@ -1,8 +1,5 @@
 -- Powers of degree 0.
-use Rattle.std.specs.Prelude.{◌≡◌, ◌↔◌, ℕ, ℤ, pos}
-use Rattle.std.specs.Int.{int_pow}
-use Rattle.std.proofs.Common.{◌∙◌, sym}
-use Rattle.num_integer.proofs.ForCallers.{int_pow-zero}
+use Rattle.cellarcove_c.proofs.Common.{◌≡◌, ◌↔◌, ℕ, ℤ, pos, int_pow, ◌∙◌, sym, int_pow-zero}
 
 -- 1 is one, and no other number
 pub is_zeroth_power : (x : ℤ) (degree : ℕ) → degree ≡ 0 → (x ≡ pos 1) ↔ ((k : ℤ) × (int_pow k degree ≡ x))

@@ -1,9 +1,5 @@
 -- The order of fractions by cross multiplication.
-use Rattle.std.specs.Prelude.{◌≡◌, ◌↔◌, ◌<ℤ◌, ◌*ℤ◌, ℤ}
-use Rattle.std.specs.Cmp.{int_cmp_is, int_ranked}
-use Rattle.std.specs.declared.cmp.Ordering.TheVariants.{Equal, Greater, Less}
-use Rattle.std.proofs.Common.{sym}
-use Rattle.ratio64.specs.Fraction.{fraction_cmp}
+use Rattle.ratio64.proofs.Common.{◌≡◌, ◌↔◌, ◌<ℤ◌, ◌*ℤ◌, ℤ, int_cmp_is, int_ranked, Equal, Greater, Less, sym, fraction_cmp}
 
 pub less_exactly : (a b c d : ℤ) → (fraction_cmp a b c d ≡ Less) ↔ ((a *ℤ d) <ℤ (c *ℤ b))
 less_exactly a b c d = (λ h. int_ranked (a *ℤ d) (c *ℤ b) Less (sym h), λ h. sym (int_cmp_is (a *ℤ d) (c *ℤ b) Less h))

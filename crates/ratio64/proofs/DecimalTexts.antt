@@ -1,15 +1,7 @@
 -- The strings of decimal numbers: their digits as they are written.
-use Rattle.std.specs.Prelude.{◌≡◌, ◌≤◌, ◌+◌, ◌-◌, ◌*◌, ◌/◌, ◌%◌, ◌^◌, ◌<◌, ◌++◌, ◌==◌, ℕ, zero, suc, ℤ, List, [], ◌∷◌, false, length, pos, replicate, unsigned_abs, FitsSigned, OnOk, Result}
-use Rattle.std.specs.Fmt.{WritesInCalls, char_count, decimal, format_spec, padded_integral, sign_text, styled_decimal}
-use Rattle.std.specs.Int.{is_negative, w64}
-use Rattle.std.proofs.Common.{append_assoc, arith, ap, inl, inr, refl, subst, sym, ◌∙◌}
-use Rattle.std.proofs.lemmas.Bool.{cases_lt}
-use Rattle.std.proofs.lemmas.Bool.Decides.{nat_tests}
-use Rattle.std.proofs.lemmas.Int.{ints}
-use Rattle.std.proofs.lemmas.Fmt.{decimal_digit, decimal_step}
-use Rattle.std.proofs.lemmas.List.{append-nil, length-append}
-use Rattle.std.proofs.Math.Nat.{div-add-mod, mod-eq_of_lt, mod-lt, mul-add-mod_self_left, pow-succ'}
-use Rattle.ratio64.specs.Decimal.{decimal_text, last_digits}
+use Rattle.ratio64.proofs.Common.{◌≡◌, ◌≤◌, ◌+◌, ◌-◌, ◌*◌, ◌/◌, ◌%◌, ◌^◌, ◌<◌, ◌++◌, ◌==◌, ℕ, zero, suc, ℤ, List, [], ◌∷◌, false, length, pos, replicate, unsigned_abs, FitsSigned, OnOk, Result, WritesInCalls, decimal, format_spec, sign_text, styled_decimal, is_negative, w64, append_assoc, arith, ap, inl, inr, refl, subst, sym, ◌∙◌, cases_lt, nat_tests, ints, decimal_digit, decimal_step, append-nil, length-append, div-add-mod, mod-eq_of_lt, mod-lt, mul-add-mod_self_left, pow-succ', decimal_text}
+use Rattle.std.specs.Fmt.{char_count, padded_integral}
+use Rattle.ratio64.specs.Decimal.{last_digits}
 
 -- ---- powers of ten
 

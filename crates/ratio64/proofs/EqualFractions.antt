@@ -1,12 +1,5 @@
 -- Equal fractions have one exact result, and equal sums and products.
-use Rattle.std.specs.Prelude.{◌≢◌, ◌+ℤ◌, ◌*ℤ◌, ℤ, pos, Result, Ok, Err, IfOk}
-use Rattle.std.proofs.Common.{arith, ap}
-use Rattle.num_integer.proofs.ForCallers.{expand, linear}
-use Rattle.ratio64.specs.Fraction.{AreEqual, IsExact, IsFraction, IsOutsideI64}
-use Rattle.ratio64.specs.Ratio.{AnswersFraction, num_of, den_of}
-use Rattle.ratio64.specs.ReducedPairs.{AreEqual-sym, positive_is_nonzero}
-use Rattle.ratio64.specs.declared.fraction.Ratio.{Ratio}
-use Rattle.ratio64.specs.declared.error.RatioError.{RatioError}
+use Rattle.ratio64.proofs.Common.{◌≢◌, ◌+ℤ◌, ◌*ℤ◌, ℤ, pos, Result, Ok, Err, IfOk, arith, ap, expand, linear, AreEqual, IsExact, IsFraction, IsOutsideI64, AnswersFraction, num_of, den_of, AreEqual-sym, positive_is_nonzero, Ratio, RatioError}
 use Rattle.ratio64.proofs.ExactResults.{same_result}
 use Rattle.ratio64.proofs.FractionAnswers.{zero_factor}
 

@@ -1,15 +1,5 @@
 -- Equal fractions have the same quotients, and the same nearest integer.
-use Rattle.std.specs.Prelude.{◌≡◌, ◌<◌, ◌≤◌, ◌*◌, ◌<ℤ◌, ◌≤ℤ◌, ◌-ℤ◌, ◌*ℤ◌, ℕ, ℤ, pos, neg_ℤ, unsigned_abs, Result}
-use Rattle.std.proofs.Common.{arith, ap, inl, inr, le_of_mul-le-mul_right, mul-le-mul_left, sym, ◌∙◌}
-use Rattle.std.proofs.lemmas.Bool.{cases_lt}
-use Rattle.std.proofs.lemmas.Int.{by_lt_z, unsigned_abs-mul}
-use Rattle.num_integer.proofs.ForCallers.{ceiled_by_range, ceiled_remainder_range, comm, expand, floored_by_range, floored_remainder_range, from_not_less, linear, multiples_apart, product_from_zero, products, sizes}
-use Rattle.num_integer.specs.Division.{IsCeiled, IsFloored, IsQuotient}
-use Rattle.ratio64.specs.Fraction.{AreEqual, IsExact}
-use Rattle.ratio64.specs.ReducedPairs.{AreEqual-sym}
-use Rattle.ratio64.specs.Rounding.{AnswersInParts, IsRounded}
-use Rattle.ratio64.specs.declared.fraction.Ratio.{Ratio}
-use Rattle.ratio64.specs.declared.error.RatioError.{RatioError}
+use Rattle.ratio64.proofs.Common.{◌≡◌, ◌<◌, ◌≤◌, ◌*◌, ◌<ℤ◌, ◌≤ℤ◌, ◌-ℤ◌, ◌*ℤ◌, ℕ, ℤ, pos, neg_ℤ, unsigned_abs, Result, arith, ap, inl, inr, le_of_mul-le-mul_right, mul-le-mul_left, sym, ◌∙◌, cases_lt, by_lt_z, unsigned_abs-mul, ceiled_by_range, ceiled_remainder_range, comm, expand, floored_by_range, floored_remainder_range, from_not_less, linear, multiples_apart, product_from_zero, products, sizes, IsCeiled, IsFloored, IsQuotient, AreEqual, IsExact, AreEqual-sym, AnswersInParts, IsRounded, Ratio, RatioError}
 
 -- Both fractions times the same number are equal.
 pub equal_times : {a b c d : ℤ} (k : ℤ) → AreEqual a b c d → AreEqual (a *ℤ k) b (c *ℤ k) d

@@ -1,12 +1,5 @@
 -- The exact result of a fraction: its parts by their gcd, with a positive denominator.
-use Rattle.std.specs.Prelude.{◌≡◌, ◌≢◌, ◌↔◌, ◌≤◌, ◌<ℤ◌, ◌≤ℤ◌, ◌*ℤ◌, ℤ, pos, negsuc, neg_ℤ, suc, int_div, unsigned_abs}
-use Rattle.std.proofs.Common.{arith, ap, le-mul_of_pos_right, refl, subst, sym, ◌∙◌}
-use Rattle.std.proofs.lemmas.Int.{ints, unsigned_abs-mul}
-use Rattle.num_integer.proofs.ForCallers.{Divides-refl, cancel, comm, divided_by_gcd, divisor_at_most, exact_quotient, expand, factor_positive, gcd-divisor, gcd-nonzero, gcd-positive, linear, mul-one, one_divides, products, sizes}
-use Rattle.num_integer.proofs.Laws.{gcd_exists}
-use Rattle.num_integer.specs.Divisors.{Divides, IsGreatestCommonDivisor}
-use Rattle.ratio64.specs.Fraction.{AreEqual, IsExact, IsFraction, IsReduced}
-use Rattle.ratio64.specs.ReducedPairs.{positive_is_nonzero, same_pair}
+use Rattle.ratio64.proofs.Common.{◌≡◌, ◌≢◌, ◌↔◌, ◌≤◌, ◌<ℤ◌, ◌≤ℤ◌, ◌*ℤ◌, ℤ, pos, negsuc, neg_ℤ, suc, int_div, unsigned_abs, arith, ap, le-mul_of_pos_right, refl, subst, sym, ◌∙◌, ints, unsigned_abs-mul, Divides-refl, cancel, comm, divided_by_gcd, divisor_at_most, exact_quotient, expand, factor_positive, gcd-divisor, gcd-nonzero, gcd-positive, linear, mul-one, one_divides, products, sizes, gcd_exists, Divides, IsGreatestCommonDivisor, AreEqual, IsExact, IsFraction, IsReduced, positive_is_nonzero, same_pair}
 
 -- ---- there is only one
 

@@ -1,15 +1,5 @@
 -- The size of an exact result, and which results are no errors.
-use Rattle.std.specs.Prelude.{◌≡◌, ◌≢◌, ◌⊎◌, ◌<◌, ◌≤◌, ◌^◌, ◌<ℤ◌, ◌≤ℤ◌, ◌*ℤ◌, ℤ, pos, negsuc, neg_ℤ, unsigned_abs, Result, Ok, Err, FitsSigned, IfErr}
-use Rattle.std.specs.Int.{w64, w128}
-use Rattle.std.proofs.Common.{arith, inl, inr, of_z, refl, to_z, ◌∙◌}
-use Rattle.std.proofs.Math.Nat.{le-mul_of_pos_right}
-use Rattle.std.proofs.lemmas.Int.{by_lt_z, ints, fits_signed_from_abs, to_z-of_z, unsigned_abs-mul}
-use Rattle.num_integer.proofs.ForCallers.{cancel, comm, expand, factor_positive, linear, products, sizes, zero_or_not}
-use Rattle.ratio64.specs.Fraction.{IsExact, IsOutsideI64}
-use Rattle.ratio64.specs.Ratio.{AnswersFraction}
-use Rattle.ratio64.specs.ReducedPairs.{AreEqual-sym, denominator_divides, positive_is_nonzero}
-use Rattle.ratio64.specs.declared.fraction.Ratio.{Ratio}
-use Rattle.ratio64.specs.declared.error.RatioError.{RatioError}
+use Rattle.ratio64.proofs.Common.{◌≡◌, ◌≢◌, ◌⊎◌, ◌<◌, ◌≤◌, ◌^◌, ◌<ℤ◌, ◌≤ℤ◌, ◌*ℤ◌, ℤ, pos, negsuc, neg_ℤ, unsigned_abs, Result, Ok, Err, FitsSigned, IfErr, w64, w128, arith, inl, inr, of_z, refl, to_z, ◌∙◌, le-mul_of_pos_right, by_lt_z, ints, fits_signed_from_abs, to_z-of_z, unsigned_abs-mul, cancel, comm, expand, factor_positive, linear, products, sizes, zero_or_not, IsExact, IsOutsideI64, AnswersFraction, AreEqual-sym, denominator_divides, positive_is_nonzero, Ratio, RatioError}
 use Rattle.ratio64.proofs.FractionAnswers.{err_is_outside}
 use Rattle.ratio64.proofs.NearestNumbers.{quotient_fits}
 use Rattle.ratio64.proofs.WideSums.{positive_size, read}

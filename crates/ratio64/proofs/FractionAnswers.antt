@@ -1,18 +1,6 @@
 -- What a call returns for a fraction: its exact result, or an error.
-use Rattle.std.specs.Prelude.{◌≡◌, ◌≢◌, ◌↔◌, ◌*ℤ◌, ℤ, pos, Some, None, Result, Ok, Err, FitsSigned, IfOk, IsOk}
-use Rattle.std.specs.Int.{w64}
-use Rattle.std.specs.Result.{result_ok}
-use Rattle.std.proofs.Common.{ap, arith, inl, inr, refl, subst, sym, ◌∙◌}
-use mathlib.Core.HLevel.{is_prop→PathP}
-use Rattle.num_integer.proofs.ForCallers.{cancel, comm, products}
+use Rattle.ratio64.proofs.Common.{◌≡◌, ◌≢◌, ◌↔◌, ◌*ℤ◌, ℤ, pos, Some, None, Result, Ok, Err, FitsSigned, IfOk, IsOk, w64, result_ok, ap, arith, inl, inr, refl, subst, sym, ◌∙◌, is_prop→PathP, cancel, comm, products, IsExact, IsOutsideI64, IsReduced, AnswerIsOnly, RatioOfPartsIsOnly, AnswersFraction, num_of, den_of, IsReduced-prop, Ratio, RatioError, ZeroDenominator, NotFitting}
 use Rattle.ratio64.proofs.ExactResults.{only_exact_result}
-use Rattle.ratio64.specs.Fraction.{IsExact, IsOutsideI64, IsReduced}
-use Rattle.ratio64.specs.Laws.{AnswerIsOnly, RatioOfPartsIsOnly}
-use Rattle.ratio64.specs.Ratio.{AnswersFraction, num_of, den_of}
-use Rattle.ratio64.specs.ReducedPairs.{IsReduced-prop}
-use Rattle.ratio64.specs.declared.fraction.Ratio.{Ratio}
-use Rattle.ratio64.specs.declared.error.RatioError.{RatioError}
-use Rattle.ratio64.specs.declared.error.RatioError.TheVariants.{ZeroDenominator, NotFitting}
 
 -- ---- one of them
 

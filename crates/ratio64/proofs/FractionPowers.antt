@@ -1,12 +1,5 @@
 -- Powers of reduced pairs are reduced, and those of equal fractions equal.
-use Rattle.std.specs.Prelude.{◌≡◌, ◌≢◌, ◌<◌, ◌≤◌, ◌^◌, ◌<ℤ◌, ◌*ℤ◌, ℤ, ℕ, pos, negsuc, zero, suc, unsigned_abs, FitsSigned}
-use Rattle.std.specs.Int.{int_pow, w64}
-use Rattle.std.proofs.Common.{arith, ap, sym, ◌∙◌}
-use Rattle.std.proofs.Math.Nat.{one-le-pow, pow-succ', mul-le-mul_left}
-use Rattle.std.proofs.lemmas.Int.{ints}
-use Rattle.num_integer.proofs.ForCallers.{Divides-trans, coprime_divides, expand, gcd-swap, int_pow-suc, int_pow-zero, power_of_zero, power_size, products, sizes}
-use Rattle.num_integer.specs.Divisors.{IsGreatestCommonDivisor}
-use Rattle.ratio64.specs.Fraction.{AreEqual, IsReduced}
+use Rattle.ratio64.proofs.Common.{◌≡◌, ◌≢◌, ◌<◌, ◌≤◌, ◌^◌, ◌<ℤ◌, ◌*ℤ◌, ℤ, ℕ, pos, negsuc, zero, suc, unsigned_abs, FitsSigned, int_pow, w64, arith, ap, sym, ◌∙◌, one-le-pow, pow-succ', mul-le-mul_left, ints, Divides-trans, coprime_divides, expand, gcd-swap, int_pow-suc, int_pow-zero, power_of_zero, power_size, products, sizes, IsGreatestCommonDivisor, AreEqual, IsReduced}
 use Rattle.ratio64.proofs.ReducedParts.{coprime_by}
 use Rattle.ratio64.proofs.WideSums.{part_size}
 

@@ -1,3 +1,4 @@
+pub mod Common
 pub mod DecimalTexts
 pub mod ExactResults
 pub mod ForCallers

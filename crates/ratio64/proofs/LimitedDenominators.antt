@@ -1,14 +1,5 @@
 -- An integer and the nearer neighbour of the rest.
-use Rattle.std.specs.Prelude.{◌≡◌, ◌<◌, ◌≤◌, ◌+◌, ◌*◌, ◌≤ℤ◌, ◌+ℤ◌, ◌-ℤ◌, ◌*ℤ◌, ℤ, ℕ, pos, negsuc, neg_ℤ, zero, suc, unsigned_abs, FitsSigned}
-use Rattle.std.specs.Int.{w64}
-use Rattle.std.proofs.Common.{arith, ap, inl, inr, le-mul_of_pos_right, le_of_mul-le-mul_right, mul-le-mul_left, refl}
-use Rattle.std.proofs.lemmas.Int.{by_lt_z, ints}
-use Rattle.num_integer.proofs.ForCallers.{expand, floored_remainder_range, linear, neg-mul, product_from_zero, products, sizes}
-use Rattle.num_integer.specs.Division.{IsFloored}
-use Rattle.ratio64.specs.declared.neighbours.Neighbour.{Neighbour}
-use Rattle.ratio64.specs.Fraction.{IsReduced}
-use Rattle.ratio64.specs.Limiting.{IsNearestWithin, gap}
-use Rattle.ratio64.specs.Neighbours.{AreNeighbours, IsNearer}
+use Rattle.ratio64.proofs.Common.{◌≡◌, ◌<◌, ◌≤◌, ◌+◌, ◌*◌, ◌≤ℤ◌, ◌+ℤ◌, ◌-ℤ◌, ◌*ℤ◌, ℤ, ℕ, pos, negsuc, neg_ℤ, zero, suc, unsigned_abs, FitsSigned, w64, arith, ap, inl, inr, le-mul_of_pos_right, le_of_mul-le-mul_right, mul-le-mul_left, refl, by_lt_z, ints, expand, floored_remainder_range, linear, neg-mul, product_from_zero, products, sizes, IsFloored, Neighbour, IsReduced, IsNearestWithin, gap, AreNeighbours, IsNearer}
 use Rattle.ratio64.proofs.NearerNeighbour.{equal_least, nearest_of}
 use Rattle.ratio64.proofs.NearestNumbers.{between_fits}
 use Rattle.ratio64.proofs.NeighbourIterations.{gaps_make}

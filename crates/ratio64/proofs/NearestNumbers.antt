@@ -1,17 +1,5 @@
 -- Quotients by a positive number, and the nearest integer.
-use Rattle.std.specs.Prelude.{◌≡◌, ◌⊎◌, ◌<◌, ◌≤◌, ◌*◌, ◌^◌, ◌<ℤ◌, ◌≤ℤ◌, ◌+ℤ◌, ◌-ℤ◌, ◌*ℤ◌, ℤ, pos, negsuc, neg_ℤ, unsigned_abs, FitsSigned, MatchOption, Option, Some, None}
-use Rattle.std.specs.Int.{Width, w64}
-use Rattle.std.proofs.Common.{ap, arith, inl, inr, subst, sym}
-use Rattle.std.proofs.lemmas.Int.{by_lt_z, ints}
-use Rattle.num_integer.proofs.ForCallers.{LiesWithin, expand, floored_range, linear, multiples_apart, product_from_zero, products, sizes, zero_or_not}
-use Rattle.num_integer.proofs.Laws.{division_exists}
-use Rattle.num_integer.specs.Checked.{AnswersWhere}
-use Rattle.num_integer.specs.Division.{IsDivision, IsFloored, IsQuotient, IsTruncated}
-use Rattle.num_integer.specs.Divisors.{IsEven}
-use Rattle.num_integer.specs.Only.{IsOnly}
-use Rattle.num_integer.specs.Range.{EachFits}
-use Rattle.ratio64.specs.Laws.{RoundedEvenIsOnly, RoundedIsOnly}
-use Rattle.ratio64.specs.Rounding.{IsRounded, IsRoundedEven}
+use Rattle.ratio64.proofs.Common.{◌≡◌, ◌⊎◌, ◌<◌, ◌≤◌, ◌*◌, ◌^◌, ◌<ℤ◌, ◌≤ℤ◌, ◌+ℤ◌, ◌-ℤ◌, ◌*ℤ◌, ℤ, pos, negsuc, neg_ℤ, unsigned_abs, FitsSigned, MatchOption, Option, Some, None, Width, w64, ap, arith, inl, inr, subst, sym, by_lt_z, ints, LiesWithin, expand, floored_range, linear, multiples_apart, product_from_zero, products, sizes, zero_or_not, division_exists, AnswersWhere, IsDivision, IsFloored, IsQuotient, IsTruncated, IsEven, IsOnly, EachFits, RoundedEvenIsOnly, RoundedIsOnly, IsRounded, IsRoundedEven}
 
 -- ---- a quotient by a positive number fits if the dividend does
 

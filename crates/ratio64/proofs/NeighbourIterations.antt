@@ -1,8 +1,5 @@
 -- The iterations of the loop that finds the neighbours of a fraction.
-use Rattle.std.proofs.Common.{◌≡◌, ◌≢◌, ◌+◌, ◌-◌, ◌*◌, ◌/◌, ◌<◌, ◌≤◌, ℕ, min, arith, ap, mul-le-mul_left}
-use Rattle.std.proofs.lemmas.Nat.{le-div, mul-lt}
-use Rattle.ratio64.specs.declared.neighbours.Neighbour.{Neighbour}
-use Rattle.ratio64.specs.Neighbours.{AreNeighbours, IsCloser}
+use Rattle.ratio64.proofs.Common.{◌≡◌, ◌≢◌, ◌+◌, ◌-◌, ◌*◌, ◌/◌, ◌<◌, ◌≤◌, ℕ, min, arith, ap, mul-le-mul_left, le-div, mul-lt, Neighbour, AreNeighbours, IsCloser}
 
 -- if no equal fraction has a smaller denominator, 0/1 and 1/1 are neighbours
 pub first_neighbours : {n d max : ℕ} → 0 < max → max < d → n < d → ((a b : ℕ) → 0 < b → n * b ≡ a * d → d ≤ b)

@@ -1,31 +1,10 @@
 -- The strings of fractions, cut at the slash, and what they are read as.
-use Rattle.std.specs.Prelude.{◌≡◌, ◌≢◌, ◌⊎◌, ◌↔◌, ◌++◌, ◌∷◌, [], ◌<◌, ◌==◌, ℕ, suc, zero, List, codes, length, ℤ, Option, Some, None, Result, Err, FitsSigned, IsTrue, true, false, pos, negsuc, unwrap_or, ◌^◌, Ok, unsigned_abs}
-use Rattle.std.specs.Char.{is_ascii_digit}
-use Rattle.std.specs.List.{list_all}
-use Rattle.std.specs.Str.Parse.{AllDigits, IsNumeral, digits_value, starts_with_minus}
-use Rattle.std.specs.Fmt.{decimal, signed_decimal}
-use Rattle.std.specs.Int.{w64}
-use Rattle.std.specs.Ordering.{int_eq}
-use Rattle.std.proofs.Common.{Bor, ap, append_assoc, arith, get_or, inl, inr, refl, sym, rules, subst, ◌∙◌}
-use Rattle.std.proofs.lemmas.Bool.{cases_Bool}
-use Rattle.std.proofs.lemmas.Bool.Decides.{Decides-int_eq, nat_tests}
-use Rattle.std.proofs.lemmas.Fmt.{decimal_is_IsNumeral}
-use Rattle.std.proofs.lemmas.List.{get_or_at, length-append}
-use Rattle.std.proofs.lemmas.Str.Parse.{IsNumeralModel, numerals_by_value, not_in_digits}
-use Rattle.std.proofs.lemmas.Str.Pattern.{IsSplitOnceResult, split_after, split_parts}
-use borrow.Author.Tests.{ne_eqb}
+use Rattle.ratio64.proofs.Common.{◌≡◌, ◌≢◌, ◌⊎◌, ◌↔◌, ◌++◌, ◌∷◌, [], ◌<◌, ◌==◌, ℕ, suc, zero, List, codes, length, ℤ, Option, Some, None, Result, Err, FitsSigned, IsTrue, true, false, pos, negsuc, unwrap_or, ◌^◌, Ok, unsigned_abs, is_ascii_digit, list_all, AllDigits, IsNumeral, digits_value, starts_with_minus, decimal, signed_decimal, w64, int_eq, Bor, ap, append_assoc, arith, get_or, inl, inr, refl, sym, rules, subst, ◌∙◌, cases_Bool, Decides-int_eq, nat_tests, decimal_is_IsNumeral, get_or_at, length-append, IsNumeralModel, numerals_by_value, not_in_digits, IsSplitOnceResult, split_after, split_parts, ne_eqb, linear, ReadingIsOnly, TextIsReadBack, AnswersFraction, den_of, num_of, text_of, AnswersSpelled, HasLongPart, ReadsFraction, SpellsFraction, SpellsWhole, answer_read, unsigned_part, whole_of, RatioError, Ratio, ParseRatioError, NotAFraction, TooLong}
+use Rattle.ratio64.specs.declared.parse.ParseRatioError.TheVariants.{ZeroDenominator, NotFitting}
 use Rattle.ratio64.proofs.ExactResults.{reduced_is_exact}
-use Rattle.num_integer.proofs.ForCallers.{linear}
 use Rattle.ratio64.proofs.FractionAnswers.{exact_answer, only_answer, only_of_parts}
 use Rattle.ratio64.proofs.WideSums.{part_size}
-use Rattle.ratio64.specs.Laws.{ReadingIsOnly, TextIsReadBack}
-use Rattle.ratio64.specs.Ratio.{AnswersFraction, den_of, num_of, text_of}
-use Rattle.ratio64.specs.RatioText.{AnswersSpelled, HasLongPart, ReadsFraction, SpellsFraction, SpellsWhole, answer_read, unsigned_part, whole_of}
-use Rattle.ratio64.specs.declared.error.RatioError.{RatioError}
 use Rattle.ratio64.specs.declared.error.RatioError.TheVariants as refused
-use Rattle.ratio64.specs.declared.fraction.Ratio.{Ratio}
-use Rattle.ratio64.specs.declared.parse.ParseRatioError.{ParseRatioError}
-use Rattle.ratio64.specs.declared.parse.ParseRatioError.TheVariants.{NotAFraction, TooLong, ZeroDenominator, NotFitting}
 
 -- ---- digits
 

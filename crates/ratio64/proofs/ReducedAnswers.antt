@@ -1,17 +1,9 @@
 -- What calls return for fractions in lowest terms, and for powers of a negative degree.
-use Rattle.std.specs.Prelude.{◌≡◌, ◌⊎◌, ◌<◌, ℤ, ℕ, pos, Result, Ok, Err, FitsSigned}
-use Rattle.std.specs.Int.{int_pow, w64}
-use Rattle.std.proofs.Common.{inl, inr, refl}
+use Rattle.ratio64.proofs.Common.{◌≡◌, ◌⊎◌, ◌<◌, ℤ, ℕ, pos, Result, Ok, Err, FitsSigned, int_pow, w64, inl, inr, refl, AreEqual-sym, positive_is_nonzero, IsExact, IsOutsideI64, IsReduced, AnswersFraction, num_of, den_of, Ratio, RatioError, ZeroDenominator, NotFitting}
 use Rattle.ratio64.proofs.EqualFractions.{equal_fractions_answered_alike}
 use Rattle.ratio64.proofs.ExactResults.{reduced_is_exact}
 use Rattle.ratio64.proofs.FractionAnswers.{exact_answer}
-use Rattle.ratio64.specs.ReducedPairs.{AreEqual-sym, positive_is_nonzero}
 use Rattle.ratio64.proofs.FractionPowers.{base_fits, equal_powers, power_nonzero, power_of_zero_is, power_reduced}
-use Rattle.ratio64.specs.Fraction.{IsExact, IsOutsideI64, IsReduced}
-use Rattle.ratio64.specs.Ratio.{AnswersFraction, num_of, den_of}
-use Rattle.ratio64.specs.declared.fraction.Ratio.{Ratio}
-use Rattle.ratio64.specs.declared.error.RatioError.{RatioError}
-use Rattle.ratio64.specs.declared.error.RatioError.TheVariants.{ZeroDenominator, NotFitting}
 
 pub outside_answer : {a b : ℤ} → IsOutsideI64 a b → AnswersFraction a b (Err NotFitting)
 outside_answer far = record {

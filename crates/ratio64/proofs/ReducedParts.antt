@@ -1,11 +1,5 @@
 -- Reduced pairs that come of another: negated, of a remainder.
-use Rattle.std.specs.Prelude.{◌≡◌, ◌+ℤ◌, ◌*ℤ◌, ℤ, pos, negsuc, neg_ℤ, zero, suc, unsigned_abs, FitsSigned}
-use Rattle.std.specs.Int.{w64}
-use Rattle.std.proofs.Common.{arith, subst}
-use Rattle.std.proofs.lemmas.Int.{ints}
-use Rattle.num_integer.proofs.ForCallers.{Divides-sum, linear, mul-neg, one_divides, products}
-use Rattle.num_integer.specs.Divisors.{Divides, IsGreatestCommonDivisor}
-use Rattle.ratio64.specs.Fraction.{IsReduced}
+use Rattle.ratio64.proofs.Common.{◌≡◌, ◌+ℤ◌, ◌*ℤ◌, ℤ, pos, negsuc, neg_ℤ, zero, suc, unsigned_abs, FitsSigned, w64, arith, subst, ints, Divides-sum, linear, mul-neg, one_divides, products, Divides, IsGreatestCommonDivisor, IsReduced}
 
 -- a number has the divisors of its negation
 pub negated_divides : {d v : ℤ} → Divides d (neg_ℤ v) → Divides d v

@@ -1,13 +1,7 @@
 -- A fraction times an integer, rounded in `i128`.
-use Rattle.std.specs.Prelude.{◌≡◌, ◌≢◌, ◌<◌, ◌^◌, ◌<ℤ◌, ◌*ℤ◌, ℤ, pos, unsigned_abs, FitsSigned}
-use Rattle.std.specs.Int.{w64, w128}
-use Rattle.std.proofs.Common.{of_z, to_z, ◌∙◌}
-use Rattle.std.proofs.lemmas.Int.{fits_signed_from_abs, to_z-of_z}
-use Rattle.num_integer.specs.Division.{IsDivision}
+use Rattle.ratio64.proofs.Common.{◌≡◌, ◌≢◌, ◌<◌, ◌^◌, ◌<ℤ◌, ◌*ℤ◌, ℤ, pos, unsigned_abs, FitsSigned, w64, w128, of_z, to_z, ◌∙◌, fits_signed_from_abs, to_z-of_z, IsDivision, positive_is_nonzero, AreTimes}
 use Rattle.ratio64.proofs.NearestNumbers.{quotient_below, quotient_fits}
 use Rattle.ratio64.proofs.WideSums.{read}
-use Rattle.ratio64.specs.ReducedPairs.{positive_is_nonzero}
-use Rattle.ratio64.specs.Times.{AreTimes}
 
 -- p and q are num times t, and den, in i128; t is n, read from its bits
 module _ {num den t p q : ℤ} (h : AreTimes num den t p q) where

@@ -1,23 +1,7 @@
 -- The strings of decimal numbers: what they spell.
-use Rattle.std.specs.Prelude.{⊤, ◌≡◌, ◌≢◌, ◌+◌, ◌*◌, ◌/◌, ◌%◌, ◌^◌, ◌<◌, ◌++◌, ◌==◌, ℕ, zero, suc, ℤ, pos, negsuc, List, [], ◌∷◌, false, true, length, unsigned_abs}
-use Rattle.std.specs.Char.{digit_value}
-use Rattle.std.specs.Fmt.{decimal, sign_text}
-use Rattle.std.specs.Int.{is_negative}
-use Rattle.std.specs.Str.Parse.{AllDigits, IsNumeral, digits_value}
-use Rattle.std.proofs.Common.{append_assoc, arith, ap, inl, inr, refl, subst, sym, ◌∙◌}
-use Rattle.std.proofs.lemmas.Bool.{cases_Bool}
-use Rattle.std.proofs.lemmas.Bool.Decides.{nat_tests}
-use Rattle.std.proofs.lemmas.Fmt.{decimal_is_IsNumeral_wide}
-use Rattle.std.proofs.lemmas.Int.{ints}
-use Rattle.std.proofs.lemmas.Int.Digits.{digits_value_push}
-use Rattle.std.proofs.lemmas.List.{append-nil, length-append}
-use Rattle.std.proofs.lemmas.Str.{digit_value_digit}
-use Rattle.std.proofs.lemmas.Str.Parse.{digit_from_value}
-use Rattle.std.proofs.Math.Nat.{div-div-eq-div-mul, div-le_self, pow-succ'}
+use Rattle.ratio64.proofs.Common.{⊤, ◌≡◌, ◌≢◌, ◌+◌, ◌*◌, ◌/◌, ◌%◌, ◌^◌, ◌<◌, ◌++◌, ◌==◌, ℕ, zero, suc, ℤ, pos, negsuc, List, [], ◌∷◌, false, true, length, unsigned_abs, digit_value, decimal, sign_text, is_negative, AllDigits, IsNumeral, digits_value, append_assoc, arith, ap, inl, inr, refl, subst, sym, ◌∙◌, cases_Bool, nat_tests, decimal_is_IsNumeral_wide, ints, digits_value_push, append-nil, length-append, digit_value_digit, digit_from_value, div-div-eq-div-mul, div-le_self, pow-succ', SpellsDecimal, places_of, units_of, DecimalIsSpelled, SpelledDecimalIsOnly, SpellsWhole, unsigned_part, whole_of}
+use Rattle.ratio64.specs.Decimal.{last_digits}
 use Rattle.ratio64.proofs.ReadTexts.{numeral_without_minus}
-use Rattle.ratio64.specs.Decimal.{SpellsDecimal, last_digits, places_of, units_of}
-use Rattle.ratio64.specs.Laws.{DecimalIsSpelled, SpelledDecimalIsOnly}
-use Rattle.ratio64.specs.RatioText.{SpellsWhole, unsigned_part, whole_of}
 
 -- ---- the digits of a number, in two pieces
 

@@ -1,10 +1,5 @@
 -- Products of parts, and their sums and differences, in `i128`.
-use Rattle.std.specs.Prelude.{◌≡◌, ◌<◌, ◌≤◌, ◌-◌, ◌^◌, ◌<ℤ◌, ◌+ℤ◌, ◌-ℤ◌, ◌*ℤ◌, ℤ, pos, negsuc, unsigned_abs, FitsSigned}
-use Rattle.std.specs.Int.{w64, w128}
-use Rattle.std.proofs.Common.{arith, refl, to_z, of_z}
-use Rattle.std.proofs.Math.Nat.{mul-le-mul}
-use Rattle.std.proofs.lemmas.Int.{to_z-of_z, fits_signed_from_abs, unsigned_abs-mul}
-use Rattle.num_integer.proofs.ForCallers.{sizes}
+use Rattle.ratio64.proofs.Common.{◌≡◌, ◌<◌, ◌≤◌, ◌-◌, ◌^◌, ◌<ℤ◌, ◌+ℤ◌, ◌-ℤ◌, ◌*ℤ◌, ℤ, pos, negsuc, unsigned_abs, FitsSigned, w64, w128, arith, refl, to_z, of_z, mul-le-mul, to_z-of_z, fits_signed_from_abs, unsigned_abs-mul, sizes}
 
 pub sum_below : (x y : ℤ) → unsigned_abs x < 2 ^ 126 → unsigned_abs y < 2 ^ 126 → unsigned_abs (x +ℤ y) < 2 ^ 127
 sum_below x y h k = omega (arith, sizes)

@@ -1,5 +1,4 @@
-use Rattle.calendar.proofs.Common.{◌↔◌, IsTrue, arith, nat_tests, ints}
-use Rattle.calendar.specs.Dates.{IsEarlier}
+use Rattle.calendar.proofs.Common.{◌↔◌, IsTrue, arith, nat_tests, ints, IsEarlier}
 use Rattle.calendar.proofs.DateOrder.{order}
 use Rattle.calendar.proofs.days.is_earlier.Goals as goal
 

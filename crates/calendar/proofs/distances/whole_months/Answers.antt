@@ -1,5 +1,4 @@
-use Rattle.calendar.proofs.Common.{◌<◌, ◌≤◌, ◌^◌, ◌-ℤ◌, ℤ, min, pos, unsigned_abs, FitsSigned, w128, arith, refl, ints, to_z-of_z}
-use Rattle.calendar.specs.Months.{days_in_month}
+use Rattle.calendar.proofs.Common.{◌<◌, ◌≤◌, ◌^◌, ◌-ℤ◌, ℤ, min, pos, unsigned_abs, FitsSigned, w128, arith, refl, ints, to_z-of_z, days_in_month}
 use Rattle.calendar.proofs.MonthSteps.{month_less, whole_months}
 use Rattle.calendar.proofs.distances.whole_months.Goals as goal
 

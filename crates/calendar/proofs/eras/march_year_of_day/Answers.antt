@@ -1,5 +1,4 @@
-use Rattle.calendar.proofs.Common.{◌≡◌, ◌<◌, ◌+ℤ◌, ◌*ℤ◌, ℕ, ℤ, pos, FitsSigned, w64, arith, rules, to_z, ints, to_z-of_z}
-use Rattle.std.proofs.lemmas.Int.{to_z_pos}
+use Rattle.calendar.proofs.Common.{◌≡◌, ◌<◌, ◌+ℤ◌, ◌*ℤ◌, ℕ, ℤ, pos, FitsSigned, w64, arith, rules, to_z, ints, to_z-of_z, to_z_pos}
 use Rattle.calendar.proofs.eras.march_year_of_day.Goals as goal
 use Rattle.calendar.proofs.eras.march_year_of_day.Goals.{After-march_year-years}
 

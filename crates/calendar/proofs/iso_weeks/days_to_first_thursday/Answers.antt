@@ -1,6 +1,4 @@
-use Rattle.calendar.proofs.Common.{◌+◌, ◌%◌, ◌-ℤ◌, pos, FitsSigned, w64, arith, rules, sym, ints, to_z-of_z}
-use Rattle.std.proofs.lemmas.Int.{to_z_pos}
-use Rattle.calendar.specs.Years.{first_day}
+use Rattle.calendar.proofs.Common.{◌+◌, ◌%◌, ◌-ℤ◌, pos, FitsSigned, w64, arith, rules, sym, ints, to_z-of_z, to_z_pos, first_day}
 use Rattle.calendar.proofs.IsoWeeks.{to_thursday}
 use Rattle.calendar.proofs.iso_weeks.days_to_first_thursday.Goals as goal
 

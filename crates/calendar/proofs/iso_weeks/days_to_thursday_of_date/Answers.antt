@@ -1,6 +1,4 @@
-use Rattle.calendar.proofs.Common.{◌≡◌, ◌+◌, ◌-◌, ◌%◌, ◌^◌, ◌<◌, ◌+ℤ◌, ◌-ℤ◌, ◌*ℤ◌, ℕ, pos, FitsSigned, w64, arith, refl, rules, sym, ints, to_z-of_z}
-use Rattle.calendar.specs.Dates.{number_of}
-use Rattle.calendar.specs.Years.{first_day}
+use Rattle.calendar.proofs.Common.{◌≡◌, ◌+◌, ◌-◌, ◌%◌, ◌^◌, ◌<◌, ◌+ℤ◌, ◌-ℤ◌, ◌*ℤ◌, ℕ, pos, FitsSigned, w64, arith, refl, rules, sym, ints, to_z-of_z, number_of, first_day}
 use Rattle.calendar.proofs.IsoWeeks.{days_to_thursday}
 use Rattle.calendar.proofs.iso_weeks.days_to_thursday_of_date.Goals as goal
 

@@ -1,5 +1,4 @@
-use Rattle.calendar.proofs.Common.{◌+ℤ◌, ◌-ℤ◌, ◌*ℤ◌, pos, FitsSigned, w64, arith, ints, to_z-of_z, floored_remainder_range, IsFloored, IsRemainder}
-use Rattle.calendar.specs.Years.{first_day}
+use Rattle.calendar.proofs.Common.{◌+ℤ◌, ◌-ℤ◌, ◌*ℤ◌, pos, FitsSigned, w64, arith, ints, to_z-of_z, floored_remainder_range, IsFloored, IsRemainder, first_day}
 use Rattle.calendar.proofs.IsoWeeks.{is_thursday}
 use Rattle.calendar.proofs.iso_weeks.days_to_thursday_of_week.Goals as goal
 

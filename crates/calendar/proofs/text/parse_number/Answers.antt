@@ -1,6 +1,4 @@
-use Rattle.calendar.proofs.Common.{arith, subst, sym}
-use Rattle.std.proofs.lemmas.Bool.{iff_false}
-use Rattle.calendar.specs.Text.{IsShortest}
+use Rattle.calendar.proofs.Common.{arith, subst, sym, iff_false, IsShortest}
 use Rattle.calendar.proofs.PaddedNumbers.{no_number_read, number_inside_read, outside_read, unpadded_read}
 use Rattle.calendar.proofs.text.parse_number.Goals as goal
 

@@ -1,5 +1,4 @@
-use Rattle.calendar.proofs.Common.{Some, None, arith, ints}
-use Rattle.std.proofs.lemmas.Str.Pattern.{strip_prefix_char}
+use Rattle.calendar.proofs.Common.{Some, None, arith, ints, strip_prefix_char}
 use Rattle.calendar.proofs.YearTexts.{minus_form, no_year_read, plain_form, plus_form, year_read}
 use Rattle.calendar.proofs.text.parse_year.Goals as goal
 

@@ -1,6 +1,4 @@
-use Rattle.calendar.proofs.Common.{◌≡◌, ◌∷◌, ◌/◌, ◌%◌, ◌+◌, [], get_or, arith, sym, ◌∙◌, nat_tests}
-use Rattle.std.proofs.lemmas.Bool.{iff_false}
-use Rattle.std.proofs.lemmas.Slice.Eq.{text_from_reads}
+use Rattle.calendar.proofs.Common.{◌≡◌, ◌∷◌, ◌/◌, ◌%◌, ◌+◌, [], get_or, arith, sym, ◌∙◌, nat_tests, iff_false, text_from_reads}
 use Rattle.calendar.proofs.DateTexts.{number_boundary, number_told, number_text}
 use Rattle.calendar.proofs.text.split_last_two_digits.Goals as goal
 

@@ -1,6 +1,4 @@
-use Rattle.std.specs.Prelude.{◌≡◌, ℕ, List, [], ◌∷◌, Result, Ok, Err, IsOk, OnOk}
-use Rattle.std.specs.Fmt.{WritesInCalls}
-use Rattle.calendar.proofs.Common.{append-nil, refl, rules}
+use Rattle.calendar.proofs.Common.{◌≡◌, ℕ, List, [], ◌∷◌, Result, Ok, Err, IsOk, OnOk, WritesInCalls, append-nil, refl, rules}
 use Rattle.calendar.proofs.text.write_ascii.Goals as goal
 
 -- one call

@@ -1,7 +1,4 @@
-use Rattle.calendar.proofs.Common.{◌≡◌, ◌⊎◌, ◌<ℤ◌, pos, w64, arith, of_z, to_z, ints, to_z-of_z}
-use Rattle.std.specs.Fmt.{styled_signed_decimal}
-use Rattle.integer_core.proofs.WrittenTexts.{same_written}
-use Rattle.calendar.specs.Text.{year_text}
+use Rattle.calendar.proofs.Common.{◌≡◌, ◌⊎◌, ◌<ℤ◌, pos, w64, arith, of_z, to_z, ints, to_z-of_z, styled_signed_decimal, same_written, year_text}
 use Rattle.calendar.proofs.DateTexts.{plain_year, signed_year}
 use Rattle.calendar.proofs.text.write_year.Goals as goal
 

@@ -1,5 +1,4 @@
-use Rattle.calendar.proofs.Common.{◌≡◌, ◌+ℤ◌, ◌-ℤ◌, ◌≤ℤ◌, ◌<ℤ◌, ℤ, pos, FitsSigned, IsTrue, false, w64, arith, by_lt_z, refl, ints, to_z-of_z}
-use Rattle.calendar.specs.Years.{days_in_year}
+use Rattle.calendar.proofs.Common.{◌≡◌, ◌+ℤ◌, ◌-ℤ◌, ◌≤ℤ◌, ◌<ℤ◌, ℤ, pos, FitsSigned, IsTrue, false, w64, arith, by_lt_z, refl, ints, to_z-of_z, days_in_year}
 use Rattle.calendar.proofs.IsoWeeks.{earlier, later}
 use Rattle.calendar.proofs.YearLengths.{length_range, next_first_day}
 use Rattle.calendar.proofs.years.nearby_year.Goals as goal

@@ -1,8 +1,4 @@
-use Rattle.std.specs.Prelude.{◌≡◌, pos}
-use Rattle.std.specs.Int.{FitsUnsignedBits}
-use Rattle.std.proofs.Common.{ap, arith, rules, subst}
-use Rattle.std.proofs.lemmas.Int.{ints}
-use Rattle.num_integer.specs.Coefficient.{coefficient}
+use Rattle.cellarcove_c.proofs.Common.{◌≡◌, pos, FitsUnsignedBits, ap, arith, rules, subst, ints, coefficient}
 use Rattle.cellarcove_c.proofs.binomials.binomial.Goals as goal
 
 pub returns-then-n-lt68 : goal.returns-then-n-lt68

@@ -1,5 +1,4 @@
-use Rattle.std.proofs.Common.{refl, sym}
-use Rattle.num_integer.proofs.ForCallers.{none_above}
+use Rattle.cellarcove_c.proofs.Common.{refl, sym, none_above}
 use Rattle.cellarcove_c.proofs.HalfRows.{half_rows, item_of, sums}
 use Rattle.cellarcove_c.proofs.binomials.from_table.Goals as goal
 

@@ -1,7 +1,4 @@
-use Rattle.std.specs.Prelude.{◌<ℤ◌, pos}
-use Rattle.std.specs.Int.{w64}
-use Rattle.std.proofs.Common.{arith, refl, rules}
-use Rattle.std.proofs.lemmas.Int.{ints, to_z-of_z}
+use Rattle.cellarcove_c.proofs.Common.{◌<ℤ◌, pos, w64, arith, refl, rules, ints, to_z-of_z}
 use Rattle.cellarcove_c.proofs.congruences.cellarcove_solutions_i64.Goals as goal
 
 pub returns-in-Some : goal.returns-in-Some

@@ -1,5 +1,4 @@
-use Rattle.std.proofs.Common.{arith, inl, refl}
-use Rattle.modular.specs.Congruences.{SolvesBothCongruences}
+use Rattle.cellarcove_c.proofs.Common.{arith, inl, refl, SolvesBothCongruences}
 use Rattle.cellarcove_c.proofs.CommonSolutions.{solved}
 use Rattle.cellarcove_c.proofs.congruences.reason_for_congruences.Goals as goal
 

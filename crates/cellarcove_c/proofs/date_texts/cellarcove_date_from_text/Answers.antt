@@ -1,5 +1,4 @@
-use Rattle.std.proofs.Common.{arith, refl, rules, subst, sym}
-use Rattle.std.specs.Str.{IsUtf8}
+use Rattle.cellarcove_c.proofs.Common.{arith, refl, rules, subst, sym, IsUtf8}
 use Rattle.cellarcove_c.proofs.AsciiDates.{date_is_utf8}
 use Rattle.cellarcove_c.proofs.date_texts.cellarcove_date_from_text.Goals as goal
 

@@ -1,8 +1,4 @@
-use Rattle.std.specs.Prelude.{FitsSigned, IfOk, Result}
-use Rattle.std.specs.Int.{w64}
-use Rattle.std.proofs.Common.{arith, refl, rules, subst}
-use Rattle.calendar.specs.declared.date.Date.{Date}
-use Rattle.calendar.specs.declared.text.DateError.{DateError}
+use Rattle.cellarcove_c.proofs.Common.{FitsSigned, IfOk, Result, w64, arith, refl, rules, subst, Date, DateError}
 use Rattle.cellarcove_c.proofs.date_texts.date_of.Goals as goal
 
 pub returns-in-Ok : goal.returns-in-Ok

@@ -1,8 +1,4 @@
-use Rattle.std.specs.Prelude.{FitsSigned}
-use Rattle.std.specs.Int.{w64}
-use Rattle.std.proofs.Common.{arith, inl, inr, refl, rules}
-use Rattle.std.proofs.lemmas.Int.{to_z-of_z}
-use Rattle.calendar.specs.Dates.{number_of}
+use Rattle.cellarcove_c.proofs.Common.{FitsSigned, w64, arith, inl, inr, refl, rules, to_z-of_z, number_of}
 use Rattle.cellarcove_c.proofs.CommonSolutions.{no_third}
 use Rattle.cellarcove_c.proofs.IsoWeeks.{is_beyond, not_beyond, number_range}
 use Rattle.cellarcove_c.proofs.dates.cellarcove_date_from_iso_week.Goals as goal

@@ -1,10 +1,4 @@
-use Rattle.std.specs.Prelude.{◌≡◌, ◌+◌, ◌≤◌}
-use Rattle.std.specs.Int.{w64}
-use Rattle.std.proofs.Common.{◌∙◌, sym}
-use Rattle.std.proofs.lemmas.Int.{to_z-of_z}
-use Rattle.calendar.specs.Months.{days_before_month}
-use Rattle.calendar.specs.Years.{days_in_year}
-use Rattle.calendar.proofs.DateOrder.{year_day_range}
+use Rattle.cellarcove_c.proofs.Common.{◌≡◌, ◌+◌, ◌≤◌, w64, ◌∙◌, sym, to_z-of_z, days_before_month, days_in_year, year_day_range}
 use Rattle.cellarcove_c.proofs.dates.cellarcove_date_from_year_day.Goals as goal
 
 pub returns-in-Some : goal.returns-in-Some

@@ -1,6 +1,4 @@
-use Rattle.std.specs.Prelude.{◌-ℤ◌}
-use Rattle.std.proofs.Common.{inl, inr, refl}
-use Rattle.calendar.specs.Dates.{number_of}
+use Rattle.cellarcove_c.proofs.Common.{◌-ℤ◌, inl, inr, refl, number_of}
 use Rattle.cellarcove_c.proofs.TwoDates.{found_both, not_missing, there_where_fits}
 use Rattle.cellarcove_c.proofs.dates.cellarcove_days_between.Goals as goal
 

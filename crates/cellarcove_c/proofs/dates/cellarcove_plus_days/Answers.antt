@@ -1,7 +1,4 @@
-use Rattle.std.specs.Prelude.{◌+ℤ◌, ℤ}
-use Rattle.std.specs.Int.{w64}
-use Rattle.std.proofs.Common.{◌∙◌, ap, arith, inl, inr, refl}
-use Rattle.std.proofs.lemmas.Int.{to_z-of_z}
+use Rattle.cellarcove_c.proofs.Common.{◌+ℤ◌, ℤ, w64, ◌∙◌, ap, arith, inl, inr, refl, to_z-of_z}
 use Rattle.cellarcove_c.proofs.dates.cellarcove_plus_days.Goals as goal
 
 pub returns-in-Some-plus_days : goal.returns-in-Some-plus_days

@@ -1,5 +1,4 @@
-use Rattle.std.specs.Int.{w64}
-use Rattle.std.proofs.lemmas.Int.{to_z-of_z}
+use Rattle.cellarcove_c.proofs.Common.{w64, to_z-of_z}
 use Rattle.cellarcove_c.proofs.dates.cellarcove_plus_months.Goals as goal
 
 pub returns-in-None-plus_months-clause-not_fitting : goal.returns-in-None-plus_months-clause-not_fitting

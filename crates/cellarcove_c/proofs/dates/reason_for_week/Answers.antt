@@ -1,7 +1,4 @@
-use Rattle.std.specs.Prelude.{◌≤◌}
-use Rattle.std.specs.Int.{w64}
-use Rattle.std.proofs.Common.{arith, refl, rules}
-use Rattle.std.proofs.lemmas.Int.{to_z-of_z}
+use Rattle.cellarcove_c.proofs.Common.{◌≤◌, w64, arith, refl, rules, to_z-of_z}
 use Rattle.cellarcove_c.proofs.IsoWeeks.{has_week}
 use Rattle.cellarcove_c.proofs.dates.reason_for_week.Goals as goal
 

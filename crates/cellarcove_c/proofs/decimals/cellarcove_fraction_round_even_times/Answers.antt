@@ -1,5 +1,4 @@
-use Rattle.std.specs.Int.{w64}
-use Rattle.std.proofs.lemmas.Int.{to_z-of_z}
+use Rattle.cellarcove_c.proofs.Common.{w64, to_z-of_z}
 use Rattle.cellarcove_c.proofs.decimals.cellarcove_fraction_round_even_times.Goals as goal
 
 pub returns-in-Ok : goal.returns-in-Ok

@@ -1,8 +1,4 @@
-use Rattle.std.specs.Prelude.{FitsSigned}
-use Rattle.std.specs.Int.{w64}
-use Rattle.std.proofs.Common.{refl, rules}
-use Rattle.ratio64.specs.Decimal.{units_of}
-use Rattle.ratio64.specs.Ratio.{num_of}
+use Rattle.cellarcove_c.proofs.Common.{FitsSigned, w64, refl, rules, units_of, num_of}
 use Rattle.cellarcove_c.proofs.DecimalDigits.{digits_made, whole_below}
 use Rattle.cellarcove_c.proofs.decimals.cellarcove_fraction_to_decimal.Goals as goal
 

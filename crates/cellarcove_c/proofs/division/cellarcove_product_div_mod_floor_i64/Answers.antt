@@ -1,5 +1,4 @@
-use Rattle.std.specs.Int.{w64}
-use Rattle.std.proofs.lemmas.Int.{to_z-of_z}
+use Rattle.cellarcove_c.proofs.Common.{w64, to_z-of_z}
 use Rattle.cellarcove_c.proofs.Weaker.{by_third}
 use Rattle.cellarcove_c.proofs.division.cellarcove_product_div_mod_floor_i64.Goals as goal
 

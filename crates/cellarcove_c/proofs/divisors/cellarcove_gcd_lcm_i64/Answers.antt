@@ -1,6 +1,4 @@
-use Rattle.std.specs.Int.{w64}
-use Rattle.std.proofs.lemmas.Int.{to_z-of_z}
-use Rattle.num_integer.specs.Divisors.{IsGreatestCommonDivisor, IsLeastCommonMultiple}
+use Rattle.cellarcove_c.proofs.Common.{w64, to_z-of_z, IsGreatestCommonDivisor, IsLeastCommonMultiple}
 use Rattle.cellarcove_c.proofs.Weaker.{by_last_two}
 use Rattle.cellarcove_c.proofs.divisors.cellarcove_gcd_lcm_i64.Goals as goal
 

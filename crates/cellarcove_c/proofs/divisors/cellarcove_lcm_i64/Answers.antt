@@ -1,6 +1,4 @@
-use Rattle.std.specs.Int.{w64}
-use Rattle.std.proofs.Common.{refl}
-use Rattle.std.proofs.lemmas.Int.{to_z-of_z}
+use Rattle.cellarcove_c.proofs.Common.{w64, refl, to_z-of_z}
 use Rattle.cellarcove_c.proofs.Weaker.{by_second}
 use Rattle.cellarcove_c.proofs.divisors.cellarcove_lcm_i64.Goals as goal
 

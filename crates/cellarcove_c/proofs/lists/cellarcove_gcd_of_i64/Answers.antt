@@ -1,8 +1,4 @@
-use Rattle.std.specs.Prelude.{FitsSigned, negsuc}
-use Rattle.std.specs.Int.{w64}
-use Rattle.std.proofs.Common.{arith, refl}
-use Rattle.std.proofs.lemmas.Int.{ints}
-use Rattle.std.proofs.lemmas.List.{map-id}
+use Rattle.cellarcove_c.proofs.Common.{FitsSigned, negsuc, w64, arith, refl, ints, map-id}
 use Rattle.cellarcove_c.proofs.Weaker.{by_second, in_domain}
 use Rattle.cellarcove_c.proofs.lists.cellarcove_gcd_of_i64.Goals as goal
 

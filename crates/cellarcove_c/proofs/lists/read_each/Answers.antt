@@ -1,9 +1,4 @@
-use Rattle.std.specs.Prelude.{FitsSigned, pos}
-use Rattle.std.specs.Int.{w64}
-use Rattle.std.specs.List.{All}
-use Rattle.std.proofs.Common.{get_or, rules, subst}
-use Rattle.std.proofs.lemmas.List.{take_all}
-use Rattle.std.proofs.lemmas.List.Elements.{All-more, All-nil}
+use Rattle.cellarcove_c.proofs.Common.{FitsSigned, pos, w64, All, get_or, rules, subst, take_all, All-more, All-nil}
 use Rattle.cellarcove_c.proofs.lists.read_each.Goals as goal
 
 pub loop-number-init : goal.loop-number-init

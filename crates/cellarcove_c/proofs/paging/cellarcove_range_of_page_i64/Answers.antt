@@ -1,6 +1,4 @@
-use Rattle.std.specs.Int.{w64}
-use Rattle.std.proofs.Common.{refl, rules}
-use Rattle.std.proofs.lemmas.Int.{to_z-of_z}
+use Rattle.cellarcove_c.proofs.Common.{w64, refl, rules, to_z-of_z}
 use Rattle.cellarcove_c.proofs.paging.cellarcove_range_of_page_i64.Goals as goal
 
 pub returns : goal.returns

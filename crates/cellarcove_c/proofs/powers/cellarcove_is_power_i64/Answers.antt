@@ -1,8 +1,4 @@
-use Rattle.std.specs.Prelude.{◌≡◌}
-use Rattle.std.specs.Int.{w64}
-use Rattle.std.proofs.Common.{◌∙◌, ap, arith, of_z, rules, sym, to_z}
-use Rattle.std.proofs.lemmas.Grind.{common_steps}
-use Rattle.std.proofs.lemmas.Int.{to_z-of_z}
+use Rattle.cellarcove_c.proofs.Common.{◌≡◌, w64, ◌∙◌, ap, arith, of_z, rules, sym, to_z, common_steps, to_z-of_z}
 use Rattle.cellarcove_c.proofs.ZerothPowers.{is_zeroth_power}
 use Rattle.cellarcove_c.proofs.powers.cellarcove_is_power_i64.Goals as goal
 

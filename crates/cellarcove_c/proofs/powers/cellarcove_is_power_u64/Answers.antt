@@ -1,6 +1,4 @@
-use Rattle.std.specs.Prelude.{◌≡◌, pos}
-use Rattle.std.proofs.Common.{ap, arith, rules}
-use Rattle.std.proofs.lemmas.Grind.{common_steps}
+use Rattle.cellarcove_c.proofs.Common.{◌≡◌, pos, ap, arith, rules, common_steps}
 use Rattle.cellarcove_c.proofs.ZerothPowers.{is_zeroth_power}
 use Rattle.cellarcove_c.proofs.powers.cellarcove_is_power_u64.Goals as goal
 

@@ -1,5 +1,4 @@
-use Rattle.std.proofs.Common.{arith}
-use Rattle.std.proofs.lemmas.Int.{ints}
+use Rattle.cellarcove_c.proofs.Common.{arith, ints}
 use Rattle.cellarcove_c.proofs.Weaker.{is_there}
 use Rattle.cellarcove_c.proofs.roots.cellarcove_sqrt_u64.Goals as goal
 

@@ -1,8 +1,4 @@
-use Rattle.std.specs.Prelude.{◌<ℤ◌, pos, FitsSigned}
-use Rattle.std.specs.Int.{w64}
-use Rattle.std.proofs.Common.{arith, inr, rules}
-use Rattle.std.proofs.lemmas.Int.{to_z-of_z}
-use Rattle.applied.specs.Schedules.{IsMeeting}
+use Rattle.cellarcove_c.proofs.Common.{◌<ℤ◌, pos, FitsSigned, w64, arith, inr, rules, to_z-of_z, IsMeeting}
 use Rattle.cellarcove_c.proofs.ClassesOfBoth.{not_bad}
 use Rattle.cellarcove_c.proofs.CommonSolutions.{no_third}
 use Rattle.cellarcove_c.proofs.SeveralCongruences.{without_range}

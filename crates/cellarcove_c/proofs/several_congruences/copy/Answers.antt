@@ -1,7 +1,4 @@
-use Rattle.std.specs.Prelude.{◌<◌, ◌<ℤ◌, map, pos}
-use Rattle.std.proofs.Common.{◌∙◌, arith, length, refl, sym}
-use Rattle.std.proofs.lemmas.Bool.{false≢true, iff_false}
-use Rattle.std.proofs.lemmas.List.Elements.{All-same, All-weaker}
+use Rattle.cellarcove_c.proofs.Common.{◌<◌, ◌<ℤ◌, map, pos, ◌∙◌, arith, length, refl, sym, false≢true, iff_false, All-same, All-weaker}
 use Rattle.cellarcove_c.proofs.CopiedPairs.{IsPair, all_copied, copied_has, none_copied, one_copied}
 use Rattle.cellarcove_c.proofs.several_congruences.copy.Goals as goal
 

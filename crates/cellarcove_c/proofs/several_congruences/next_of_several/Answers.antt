@@ -1,7 +1,4 @@
-use Rattle.std.specs.Prelude.{map}
-use Rattle.std.proofs.Common.{rules}
-use Rattle.std.proofs.lemmas.Bool.{iff_false}
-use Rattle.modular.specs.Congruences.{SolvesEach}
+use Rattle.cellarcove_c.proofs.Common.{map, rules, iff_false, SolvesEach}
 use Rattle.cellarcove_c.proofs.CommonSolutions.{value_in_range}
 use Rattle.cellarcove_c.proofs.SeveralCongruences.{bad_modulus_is, common_solution_is, too_many_are, without_range}
 use Rattle.cellarcove_c.proofs.several_congruences.next_of_several.Goals as goal

@@ -1,5 +1,4 @@
-use Rattle.std.proofs.Common.{refl}
-use Rattle.std.proofs.lemmas.List.{map-id}
+use Rattle.cellarcove_c.proofs.Common.{refl, map-id}
 use Rattle.cellarcove_c.proofs.Weaker.{by_second}
 use Rattle.cellarcove_c.proofs.sums.cellarcove_sum_of_i64.Goals as goal
 

@@ -1,5 +1,4 @@
-use Rattle.std.specs.Int.{w64}
-use Rattle.std.proofs.lemmas.Int.{to_z-of_z}
+use Rattle.cellarcove_c.proofs.Common.{w64, to_z-of_z}
 use Rattle.cellarcove_c.proofs.IsoWeeks.{of_iso_number}
 use Rattle.cellarcove_c.proofs.weekdays.cellarcove_last_weekday_of_month.Goals as goal
 

@@ -1,7 +1,4 @@
-use Rattle.std.specs.Prelude.{◌<◌, length}
-use Rattle.std.proofs.Common.{arith, rules}
-use Rattle.std.proofs.lemmas.Grind.{common_steps}
-use Rattle.ratio64.specs.RatioText.{unsigned_part}
+use Rattle.ratio64.proofs.Common.{◌<◌, length, arith, rules, common_steps, unsigned_part}
 use Rattle.ratio64.proofs.ReadTexts.{tells_numeral}
 use Rattle.ratio64.proofs.integer_words.is_integer.Goals as goal
 

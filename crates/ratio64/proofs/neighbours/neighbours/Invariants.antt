@@ -1,5 +1,4 @@
-use Rattle.std.proofs.Common.{◌+◌}
-use Rattle.ratio64.specs.Neighbours.{AreNeighbours}
+use Rattle.ratio64.proofs.Common.{◌+◌, AreNeighbours}
 use Rattle.ratio64.proofs.neighbours.neighbours.Given as goal
 
 abbrev pub invariant-iterations : goal.invariant-iterations

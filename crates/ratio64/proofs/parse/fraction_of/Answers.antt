@@ -1,8 +1,6 @@
-use Rattle.std.proofs.Common.{ap, arith, sym, ◌∙◌}
-use Rattle.std.proofs.lemmas.Result.{err_from_is_err_and}
+use Rattle.ratio64.proofs.Common.{ap, arith, sym, ◌∙◌, err_from_is_err_and, answer_read}
 use Rattle.ratio64.proofs.WideSums.{read}
 use Rattle.ratio64.proofs.ReadTexts.{spelled_fraction}
-use Rattle.ratio64.specs.RatioText.{answer_read}
 use Rattle.ratio64.proofs.parse.fraction_of.Goals as goal
 
 pub returns-in_err-reduced-clause-fraction : goal.returns-in_err-reduced-clause-fraction

@@ -1,7 +1,4 @@
-use Rattle.std.specs.Int.{w64}
-use Rattle.std.proofs.Common.{arith}
-use Rattle.std.proofs.lemmas.Int.{ints, to_z-of_z}
-use Rattle.num_integer.proofs.ForCallers.{sizes}
+use Rattle.ratio64.proofs.Common.{w64, arith, ints, to_z-of_z, sizes}
 use Rattle.ratio64.proofs.reduction.numerator_of_difference.Goals as goal
 
 pub overflow_sub-result : goal.overflow_sub-result

@@ -1,8 +1,5 @@
-use Rattle.std.specs.Prelude.{int_div, pos}
-use Rattle.std.proofs.Common.{arith, le_refl}
-use Rattle.num_integer.proofs.ForCallers.{divisor_size, from_test, gcd-nonzero, linear, products}
+use Rattle.ratio64.proofs.Common.{int_div, pos, arith, le_refl, divisor_size, from_test, gcd-nonzero, linear, products, positive_is_nonzero}
 use Rattle.ratio64.proofs.ExactResults.{coprime_is_exact, exact_quotients, quotient_at_most, same_result, whole_is_exact}
-use Rattle.ratio64.specs.ReducedPairs.{positive_is_nonzero}
 use Rattle.ratio64.proofs.reduction.reduced_terms.Goals as goal
 
 pub returns-then-is_zero-clause-exact : goal.returns-then-is_zero-clause-exact

@@ -1,6 +1,4 @@
-use Rattle.std.specs.Prelude.{◌≤◌, ℤ, neg_ℤ, unsigned_abs}
-use Rattle.std.proofs.Common.{arith}
-use Rattle.num_integer.proofs.ForCallers.{from_test, linear, sizes}
+use Rattle.ratio64.proofs.Common.{◌≤◌, ℤ, neg_ℤ, unsigned_abs, arith, from_test, linear, sizes}
 use Rattle.ratio64.proofs.ExactResults.{equal_negated}
 use Rattle.ratio64.proofs.reduction.with_positive_denominator.Goals as goal
 

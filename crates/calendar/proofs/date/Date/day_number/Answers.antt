@@ -1,6 +1,4 @@
-use Rattle.calendar.proofs.Common.{◌≡◌, ◌+ℤ◌, ◌*ℤ◌, ◌-ℤ◌, ◌∙◌, ℤ, pos, FitsSigned, w64, ap, arith, refl, rules, sym, ints, to_z-of_z}
-use Rattle.calendar.specs.Dates.{number_of}
-use Rattle.calendar.specs.Years.{day_number}
+use Rattle.calendar.proofs.Common.{◌≡◌, ◌+ℤ◌, ◌*ℤ◌, ◌-ℤ◌, ◌∙◌, ℤ, pos, FitsSigned, w64, ap, arith, refl, rules, sym, ints, to_z-of_z, number_of, day_number}
 use Rattle.calendar.proofs.date.Date.day_number.Goals as goal
 
 pub returns-in-Some : goal.returns-in-Some

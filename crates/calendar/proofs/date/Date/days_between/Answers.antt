@@ -1,5 +1,4 @@
-use Rattle.calendar.proofs.Common.{◌≡◌, ◌<◌, ◌^◌, ◌+ℤ◌, ◌*ℤ◌, ◌-ℤ◌, ℕ, ℤ, pos, unsigned_abs, FitsSigned, w64, arith, ints, to_z-of_z}
-use Rattle.calendar.specs.Dates.{number_of}
+use Rattle.calendar.proofs.Common.{◌≡◌, ◌<◌, ◌^◌, ◌+ℤ◌, ◌*ℤ◌, ◌-ℤ◌, ℕ, ℤ, pos, unsigned_abs, FitsSigned, w64, arith, ints, to_z-of_z, number_of}
 use Rattle.calendar.proofs.date.Date.days_between.Goals as goal
 
 -- the eras and the days, and their differences, fit

@@ -1,7 +1,4 @@
-use Rattle.calendar.proofs.Common.{◌≡◌, ◌+◌, ◌%◌, ◌≤ℤ◌, ◌<ℤ◌, ◌+ℤ◌, ◌-ℤ◌, ℕ, ℤ, pos, FitsSigned, w64, arith, refl, subst, ints, to_z-of_z}
-use Rattle.calendar.specs.IsoWeeks.{IsDayOfIsoWeek}
-use Rattle.calendar.specs.Years.{first_day}
-use Rattle.calendar.specs.Weekday.{weekday_number}
+use Rattle.calendar.proofs.Common.{◌≡◌, ◌+◌, ◌%◌, ◌≤ℤ◌, ◌<ℤ◌, ◌+ℤ◌, ◌-ℤ◌, ℕ, ℤ, pos, FitsSigned, w64, arith, refl, subst, ints, to_z-of_z, IsDayOfIsoWeek, first_day, weekday_number}
 use Rattle.calendar.proofs.IsoWeeks.{day_of_week, day_or_none, no_day, place_fits}
 use Rattle.calendar.proofs.YearLengths.{length_range}
 use Rattle.calendar.proofs.date.Date.from_iso_week.Goals as goal

@@ -1,10 +1,6 @@
-use Rattle.calendar.proofs.Common.{◌+◌, ◌/◌, ◌<◌, ◌≤◌, ℕ, ℤ, FitsSigned, w64, arith, refl, rules, subst, ints, to_z-of_z}
-use Rattle.std.proofs.Common.{Fits}
-use Rattle.std.specs.Int.{w16, w8}
-use Rattle.calendar.specs.Years.{HasDay}
+use Rattle.calendar.proofs.Common.{◌+◌, ◌/◌, ◌<◌, ◌≤◌, ℕ, ℤ, FitsSigned, w64, arith, refl, rules, subst, ints, to_z-of_z, Fits, w16, w8, HasDay, merely}
 use Rattle.calendar.proofs.IsoWeeks.{same_thursday, week_of}
 use Rattle.calendar.proofs.YearLengths.{length_range}
-use Rattle.std.proofs.lemmas.Grind.{merely}
 use Rattle.calendar.proofs.date.Date.iso_week.Goals as goal
 
 -- the number of a week fits

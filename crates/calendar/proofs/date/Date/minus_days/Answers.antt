@@ -1,5 +1,4 @@
-use Rattle.calendar.proofs.Common.{◌≡◌, ◌<◌, ◌^◌, ◌+ℤ◌, ◌-ℤ◌, ◌*ℤ◌, ℕ, ℤ, pos, unsigned_abs, FitsSigned, w64, arith, rules, ints, to_z-of_z}
-use Rattle.calendar.specs.Dates.{number_of}
+use Rattle.calendar.proofs.Common.{◌≡◌, ◌<◌, ◌^◌, ◌+ℤ◌, ◌-ℤ◌, ◌*ℤ◌, ℕ, ℤ, pos, unsigned_abs, FitsSigned, w64, arith, rules, ints, to_z-of_z, number_of}
 use Rattle.calendar.proofs.LaterEras.{later_or_none}
 use Rattle.calendar.proofs.date.Date.minus_days.Goals as goal
 

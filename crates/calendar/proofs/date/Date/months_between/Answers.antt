@@ -1,5 +1,4 @@
-use Rattle.calendar.proofs.Common.{FitsSigned, w128, rules, to_z-of_z}
-use Rattle.calendar.specs.Dates.{IsMonthsBetween}
+use Rattle.calendar.proofs.Common.{FitsSigned, w128, rules, to_z-of_z, IsMonthsBetween}
 use Rattle.calendar.proofs.FoundOrBeyond.{found_or_beyond}
 use Rattle.calendar.proofs.date.Date.months_between.Goals as goal
 

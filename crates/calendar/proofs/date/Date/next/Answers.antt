@@ -1,5 +1,4 @@
-use Rattle.calendar.proofs.Common.{ℕ, ◌≤◌, ◌≡◌, ◌+◌, FitsSigned, w64, arith, of_z, rules, to_z, to_z-of_z}
-use Rattle.calendar.specs.Months.{days_in_month}
+use Rattle.calendar.proofs.Common.{ℕ, ◌≤◌, ◌≡◌, ◌+◌, FitsSigned, w64, arith, of_z, rules, to_z, to_z-of_z, days_in_month}
 use Rattle.calendar.proofs.DateOrder.{last_of_year, next_month, next_year}
 use Rattle.calendar.proofs.MonthLengths.{month_length_range}
 use Rattle.calendar.proofs.date.Date.next.Goals as goal

@@ -1,5 +1,4 @@
-use Rattle.calendar.proofs.Common.{pos, FitsSigned, w128, rules, to_z-of_z, IsFloored, IsQuotient}
-use Rattle.calendar.specs.Dates.{IsYearsBetween}
+use Rattle.calendar.proofs.Common.{pos, FitsSigned, w128, rules, to_z-of_z, IsFloored, IsQuotient, IsYearsBetween}
 use Rattle.calendar.proofs.FoundOrBeyond.{found_or_beyond}
 use Rattle.calendar.proofs.MonthSteps.{whole_years}
 use Rattle.calendar.proofs.date.Date.years_between.Goals as goal

@@ -1,5 +1,4 @@
-use Rattle.calendar.proofs.Common.{ap, length, sym, ◌∙◌}
-use Rattle.calendar.specs.Dates.{number_of}
+use Rattle.calendar.proofs.Common.{ap, length, sym, ◌∙◌, number_of}
 use Rattle.calendar.proofs.DayRanges.{days_from_first}
 use Rattle.calendar.proofs.FoundOrBeyond.{some_from_ok}
 use Rattle.calendar.proofs.days.Days.len.Goals as goal

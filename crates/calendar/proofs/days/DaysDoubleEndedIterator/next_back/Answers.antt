@@ -1,5 +1,4 @@
-use Rattle.calendar.proofs.Common.{ap, arith, length, sym, ◌∙◌, ints, from_not_less}
-use Rattle.std.proofs.lemmas.List.{length_push}
+use Rattle.calendar.proofs.Common.{ap, arith, length, sym, ◌∙◌, ints, from_not_less, length_push}
 use Rattle.calendar.proofs.DayRanges.{last_left, none_earlier, none_left}
 use Rattle.calendar.proofs.days.DaysDoubleEndedIterator.next_back.Goals as goal
 

@@ -1,6 +1,5 @@
-use Rattle.calendar.proofs.Common.{arith, refl, to_z-of_z}
+use Rattle.calendar.proofs.Common.{arith, refl, to_z-of_z, merely}
 use Rattle.calendar.proofs.IsoWeeks.{has_week, no_day, place_fits}
-use Rattle.std.proofs.lemmas.Grind.{merely}
 use Rattle.calendar.proofs.iso_weeks.IsoWeek.new.Goals as goal
 
 pub returns-then-is_in_year : goal.returns-then-is_in_year

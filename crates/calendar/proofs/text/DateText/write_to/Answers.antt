@@ -1,5 +1,4 @@
-use Rattle.calendar.proofs.Common.{◌≤ℤ◌, ◌<ℤ◌, ◌∙◌, pos, FitsSigned, w64, arith, ints, rules, to_z-of_z}
-use Rattle.integer_core.proofs.WrittenTexts.{same_written, then_written}
+use Rattle.calendar.proofs.Common.{◌≤ℤ◌, ◌<ℤ◌, ◌∙◌, pos, FitsSigned, w64, arith, ints, rules, to_z-of_z, same_written, then_written}
 use Rattle.calendar.proofs.DateTexts.{joined, short_text, zero_padded}
 use Rattle.calendar.proofs.text.DateText.write_to.Goals as goal
 

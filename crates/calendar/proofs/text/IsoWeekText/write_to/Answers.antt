@@ -1,5 +1,4 @@
-use Rattle.calendar.proofs.Common.{FitsSigned, w64, rules, to_z-of_z}
-use Rattle.integer_core.proofs.WrittenTexts.{same_written, then_written}
+use Rattle.calendar.proofs.Common.{FitsSigned, w64, rules, to_z-of_z, same_written, then_written}
 use Rattle.calendar.proofs.DateTexts.{joined_week, zero_padded}
 use Rattle.calendar.proofs.text.IsoWeekText.write_to.Goals as goal
 

@@ -1,6 +1,4 @@
-use Rattle.calendar.proofs.Common.{◌≢◌}
-use Rattle.calendar.specs.Weekday.{weekday_name}
-use Rattle.calendar.specs.declared.weekday.Weekday.TheVariants.{Sunday, Monday, Tuesday, Wednesday, Thursday, Friday, Saturday}
+use Rattle.calendar.proofs.Common.{◌≢◌, weekday_name, Sunday, Monday, Tuesday, Wednesday, Thursday, Friday, Saturday}
 use Rattle.calendar.proofs.weekday.WeekdayFromStr.from_str.Goals as goal
 
 pub returns-in_default : goal.returns-in_default

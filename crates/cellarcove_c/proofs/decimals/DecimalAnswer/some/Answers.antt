@@ -1,5 +1,4 @@
-use Rattle.ratio64.proofs.DecimalTexts.{ten_up}
-use Rattle.ratio64.specs.Decimal.{places_of}
+use Rattle.cellarcove_c.proofs.Common.{ten_up, places_of}
 use Rattle.cellarcove_c.proofs.DecimalDigits.{part_fits}
 use Rattle.cellarcove_c.proofs.decimals.DecimalAnswer.some.Goals as goal
 

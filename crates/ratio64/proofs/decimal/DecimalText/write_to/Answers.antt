@@ -1,9 +1,4 @@
-use Rattle.std.specs.Prelude.{◌≡◌, ◌<◌, unsigned_abs}
-use Rattle.std.specs.Fmt.{sign_text}
-use Rattle.std.specs.Int.{is_negative, w128}
-use Rattle.std.proofs.Common.{arith, ap, of_z, refl, rules, to_z, ◌∙◌}
-use Rattle.std.proofs.lemmas.Int.{to_z-of_z}
-use Rattle.ratio64.specs.Decimal.{places_of, units_of}
+use Rattle.ratio64.proofs.Common.{◌≡◌, ◌<◌, unsigned_abs, sign_text, is_negative, w128, arith, ap, of_z, refl, rules, to_z, ◌∙◌, to_z-of_z, places_of, units_of}
 use Rattle.ratio64.proofs.DecimalTexts.{integer_text, places_text, same_written, ten_up}
 use Rattle.ratio64.proofs.decimal.DecimalText.write_to.Given.{Over}
 use Rattle.ratio64.proofs.decimal.DecimalText.write_to.Goals as goal

@@ -1,6 +1,4 @@
-use Rattle.std.specs.Int.{w64}
-use Rattle.std.proofs.lemmas.Int.{to_z-of_z}
-use Rattle.num_integer.proofs.Laws.{division_is_only}
+use Rattle.ratio64.proofs.Common.{w64, to_z-of_z, division_is_only}
 use Rattle.ratio64.proofs.NearestNumbers.{narrowed_quotient}
 use Rattle.ratio64.proofs.WideSums.{read}
 use Rattle.ratio64.proofs.fraction.Ratio.ceil_times.Goals as goal

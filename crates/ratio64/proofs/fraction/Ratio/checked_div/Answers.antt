@@ -1,8 +1,6 @@
-use Rattle.std.proofs.Common.{rules}
+use Rattle.ratio64.proofs.Common.{rules, num_of, den_of, positive_is_nonzero}
 use Rattle.ratio64.proofs.FractionAnswers.{zero_exactly}
 use Rattle.ratio64.proofs.WideSums.{read_value}
-use Rattle.ratio64.specs.Ratio.{num_of, den_of}
-use Rattle.ratio64.specs.ReducedPairs.{positive_is_nonzero}
 use Rattle.ratio64.proofs.fraction.Ratio.checked_div.Goals as goal
 
 pub returns-clause-quotient : goal.returns-clause-quotient

@@ -1,6 +1,5 @@
-use Rattle.std.proofs.Common.{rules}
+use Rattle.ratio64.proofs.Common.{rules, num_of}
 use Rattle.ratio64.proofs.WideSums.{read_value}
-use Rattle.ratio64.specs.Ratio.{num_of}
 use Rattle.ratio64.proofs.fraction.Ratio.checked_mul.Goals as goal
 
 pub returns-clause-product : goal.returns-clause-product

@@ -1,7 +1,6 @@
-use Rattle.std.proofs.Common.{rules, ◌≡◌, neg_ℤ, inl, w64, to_z, of_z}
+use Rattle.ratio64.proofs.Common.{rules, ◌≡◌, neg_ℤ, inl, w64, to_z, of_z, num_of, den_of}
 use Rattle.ratio64.proofs.ReducedAnswers.{reduced_answer, reduced_refused}
 use Rattle.ratio64.proofs.ReducedParts.{negated_reduced}
-use Rattle.ratio64.specs.Ratio.{num_of, den_of}
 use Rattle.ratio64.proofs.fraction.Ratio.checked_neg.Goals as goal
 
 pub invariant_of-result : goal.invariant_of-result

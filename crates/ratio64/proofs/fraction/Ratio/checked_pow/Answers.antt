@@ -1,6 +1,4 @@
-use Rattle.std.proofs.Common.{◌≡◌, Err, arith, rules, unsigned_abs, w32}
-use Rattle.std.proofs.lemmas.Int.{ints, to_z-of_z}
-use Rattle.num_integer.proofs.ForCallers.{sizes}
+use Rattle.ratio64.proofs.Common.{◌≡◌, Err, arith, rules, unsigned_abs, w32, ints, to_z-of_z, sizes}
 use Rattle.ratio64.proofs.ReducedAnswers.{powers_of_exact, powers_refused}
 use Rattle.ratio64.proofs.fraction.Ratio.checked_pow.Goals as goal
 

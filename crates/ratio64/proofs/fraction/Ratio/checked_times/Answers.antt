@@ -1,8 +1,5 @@
-use Rattle.std.specs.Prelude.{◌*ℤ◌}
-use Rattle.std.proofs.Common.{rules}
+use Rattle.ratio64.proofs.Common.{◌*ℤ◌, rules, AnswersFraction, den_of, num_of, positive_is_nonzero}
 use Rattle.ratio64.proofs.FractionAnswers.{zero_exactly}
-use Rattle.ratio64.specs.Ratio.{AnswersFraction, den_of, num_of}
-use Rattle.ratio64.specs.ReducedPairs.{positive_is_nonzero}
 use Rattle.ratio64.proofs.fraction.Ratio.checked_times.Goals as goal
 
 pub returns-clause-zero_denominator : goal.returns-clause-zero_denominator

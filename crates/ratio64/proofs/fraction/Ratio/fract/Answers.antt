@@ -1,7 +1,5 @@
-use Rattle.std.proofs.Common.{rules, w64}
-use Rattle.std.proofs.lemmas.Int.{to_z-of_z}
+use Rattle.ratio64.proofs.Common.{rules, w64, to_z-of_z, num_of, den_of}
 use Rattle.ratio64.proofs.ReducedParts.{remainder_reduced}
-use Rattle.ratio64.specs.Ratio.{num_of, den_of}
 use Rattle.ratio64.proofs.fraction.Ratio.fract.Goals as goal
 
 pub div_rem-rest-requires-clause-quotient_fits : goal.div_rem-rest-requires-clause-quotient_fits

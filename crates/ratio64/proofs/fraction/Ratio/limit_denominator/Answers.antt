@@ -1,10 +1,8 @@
-use Rattle.std.proofs.Common.{◌≡◌, ◌<◌, ◌^◌, ◌+ℤ◌, ◌*ℤ◌, FitsSigned, arith, pos, rules, w64}
-use Rattle.std.proofs.lemmas.Int.{ints, to_z-of_z, to_z_pos}
+use Rattle.ratio64.proofs.Common.{◌≡◌, ◌<◌, ◌^◌, ◌+ℤ◌, ◌*ℤ◌, FitsSigned, arith, pos, rules, w64, ints, to_z-of_z, to_z_pos, num_of, den_of}
 use Rattle.ratio64.proofs.LimitedDenominators.{IsLimited, IsSplit, fits_with_whole, floor_splits, itself_is_nearest, lowest_natural, nearer_is_limited, nearest_with_whole, reduced_with_whole}
 use Rattle.ratio64.proofs.NearestNumbers.{quotient_fits}
 use Rattle.ratio64.proofs.NeighbourIterations.{gaps_make}
 use Rattle.ratio64.proofs.WideSums.{positive_size}
-use Rattle.ratio64.specs.Ratio.{num_of, den_of}
 use Rattle.ratio64.proofs.fraction.Ratio.limit_denominator.Goals as goal
 use Rattle.ratio64.proofs.fraction.Ratio.limit_denominator.Goals.{After-nearer-nearest, After-numerator, After-unsigned_abs-limit}
 

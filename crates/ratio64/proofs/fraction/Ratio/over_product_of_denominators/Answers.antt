@@ -1,8 +1,5 @@
-use Rattle.std.specs.Prelude.{◌*ℤ◌}
-use Rattle.std.proofs.Common.{rules}
+use Rattle.ratio64.proofs.Common.{◌*ℤ◌, rules, AnswersFraction, den_of, positive_is_nonzero}
 use Rattle.ratio64.proofs.FractionAnswers.{zero_exactly}
-use Rattle.ratio64.specs.Ratio.{AnswersFraction, den_of}
-use Rattle.ratio64.specs.ReducedPairs.{positive_is_nonzero}
 use Rattle.ratio64.proofs.fraction.Ratio.over_product_of_denominators.Goals as goal
 
 pub returns-clause-never_zero : goal.returns-clause-never_zero

@@ -1,9 +1,6 @@
-use Rattle.std.specs.Int.{int_pow}
-use Rattle.std.proofs.Common.{◌≡◌, Err, inl, inr, of_z, rules, to_z, w64}
+use Rattle.ratio64.proofs.Common.{int_pow, ◌≡◌, Err, inl, inr, of_z, rules, to_z, w64, NotFitting, num_of, den_of}
 use Rattle.ratio64.proofs.FractionPowers.{power_reduced}
 use Rattle.ratio64.proofs.ReducedAnswers.{reduced_answer, reduced_refused}
-use Rattle.ratio64.specs.declared.error.RatioError.TheVariants.{NotFitting}
-use Rattle.ratio64.specs.Ratio.{num_of, den_of}
 use Rattle.ratio64.proofs.fraction.Ratio.power.Goals as goal
 
 pub returns-in_err-num : goal.returns-in_err-num

@@ -1,7 +1,5 @@
-use Rattle.std.proofs.Common.{rules, w64}
-use Rattle.std.proofs.lemmas.Int.{to_z-of_z}
+use Rattle.ratio64.proofs.Common.{rules, w64, to_z-of_z, den_of, num_of}
 use Rattle.ratio64.proofs.NearestNumbers.{quotient_fits}
-use Rattle.ratio64.specs.Ratio.{den_of, num_of}
 use Rattle.ratio64.proofs.fraction.Ratio.round_even.Goals as goal
 
 pub nearest_even-requires-clause-quotients_fit : goal.nearest_even-requires-clause-quotients_fit

@@ -1,5 +1,4 @@
-use Rattle.std.specs.Int.{w64}
-use Rattle.std.proofs.lemmas.Int.{to_z-of_z}
+use Rattle.ratio64.proofs.Common.{w64, to_z-of_z}
 use Rattle.ratio64.proofs.NearestNumbers.{narrowed_answer, only_rounded_even}
 use Rattle.ratio64.proofs.WideSums.{read}
 use Rattle.ratio64.proofs.fraction.Ratio.round_even_times.Goals as goal

@@ -1,7 +1,4 @@
-use Rattle.std.specs.Prelude.{◌^◌, pos}
-use Rattle.std.specs.Int.{w64}
-use Rattle.std.proofs.Common.{refl}
-use Rattle.std.proofs.lemmas.Int.{to_z-of_z}
+use Rattle.ratio64.proofs.Common.{◌^◌, pos, w64, refl, to_z-of_z}
 use Rattle.ratio64.proofs.DecimalTexts.{few_places, fitting_scale}
 use Rattle.ratio64.proofs.WideSums.{read}
 use Rattle.ratio64.proofs.fraction.Ratio.to_decimal.Goals as goal

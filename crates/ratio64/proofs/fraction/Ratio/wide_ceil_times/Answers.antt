@@ -1,5 +1,4 @@
-use Rattle.std.proofs.Common.{refl}
-use Rattle.num_integer.specs.Division.{IsCeiled, IsQuotient}
+use Rattle.ratio64.proofs.Common.{refl, IsCeiled, IsQuotient}
 use Rattle.ratio64.proofs.RoundedProducts.{den_nonzero, wide_quotient_fits, wide_rounded}
 use Rattle.ratio64.proofs.fraction.Ratio.wide_ceil_times.Goals as goal
 

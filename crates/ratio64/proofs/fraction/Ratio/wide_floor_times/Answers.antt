@@ -1,5 +1,4 @@
-use Rattle.std.proofs.Common.{refl}
-use Rattle.num_integer.specs.Division.{IsFloored, IsQuotient}
+use Rattle.ratio64.proofs.Common.{refl, IsFloored, IsQuotient}
 use Rattle.ratio64.proofs.RoundedProducts.{den_nonzero, wide_quotient_fits, wide_rounded}
 use Rattle.ratio64.proofs.fraction.Ratio.wide_floor_times.Goals as goal
 

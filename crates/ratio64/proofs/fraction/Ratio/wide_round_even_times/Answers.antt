@@ -1,7 +1,6 @@
-use Rattle.std.proofs.Common.{refl}
+use Rattle.ratio64.proofs.Common.{refl, IsRoundedEven}
 use Rattle.ratio64.proofs.NearestNumbers.{rounded_even_division}
 use Rattle.ratio64.proofs.RoundedProducts.{den_positive, wide_quotient_fits, wide_rounded}
-use Rattle.ratio64.specs.Rounding.{IsRoundedEven}
 use Rattle.ratio64.proofs.fraction.Ratio.wide_round_even_times.Goals as goal
 
 pub nearest_even-requires-clause-positive : goal.nearest_even-requires-clause-positive

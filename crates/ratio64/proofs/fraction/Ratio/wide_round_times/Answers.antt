@@ -1,7 +1,6 @@
-use Rattle.std.proofs.Common.{refl}
+use Rattle.ratio64.proofs.Common.{refl, IsRounded}
 use Rattle.ratio64.proofs.NearestNumbers.{rounded_division}
 use Rattle.ratio64.proofs.RoundedProducts.{den_positive, wide_quotient_fits, wide_rounded}
-use Rattle.ratio64.specs.Rounding.{IsRounded}
 use Rattle.ratio64.proofs.fraction.Ratio.wide_round_times.Goals as goal
 
 pub nearest-requires-clause-positive : goal.nearest-requires-clause-positive

@@ -1,7 +1,4 @@
-use Rattle.std.specs.Prelude.{◌≡◌, ◌*ℤ◌, pos}
-use Rattle.std.specs.Int.{w64}
-use Rattle.std.proofs.Common.{arith}
-use Rattle.std.proofs.lemmas.Int.{ints, to_z-of_z, to_z_pos}
+use Rattle.ratio64.proofs.Common.{◌≡◌, ◌*ℤ◌, pos, w64, arith, ints, to_z-of_z, to_z_pos}
 use Rattle.ratio64.proofs.fraction.limit.numerator.Goals as goal
 use Rattle.ratio64.proofs.fraction.limit.numerator.Goals.{After-from}
 

@@ -1,9 +1,5 @@
-use Rattle.std.specs.Prelude.{◌≡◌, ◌+ℤ◌, ◌-ℤ◌, neg_ℤ, pos, true, false}
-use Rattle.std.proofs.Common.{arith, inl}
-use Rattle.num_integer.proofs.ForCallers.{from_test, linear, sizes, within_fits}
+use Rattle.ratio64.proofs.Common.{◌≡◌, ◌+ℤ◌, ◌-ℤ◌, neg_ℤ, pos, true, false, arith, inl, from_test, linear, sizes, within_fits, positive_is_nonzero, IsRounded}
 use Rattle.ratio64.proofs.NearestNumbers.{rounded_above, rounded_below, rounded_division}
-use Rattle.ratio64.specs.ReducedPairs.{positive_is_nonzero}
-use Rattle.ratio64.specs.Rounding.{IsRounded}
 use Rattle.ratio64.proofs.fraction.rounding.nearest.Given.{Over}
 use Rattle.ratio64.proofs.fraction.rounding.nearest.Goals as goal
 use Rattle.ratio64.proofs.fraction.rounding.nearest.Goals.{After-is_below, After-is_below-else-is_negative}

@@ -1,9 +1,5 @@
-use Rattle.std.specs.Prelude.{◌+ℤ◌, pos}
-use Rattle.std.proofs.Common.{arith, inl, inr, sym, ◌∙◌}
-use Rattle.std.proofs.lemmas.Bool.{iff_false}
-use Rattle.num_integer.proofs.ForCallers.{from_test, linear}
+use Rattle.ratio64.proofs.Common.{◌+ℤ◌, pos, arith, inl, inr, sym, ◌∙◌, iff_false, from_test, linear, IsRoundedEven}
 use Rattle.ratio64.proofs.NearestNumbers.{rounded_even_above, rounded_even_below, rounded_even_division}
-use Rattle.ratio64.specs.Rounding.{IsRoundedEven}
 use Rattle.ratio64.proofs.fraction.rounding.nearest_even.Given.{Over}
 use Rattle.ratio64.proofs.fraction.rounding.nearest_even.Goals as goal
 use Rattle.ratio64.proofs.fraction.rounding.nearest_even.Goals.{Else-is_even, else-is_below+else-is_equal, else-is_below+then-is_equal, then-is_below}

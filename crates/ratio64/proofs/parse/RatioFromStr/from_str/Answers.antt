@@ -1,5 +1,4 @@
-use Rattle.std.proofs.Common.{refl}
-use Rattle.std.proofs.lemmas.Bool.{iff_false}
+use Rattle.ratio64.proofs.Common.{refl, iff_false}
 use Rattle.ratio64.proofs.ReadTexts.{other_text, spelled_text, split_cuts}
 use Rattle.ratio64.proofs.parse.RatioFromStr.from_str.Goals as goal
 use Rattle.ratio64.proofs.parse.RatioFromStr.from_str.Goals.{then-not-is_integer-via-then-not-is_integer, then-not-is_integer-via-else-not-is_integer+then-not-is_integer-2}
