@@ -1,6 +1,6 @@
 //! The traits of `num_traits`.
 
-ghost use Rattle.std.specs.Prelude.{◌≢◌, ⊤, pos, refl};
+ghost use Rattle.std.specs.Prelude.{◌≢◌, ⊤, pos, refl, IsErr};
 ghost use Rattle.num_integer.specs.Between.{Between, between_law};
 ghost use Rattle.num_traits.specs.Ints.{signed-eq};
 ghost use Rattle.bounded_integers.specs.Ranges.{one_inside, positive_divisor_inside, sub_inside, zero_inside};
@@ -75,7 +75,7 @@ impl<R: Range> One for Bounded<R> {
 impl<R: Range> Num for Bounded<R> {
     type FromStrRadixErr = ();
 
-    ghost from_str_radix_gives = { λ _ _ _. ⊤ };
+    ghost from_str_radix_gives = { λ _ _ r. IsErr r };
 
     fn from_str_radix(_text: &str, _radix: u32) -> Result<Bounded<R>, ()> {
         Err(())

@@ -1,6 +1,6 @@
 //! Lawful types that differ only in how they store their numbers.
 
-ghost use Rattle.std.specs.Prelude.{◌≡◌, ◌≢◌, ◌+ℤ◌, ◌-ℤ◌, ◌*ℤ◌, ℤ, ⊤, pos, negsuc, neg_ℤ, int_div, int_rem, unsigned_abs, refl};
+ghost use Rattle.std.specs.Prelude.{◌≡◌, ◌≢◌, ◌+ℤ◌, ◌-ℤ◌, ◌*ℤ◌, ℤ, ⊤, pos, negsuc, neg_ℤ, int_div, int_rem, unsigned_abs, refl, IsErr};
 ghost use Rattle.std.specs.Cmp.{partial_order_from_own_ties};
 ghost use Rattle.std.specs.Cmp.Rules.{comparing};
 ghost use Rattle.std.specs.Ordering.{int_cmp, int_eq, on, as_partial_cmp};
@@ -265,7 +265,7 @@ impl<F: Form> One for Own<F> {
 impl<F: Form> Num for Own<F> {
     type FromStrRadixErr = ();
 
-    ghost from_str_radix_gives = { λ _ _ _. ⊤ };
+    ghost from_str_radix_gives = { λ _ _ r. IsErr r };
 
     fn from_str_radix(_text: &str, _radix: u32) -> Result<Own<F>, ()> {
         Err(())
