@@ -30,7 +30,7 @@ fn days_of(rt: &impl Abort, range: &str) -> Days {
     date(rt, from).days_until(date(rt, end))
 }
 
-/// The dates of a text, with a space between each two. `[]` has none.
+/// The dates of a text, with a space between each two, and none for `[]`.
 fn dates_of(rt: &impl Abort, alloc: Global, text: &str) -> Vec<Date> {
     let mut dates = Vec::new(alloc);
     if text != "[]" {
@@ -43,19 +43,16 @@ fn dates_of(rt: &impl Abort, alloc: Global, text: &str) -> Vec<Date> {
 
 /// Returns `true` if exactly these dates come: of each two, the first `backs` from the back and the others from the front.
 fn come(mut days: Days, dates: &[Date], backs: usize) -> bool {
-    let (mut left, mut same) = (dates, true);
+    let (mut first, mut same) = (0usize, true);
     for taken in 0..dates.len() {
-        same &= days.len() == Some(left.len()) && !days.is_empty();
-        match left {
-            [rest @ .., last] if taken % 2 < backs => {
-                same &= days.next_back() == Some(*last);
-                left = rest;
-            }
-            [first, rest @ ..] => {
-                same &= days.next() == Some(*first);
-                left = rest;
-            }
-            [] => {}
+        let left = dates.len().wrapping_sub(taken);
+        same &= days.len() == Some(left) && !days.is_empty();
+        if taken % 2 < backs {
+            let last = first.wrapping_add(left).wrapping_sub(1);
+            same &= days.next_back() == dates.get(last).copied();
+        } else {
+            same &= days.next() == dates.get(first).copied();
+            first = first.wrapping_add(1);
         }
     }
     same && days.is_empty() && days.next().is_none() && days.next_back().is_none()
