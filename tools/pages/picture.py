@@ -6,7 +6,7 @@ from collections.abc import Iterator
 from tools import ROOT, filled
 
 PLACES = {'what you mean': (0, 0), 'definitions': (1, 0), 'contracts': (2, 0), 'Rattle source': (3, 0), 'C++, Python': (0, 1), 'C': (1, 1),
-          'compiled by Rattle': (2, 1), 'Rust source': (3, 1), 'compiled by rustc': (2, 2), 'WebAssembly': (3, 2), 'JavaScript': (2, 3)}
+          'compiled by Rattle': (2, 1), 'Rust source': (3, 1), 'compiled by rustc': (2, 2), 'JavaScript': (1, 2)}
 COLOURS = {'proved': '#1a7f37', 'checked': '#0969da', 'tested': '#9a6700', 'trusted': '#cf222e'}
 ROW = re.compile(r'^\| ([^|]+) \| ([^|]+) \| \*\*(\w+)\*\*([^|]*) \|', re.M)
 WIDE, HIGH, ACROSS, DOWN = 144, 40, 224, 92         # of a box, and from one to the next
@@ -18,22 +18,29 @@ def centre(name: str) -> tuple[float, float]:
     return 16 + WIDE / 2 + ACROSS * column, 16 + HIGH / 2 + DOWN * row
 
 
-def arrow(start: str, end: str, kind: str, more: str) -> Iterator[str]:
-    """An arrow from the edge of one box to that of another, with its words in the middle."""
+def middle(start: str, end: str) -> tuple[float, float]:
+    (x, y), (to_x, to_y) = centre(start), centre(end)
+    return (x + to_x) / 2, (y + to_y) / 2
+
+
+def arrow(start: str, end: str, kind: str, more: str, along: float) -> Iterator[str]:
+    """An arrow from the edge of one box to that of another, with its words on that part of the way."""
     (x, y), (to_x, to_y) = centre(start), centre(end)
     across, down = to_x - x, to_y - y
     edge = min(size / 2 / abs(way) for size, way in ((WIDE, across), (HIGH, down)) if way)
     ends = [f'{place:.0f}' for place in (x + across * edge, y + down * edge, to_x - across * edge, to_y - down * edge)]
     yield (f'<line x1="{ends[0]}" y1="{ends[1]}" x2="{ends[2]}" y2="{ends[3]}" stroke="{COLOURS[kind]}" stroke-width="2" '
            f'marker-end="url(#{kind})"/>')
-    yield (f'<text x="{(x + to_x) / 2:.0f}" y="{(y + to_y) / 2 + (5 if down else -6):.0f}" fill="{COLOURS[kind]}" font-size="12" stroke="#ffffff" '
+    yield (f'<text x="{x + across * along:.0f}" y="{y + down * along + (5 if down else -6):.0f}" fill="{COLOURS[kind]}" font-size="12" stroke="#ffffff" '
            f'stroke-width="4" paint-order="stroke">{kind}{more}</text>')
 
 
 def picture(page: str) -> str:
     rows = ROW.findall(page)
     columns, lines = (max(place[axis] for place in PLACES.values()) for axis in (0, 1))
-    parts = [*(MARKER.format(*pair) for pair in COLOURS.items()), *(part for row in rows for part in arrow(*row))]
+    middles = [middle(start, end) for start, end, *_ in rows]
+    along = [0.36 if middles.count(place) > 1 else 0.5 for place in middles]       # two arrows cross in their middle
+    parts = [*(MARKER.format(*pair) for pair in COLOURS.items()), *(part for row, place in zip(rows, along) for part in arrow(*row, place))]
     for name in PLACES:
         x, y = centre(name)
         parts.append(f'<rect x="{x - WIDE / 2:.0f}" y="{y - HIGH / 2:.0f}" width="{WIDE}" height="{HIGH}" rx="6" fill="#f6f8fa" stroke="#57606a"/>')

@@ -188,7 +188,7 @@ pub fn share_with_tip(bill: u64, tip_percent: u64, people: u64) -> u64
 
 /// Returns how many installments pay off a loan.
 pub fn installments(loan: u64, installment: u64) -> u64
-    requires { (0 < installment) × (installment ≤ loan) × (loan ≤ 1000000000000) }
+    requires { (0 < loan) × (0 < installment) }
     ensures enough { loan ≤ result * installment }
     ensures needed { (result - 1) * installment < loan }
 {
