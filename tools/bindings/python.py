@@ -80,8 +80,8 @@ def object_of(call: Call) -> str:
     items = [f'{OBJECTS[kind]}(r{path})' for path, kind in results(call)]
     if call.result in whole or len(items) == 1:
         return whole.get(call.result, items[0])
-    group = next((name for end, (name, _) in CLASSES.items() if end in call.result), 'NULL')
-    return f'tuple_of({group}, {len(items)}, (PyObject *[]){{{", ".join(items)}}})'
+    maker = next((f'object_of({name}, ' for end, (name, _) in CLASSES.items() if end in call.result), 'tuple_of(')
+    return f'{maker}{len(items)}, (PyObject *[]){{{", ".join(items)}}})'
 
 
 def form_text(call: Call) -> str:

@@ -331,7 +331,7 @@ static PyObject *one_div_rem_i64(const cell *a, uint32_t *status) {
         *status = r.status;
         return NULL;
     }
-    return tuple_of(NULL, 2, (PyObject *[]){PyLong_FromLongLong(r.quotient), PyLong_FromLongLong(r.remainder)});
+    return tuple_of(2, (PyObject *[]){PyLong_FromLongLong(r.quotient), PyLong_FromLongLong(r.remainder)});
 }
 
 static void many_div_rem_i64(Py_ssize_t count, char *const *in, const Py_ssize_t *steps, char *const *out) {
@@ -351,7 +351,7 @@ static PyObject *one_div_rem_u64(const cell *a, uint32_t *status) {
         *status = r.status;
         return NULL;
     }
-    return tuple_of(NULL, 2, (PyObject *[]){PyLong_FromUnsignedLongLong(r.quotient), PyLong_FromUnsignedLongLong(r.remainder)});
+    return tuple_of(2, (PyObject *[]){PyLong_FromUnsignedLongLong(r.quotient), PyLong_FromUnsignedLongLong(r.remainder)});
 }
 
 static void many_div_rem_u64(Py_ssize_t count, char *const *in, const Py_ssize_t *steps, char *const *out) {
@@ -609,7 +609,7 @@ static PyObject *one_div_mod_floor_i64(const cell *a, uint32_t *status) {
         *status = r.status;
         return NULL;
     }
-    return tuple_of(NULL, 2, (PyObject *[]){PyLong_FromLongLong(r.quotient), PyLong_FromLongLong(r.remainder)});
+    return tuple_of(2, (PyObject *[]){PyLong_FromLongLong(r.quotient), PyLong_FromLongLong(r.remainder)});
 }
 
 static void many_div_mod_floor_i64(Py_ssize_t count, char *const *in, const Py_ssize_t *steps, char *const *out) {
@@ -629,7 +629,7 @@ static PyObject *one_div_mod_floor_u64(const cell *a, uint32_t *status) {
         *status = r.status;
         return NULL;
     }
-    return tuple_of(NULL, 2, (PyObject *[]){PyLong_FromUnsignedLongLong(r.quotient), PyLong_FromUnsignedLongLong(r.remainder)});
+    return tuple_of(2, (PyObject *[]){PyLong_FromUnsignedLongLong(r.quotient), PyLong_FromUnsignedLongLong(r.remainder)});
 }
 
 static void many_div_mod_floor_u64(Py_ssize_t count, char *const *in, const Py_ssize_t *steps, char *const *out) {
@@ -657,7 +657,7 @@ static PyObject *one_product_div_mod_floor_i64(const cell *a, uint32_t *status) 
         *status = r.status;
         return NULL;
     }
-    return tuple_of(NULL, 2, (PyObject *[]){PyLong_FromLongLong(r.quotient), PyLong_FromLongLong(r.remainder)});
+    return tuple_of(2, (PyObject *[]){PyLong_FromLongLong(r.quotient), PyLong_FromLongLong(r.remainder)});
 }
 
 static void many_product_div_mod_floor_i64(Py_ssize_t count, char *const *in, const Py_ssize_t *steps, char *const *out) {
@@ -677,7 +677,7 @@ static PyObject *one_product_div_mod_floor_u64(const cell *a, uint32_t *status) 
         *status = r.status;
         return NULL;
     }
-    return tuple_of(NULL, 2, (PyObject *[]){PyLong_FromUnsignedLongLong(r.quotient), PyLong_FromUnsignedLongLong(r.remainder)});
+    return tuple_of(2, (PyObject *[]){PyLong_FromUnsignedLongLong(r.quotient), PyLong_FromUnsignedLongLong(r.remainder)});
 }
 
 static void many_product_div_mod_floor_u64(Py_ssize_t count, char *const *in, const Py_ssize_t *steps, char *const *out) {
@@ -933,7 +933,7 @@ static PyObject *one_gcd_lcm_i64(const cell *a, uint32_t *status) {
         *status = r.status;
         return NULL;
     }
-    return tuple_of(NULL, 2, (PyObject *[]){PyLong_FromLongLong(r.gcd), PyLong_FromLongLong(r.lcm)});
+    return tuple_of(2, (PyObject *[]){PyLong_FromLongLong(r.gcd), PyLong_FromLongLong(r.lcm)});
 }
 
 static void many_gcd_lcm_i64(Py_ssize_t count, char *const *in, const Py_ssize_t *steps, char *const *out) {
@@ -953,7 +953,7 @@ static PyObject *one_gcd_lcm_u64(const cell *a, uint32_t *status) {
         *status = r.status;
         return NULL;
     }
-    return tuple_of(NULL, 2, (PyObject *[]){PyLong_FromUnsignedLongLong(r.gcd), PyLong_FromUnsignedLongLong(r.lcm)});
+    return tuple_of(2, (PyObject *[]){PyLong_FromUnsignedLongLong(r.gcd), PyLong_FromUnsignedLongLong(r.lcm)});
 }
 
 static void many_gcd_lcm_u64(Py_ssize_t count, char *const *in, const Py_ssize_t *steps, char *const *out) {
@@ -981,7 +981,7 @@ static PyObject *one_extended_gcd_i64(const cell *a, uint32_t *status) {
         *status = r.status;
         return NULL;
     }
-    return tuple_of(class_gcd, 3, (PyObject *[]){PyLong_FromLongLong(r.gcd), PyLong_FromLongLong(r.x), PyLong_FromLongLong(r.y)});
+    return object_of(class_gcd, 3, (PyObject *[]){PyLong_FromLongLong(r.gcd), PyLong_FromLongLong(r.x), PyLong_FromLongLong(r.y)});
 }
 
 static void many_extended_gcd_i64(Py_ssize_t count, char *const *in, const Py_ssize_t *steps, char *const *out) {
@@ -1045,7 +1045,7 @@ static PyObject *py_is_coprime(PyObject *module, PyObject *const *args, Py_ssize
 static PyObject *one_reduced_i64(const cell *a, uint32_t *status) {
     cellarcove_i64_pair r = cellarcove_reduced_i64((int64_t)a[0].i, (int64_t)a[1].i);
     (void)status;
-    return tuple_of(NULL, 2, (PyObject *[]){PyLong_FromLongLong(r.first), PyLong_FromLongLong(r.second)});
+    return tuple_of(2, (PyObject *[]){PyLong_FromLongLong(r.first), PyLong_FromLongLong(r.second)});
 }
 
 static void many_reduced_i64(Py_ssize_t count, char *const *in, const Py_ssize_t *steps, char *const *out) {
@@ -1061,7 +1061,7 @@ static const form form_reduced_i64 = {"qq", "qq", false, one_reduced_i64, many_r
 static PyObject *one_reduced_u64(const cell *a, uint32_t *status) {
     cellarcove_u64_pair r = cellarcove_reduced_u64((uint64_t)a[0].u, (uint64_t)a[1].u);
     (void)status;
-    return tuple_of(NULL, 2, (PyObject *[]){PyLong_FromUnsignedLongLong(r.first), PyLong_FromUnsignedLongLong(r.second)});
+    return tuple_of(2, (PyObject *[]){PyLong_FromUnsignedLongLong(r.first), PyLong_FromUnsignedLongLong(r.second)});
 }
 
 static void many_reduced_u64(Py_ssize_t count, char *const *in, const Py_ssize_t *steps, char *const *out) {
@@ -1393,7 +1393,7 @@ static PyObject *one_sqrt_rem_i64(const cell *a, uint32_t *status) {
         *status = r.status;
         return NULL;
     }
-    return tuple_of(NULL, 2, (PyObject *[]){PyLong_FromLongLong(r.root), PyLong_FromLongLong(r.rest)});
+    return tuple_of(2, (PyObject *[]){PyLong_FromLongLong(r.root), PyLong_FromLongLong(r.rest)});
 }
 
 static void many_sqrt_rem_i64(Py_ssize_t count, char *const *in, const Py_ssize_t *steps, char *const *out) {
@@ -1413,7 +1413,7 @@ static PyObject *one_sqrt_rem_u64(const cell *a, uint32_t *status) {
         *status = r.status;
         return NULL;
     }
-    return tuple_of(NULL, 2, (PyObject *[]){PyLong_FromUnsignedLongLong(r.root), PyLong_FromUnsignedLongLong(r.rest)});
+    return tuple_of(2, (PyObject *[]){PyLong_FromUnsignedLongLong(r.root), PyLong_FromUnsignedLongLong(r.rest)});
 }
 
 static void many_sqrt_rem_u64(Py_ssize_t count, char *const *in, const Py_ssize_t *steps, char *const *out) {
@@ -1671,7 +1671,7 @@ static PyObject *one_place_of_i64(const cell *a, uint32_t *status) {
         *status = r.status;
         return NULL;
     }
-    return tuple_of(NULL, 2, (PyObject *[]){PyLong_FromLongLong(r.page), PyLong_FromLongLong(r.place)});
+    return tuple_of(2, (PyObject *[]){PyLong_FromLongLong(r.page), PyLong_FromLongLong(r.place)});
 }
 
 static void many_place_of_i64(Py_ssize_t count, char *const *in, const Py_ssize_t *steps, char *const *out) {
@@ -1691,7 +1691,7 @@ static PyObject *one_place_of_u64(const cell *a, uint32_t *status) {
         *status = r.status;
         return NULL;
     }
-    return tuple_of(NULL, 2, (PyObject *[]){PyLong_FromUnsignedLongLong(r.page), PyLong_FromUnsignedLongLong(r.place)});
+    return tuple_of(2, (PyObject *[]){PyLong_FromUnsignedLongLong(r.page), PyLong_FromUnsignedLongLong(r.place)});
 }
 
 static void many_place_of_u64(Py_ssize_t count, char *const *in, const Py_ssize_t *steps, char *const *out) {
@@ -1765,7 +1765,7 @@ static PyObject *one_range_of_page_i64(const cell *a, uint32_t *status) {
         *status = r.status;
         return NULL;
     }
-    return tuple_of(NULL, 2, (PyObject *[]){PyLong_FromLongLong(r.first), PyLong_FromLongLong(r.end)});
+    return tuple_of(2, (PyObject *[]){PyLong_FromLongLong(r.first), PyLong_FromLongLong(r.end)});
 }
 
 static void many_range_of_page_i64(Py_ssize_t count, char *const *in, const Py_ssize_t *steps, char *const *out) {
@@ -1785,7 +1785,7 @@ static PyObject *one_range_of_page_u64(const cell *a, uint32_t *status) {
         *status = r.status;
         return NULL;
     }
-    return tuple_of(NULL, 2, (PyObject *[]){PyLong_FromUnsignedLongLong(r.first), PyLong_FromUnsignedLongLong(r.end)});
+    return tuple_of(2, (PyObject *[]){PyLong_FromUnsignedLongLong(r.first), PyLong_FromUnsignedLongLong(r.end)});
 }
 
 static void many_range_of_page_u64(Py_ssize_t count, char *const *in, const Py_ssize_t *steps, char *const *out) {
@@ -1813,7 +1813,7 @@ static PyObject *one_range_of_part_i64(const cell *a, uint32_t *status) {
         *status = r.status;
         return NULL;
     }
-    return tuple_of(NULL, 2, (PyObject *[]){PyLong_FromLongLong(r.first), PyLong_FromLongLong(r.end)});
+    return tuple_of(2, (PyObject *[]){PyLong_FromLongLong(r.first), PyLong_FromLongLong(r.end)});
 }
 
 static void many_range_of_part_i64(Py_ssize_t count, char *const *in, const Py_ssize_t *steps, char *const *out) {
@@ -1833,7 +1833,7 @@ static PyObject *one_range_of_part_u64(const cell *a, uint32_t *status) {
         *status = r.status;
         return NULL;
     }
-    return tuple_of(NULL, 2, (PyObject *[]){PyLong_FromUnsignedLongLong(r.first), PyLong_FromUnsignedLongLong(r.end)});
+    return tuple_of(2, (PyObject *[]){PyLong_FromUnsignedLongLong(r.first), PyLong_FromUnsignedLongLong(r.end)});
 }
 
 static void many_range_of_part_u64(Py_ssize_t count, char *const *in, const Py_ssize_t *steps, char *const *out) {
@@ -2321,7 +2321,7 @@ static PyObject *one_solutions_i64(const cell *a, uint32_t *status) {
         *status = r.status;
         return NULL;
     }
-    return tuple_of(class_solutions, 2, (PyObject *[]){PyLong_FromLongLong(r.first), PyLong_FromLongLong(r.step)});
+    return object_of(class_solutions, 2, (PyObject *[]){PyLong_FromLongLong(r.first), PyLong_FromLongLong(r.step)});
 }
 
 static void many_solutions_i64(Py_ssize_t count, char *const *in, const Py_ssize_t *steps, char *const *out) {
@@ -2341,7 +2341,7 @@ static PyObject *one_solutions_u64(const cell *a, uint32_t *status) {
         *status = r.status;
         return NULL;
     }
-    return tuple_of(class_solutions, 2, (PyObject *[]){PyLong_FromUnsignedLongLong(r.first), PyLong_FromUnsignedLongLong(r.step)});
+    return object_of(class_solutions, 2, (PyObject *[]){PyLong_FromUnsignedLongLong(r.first), PyLong_FromUnsignedLongLong(r.step)});
 }
 
 static void many_solutions_u64(Py_ssize_t count, char *const *in, const Py_ssize_t *steps, char *const *out) {
@@ -2369,7 +2369,7 @@ static PyObject *one_chinese_remainder_i64(const cell *a, uint32_t *status) {
         *status = r.status;
         return NULL;
     }
-    return tuple_of(class_solutions, 2, (PyObject *[]){PyLong_FromLongLong(r.first), PyLong_FromLongLong(r.step)});
+    return object_of(class_solutions, 2, (PyObject *[]){PyLong_FromLongLong(r.first), PyLong_FromLongLong(r.step)});
 }
 
 static void many_chinese_remainder_i64(Py_ssize_t count, char *const *in, const Py_ssize_t *steps, char *const *out) {
@@ -2389,7 +2389,7 @@ static PyObject *one_chinese_remainder_u64(const cell *a, uint32_t *status) {
         *status = r.status;
         return NULL;
     }
-    return tuple_of(class_solutions, 2, (PyObject *[]){PyLong_FromUnsignedLongLong(r.first), PyLong_FromUnsignedLongLong(r.step)});
+    return object_of(class_solutions, 2, (PyObject *[]){PyLong_FromUnsignedLongLong(r.first), PyLong_FromUnsignedLongLong(r.step)});
 }
 
 static void many_chinese_remainder_u64(Py_ssize_t count, char *const *in, const Py_ssize_t *steps, char *const *out) {
@@ -3633,7 +3633,7 @@ static PyObject *one_iso_week(const cell *a, uint32_t *status) {
         *status = r.status;
         return NULL;
     }
-    return tuple_of(class_week, 2, (PyObject *[]){PyLong_FromLongLong(r.year), PyLong_FromLong(r.week)});
+    return object_of(class_week, 2, (PyObject *[]){PyLong_FromLongLong(r.year), PyLong_FromLong(r.week)});
 }
 
 static void many_iso_week(Py_ssize_t count, char *const *in, const Py_ssize_t *steps, char *const *out) {

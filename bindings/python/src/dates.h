@@ -43,7 +43,7 @@ static PyObject *date_new(PyTypeObject *class, PyObject *args, PyObject *named) 
             return NULL;
         }
         PyObject *numbers[] = {PyNumber_Index(parts[0]), PyNumber_Index(parts[1]), PyNumber_Index(parts[2])};
-        tuple = tuple_of(NULL, 3, numbers);
+        tuple = tuple_of(3, numbers);
     }
     if (tuple == NULL || !read_date(tuple, &date)) {
         Py_XDECREF(tuple);
@@ -125,19 +125,52 @@ static PyObject *date_fromisoformat(PyObject *class, PyObject *text) {
     return PyObject_CallMethod(class, "_read", "O", text);
 }
 
-static bool is_date(PyObject *object) { return PyObject_TypeCheck(object, (PyTypeObject *)class_dates); }
-
-/* The date so many days later, or NotImplemented if an object is no integer. */
-static PyObject *days_later(PyObject *date, PyObject *days) {
-    cellarcove_date from;
-    int64_t count;
-    if (!PyIndex_Check(days) || is_array(days)) {
-        Py_RETURN_NOTIMPLEMENTED;
-    }
-    return read_date(date, &from) && read_i64(days, &count) ? whole_date(cellarcove_plus_days(from, count)) : NULL;
+static bool is_date(PyObject *object) {
+    return (PyObject *)Py_TYPE(object) == class_date || PyObject_TypeCheck(object, (PyTypeObject *)class_dates);
 }
 
-static PyObject *date_plus(PyObject *a, PyObject *b) { return is_date(a) ? days_later(a, b) : days_later(b, a); }
+/* Whether an object is an integer, and no array. */
+static bool is_count(PyObject *object) { return is_int(object) || (PyIndex_Check(object) && !is_array(object)); }
+
+/* The date so many days later. It has the same object for its year if the year is the same. */
+static PyObject *days_later(PyObject *date, int64_t days) {
+    cellarcove_date from;
+    if (!read_date(date, &from)) {
+        return NULL;
+    }
+    cellarcove_date_answer r = cellarcove_plus_days(from, days);
+    if (r.status != CELLARCOVE_ANSWER || r.date.year != from.year) {
+        return whole_date(r);
+    }
+    PyObject *year = PyTuple_GetItem(date, 0);
+    Py_INCREF(year);
+    return date_in(year, r.date);
+}
+
+static PyObject *date_plus(PyObject *a, PyObject *b) {
+    bool is_first = is_date(a);
+    PyObject *days = is_first ? b : a;
+    int64_t count;
+    if (!is_count(days)) {
+        Py_RETURN_NOTIMPLEMENTED;
+    }
+    return read_i64(days, &count) ? days_later(is_first ? a : b, count) : NULL;
+}
+
+/* Reads an integer, and negates it. One that fits is read without another object. */
+static bool read_negated(PyObject *object, int64_t *to) {
+    cell number;
+    int said = integer(object, &number);
+    if (said == 0 && number.i != INT64_MIN) {
+        *to = -number.i;
+        return true;
+    }
+    PyObject *exact = said < 0 ? NULL : PyNumber_Index(object), *negated = exact == NULL ? NULL : PyNumber_Negative(exact);
+    bool right = negated != NULL && read_i64(negated, to);
+    Py_XDECREF(exact);
+    Py_XDECREF(negated);
+    return right;
+}
 
 /* Reads the date that an operator has beside one of this class, which may be one of `datetime`. */
 static int read_other(PyObject *object, cellarcove_date *to) {
@@ -148,7 +181,7 @@ static int read_other(PyObject *object, cellarcove_date *to) {
     if (PyTuple_Check(object) || !has(object, "toordinal") || parts(object, 'd', cells) != 0) {
         return PyErr_Occurred() ? -1 : 0;
     }
-    PyObject *tuple = tuple_of(NULL, 3, cells);
+    PyObject *tuple = tuple_of(3, cells);
     int result = tuple != NULL && read_date(tuple, to) ? 1 : -1;
     Py_XDECREF(tuple);
     return result;
@@ -156,14 +189,9 @@ static int read_other(PyObject *object, cellarcove_date *to) {
 
 static PyObject *date_minus(PyObject *a, PyObject *b) {
     cellarcove_date of, from;
-    if (is_date(a) && PyIndex_Check(b) && !is_array(b)) {
-        PyObject *days = PyNumber_Index(b), *negated = days == NULL ? NULL : PyNumber_Negative(days), *result = NULL;
-        if (negated != NULL) {
-            result = days_later(a, negated);
-        }
-        Py_XDECREF(days);
-        Py_XDECREF(negated);
-        return result;
+    int64_t count;
+    if (is_date(a) && is_count(b)) {
+        return read_negated(b, &count) ? days_later(a, count) : NULL;
     }
     int first = read_other(a, &of), second = first == 1 ? read_other(b, &from) : 0;
     if (first < 0 || second < 0) {
@@ -196,7 +224,7 @@ static int add_dates(PyObject *module) {
     if (class_dates == NULL) {
         PyObject *collections = PyImport_ImportModule("collections");
         PyObject *base = collections == NULL ? NULL : PyObject_CallMethod(collections, "namedtuple", "ss", "Date", "year month day");
-        PyObject *bases = tuple_of(NULL, 1, &base);
+        PyObject *bases = tuple_of(1, &base);
         class_dates = bases == NULL ? NULL : PyType_FromSpecWithBases(&spec, bases);
         Py_XDECREF(collections);
         Py_XDECREF(bases);

@@ -75,35 +75,60 @@ static Py_ssize_t size_of(char kind) {
 
 /* ---- results ---- */
 
-/* An object of a class whose base is a tuple, or a tuple, of items that are given away. */
-static PyObject *tuple_of(PyObject *class, Py_ssize_t count, PyObject **items) {
-    PyObject *tuple = PyTuple_New(count), *result = NULL;
+/* Sets the items of a tuple, which are given away. It is false if there is no tuple, or not each item. */
+static bool fill(PyObject *tuple, Py_ssize_t count, PyObject **items) {
+    bool right = tuple != NULL;
     for (Py_ssize_t k = 0; k < count; k++) {
         if (items[k] == NULL || tuple == NULL) {
-            Py_CLEAR(tuple);
+            right = false;
             Py_XDECREF(items[k]);
         } else {
             PyTuple_SetItem(tuple, k, items[k]);
         }
     }
-    if (tuple == NULL || class == NULL) {
-        return tuple;
+    return right;
+}
+
+/* A tuple of items that are given away. */
+static PyObject *tuple_of(Py_ssize_t count, PyObject **items) {
+    PyObject *tuple = PyTuple_New(count);
+    if (!fill(tuple, count, items)) {
+        Py_CLEAR(tuple);
     }
-    PyObject *args = PyTuple_New(1);
-    if (args == NULL) {
-        Py_DECREF(tuple);
-        return NULL;
+    return tuple;
+}
+
+/* The arguments of `tuple.__new__`, which are a tuple of so many items. Those of the call before are filled again, as `zip` does, unless
+ * something else has them. */
+static PyObject *arguments(Py_ssize_t count) {
+    static PyObject *kept[MAX_RESULTS];
+    PyObject **args = &kept[count];
+    if (*args == NULL || Py_REFCNT(*args) > 1 || Py_REFCNT(PyTuple_GetItem(*args, 0)) > 1) {
+        PyObject *items = PyTuple_New(count);
+        Py_XDECREF(*args);
+        *args = tuple_of(1, &items);
     }
-    PyTuple_SetItem(args, 0, tuple);
-    result = new_tuple((PyTypeObject *)class, args, NULL);
-    Py_DECREF(args);
+    Py_XINCREF(*args);
+    return *args;
+}
+
+/* An object of a class whose base is a tuple, of items that are given away. */
+static PyObject *object_of(PyObject *class, Py_ssize_t count, PyObject **items) {
+    PyObject *args = arguments(count), *result = NULL;
+    if (fill(args == NULL ? NULL : PyTuple_GetItem(args, 0), count, items)) {
+        result = new_tuple((PyTypeObject *)class, args, NULL);
+    }
+    Py_XDECREF(args);
     return result;
 }
 
-static PyObject *date_of(cellarcove_date date) {
-    PyObject *items[] = {PyLong_FromLongLong(date.year), PyLong_FromLong(date.month), PyLong_FromLong(date.day_of_month)};
-    return tuple_of(class_date, 3, items);
+/* A date whose year is given away. */
+static PyObject *date_in(PyObject *year, cellarcove_date date) {
+    PyObject *items[] = {year, PyLong_FromLong(date.month), PyLong_FromLong(date.day_of_month)};
+    return object_of(class_date, 3, items);
 }
+
+static PyObject *date_of(cellarcove_date date) { return date_in(PyLong_FromLongLong(date.year), date); }
 
 static PyObject *fraction_of(cellarcove_fraction fraction) {
     PyObject *num = PyLong_FromLongLong(fraction.num), *den = PyLong_FromLongLong(fraction.den), *result = NULL;
@@ -162,27 +187,34 @@ static int no_integer(PyObject *object) {
     return -1;
 }
 
-/* Reads an integer into a cell. It is 1 if the number is above 2**63 - 1, and 2 if it fits no 64 bits. */
-static int integer(PyObject *object, cell *to) {
-    PyObject *number = Py_TYPE(object) == &PyLong_Type ? NULL : PyNumber_Index(object);
-    if (number == NULL && Py_TYPE(object) != &PyLong_Type) {
+/* Reads an `int` above 2**63 - 1 into a cell. It is 1, or 2 if the number fits no 64 bits. */
+static int large(PyObject *number, cell *to) {
+    to->u = PyLong_AsUnsignedLongLong(number);
+    if (to->u == UINT64_MAX && PyErr_Occurred()) {
+        PyErr_Clear();
+        return 2;
+    }
+    return 1;
+}
+
+/* Reads an `int` into a cell. It is 1 if the number is above 2**63 - 1, and 2 if it fits no 64 bits. */
+static inline int read_int(PyObject *number, cell *to) {
+    int overflow;
+    to->i = PyLong_AsLongLongAndOverflow(number, &overflow);
+    return overflow == 0 ? 0 : overflow < 0 ? 2 : large(number, to);
+}
+
+/* Reads an integer as `read_int` does. It is -1 after an error. */
+static inline int integer(PyObject *object, cell *to) {
+    if (Py_TYPE(object) == &PyLong_Type) {
+        return read_int(object, to);
+    }
+    PyObject *number = PyNumber_Index(object);
+    if (number == NULL) {
         return no_integer(object);
     }
-    int overflow, said = 0;
-    to->i = PyLong_AsLongLongAndOverflow(number == NULL ? object : number, &overflow);
-    if (overflow < 0) {
-        said = 2;
-    } else if (overflow > 0) {
-        to->u = PyLong_AsUnsignedLongLong(number == NULL ? object : number);
-        said = 1;
-        if (to->u == UINT64_MAX && PyErr_Occurred()) {
-            PyErr_Clear();
-            said = 2;
-        }
-    } else if (to->i == -1 && PyErr_Occurred()) {
-        said = -1;
-    }
-    Py_XDECREF(number);
+    int said = read_int(number, to);
+    Py_DECREF(number);
     return said;
 }
 
@@ -196,7 +228,7 @@ static int integer_of_call(PyObject *object, cell *to) {
     return said;
 }
 
-static bool fits(const cell *number, int said, char kind) {
+static inline bool fits(const cell *number, int said, char kind) {
     switch (kind) {
     case 'q': return said == 0;
     case 'Q': return said == 1 || (said == 0 && number->i >= 0);

@@ -100,6 +100,12 @@ class Dates(unittest.TestCase):
             self.assertEqual((same.to_date(), same.weekday().value, same.isoweekday()), (date, date.weekday() + 1, date.isoweekday()))
             self.assertEqual(same.isoformat(), date.isoformat())
 
+    def test_sums(self):
+        date = Date(2024, 2, 27)
+        sums = [date + days for days in range(-800, 400)]
+        self.assertEqual([later - date for later in sums], list(range(-800, 400)))
+        self.assertEqual([later - days for days, later in zip(range(-800, 400), sums)], [date] * 1200)
+
     def test_weekdays(self):
         """The day of the week that a date gives is the one that the calls take. It is not taken for a number from 0."""
         for days in range(7):
