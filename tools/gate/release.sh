@@ -1,25 +1,32 @@
 #!/usr/bin/env bash
 # Makes the files of a release for cargo, pip, npm and C, and tries each in an empty folder.
 #
-# usage: tools/gate/release.sh [--quick] [FOLDER]
+# usage: tools/gate/release.sh [--quick | --slow] [FOLDER]
 #
 # FOLDER, `dist` if none is given, gets the packages for cargo, the wheel and the source distribution for pip, an archive for C
-# and C++, the package for npm, the WebAssembly that Rattle makes, the page on which a call is tried, an archive of the sources, the notes
-# and SHA256SUMS. They are made of a clean clone of the commit that `.ci/run` has passed in this checkout, and once more in another
-# folder: both have the same sums. Rattle has made the static library in the gate, or cargo makes it if there is no `rt`. Each file is
-# tried without a net and without `rt`.
+# and C++, the package for npm, the WebAssembly that Rattle makes, the page on which a call is tried, an archive of the sources and
+# SHA256SUMS, as soon as they are tried, and NOTES.md once all else has passed. They are made of a clean clone of the commit that `.ci/run`
+# has passed in this checkout, and once more in another folder: both have the same sums. Rattle has made the static library in the gate,
+# or cargo makes it if there is no `rt`. Each file is tried without a net and without `rt`.
 #
-# It also runs the slow checks: all targets, the second suite of mutants, which takes most of an hour, the first lines of both suites, and
-# each guard of plain Rust taken out. With --quick it leaves these out, calls less at random, and the notes say so.
+# Then it runs the slow checks: all targets, the second suite of mutants, the first lines of both suites, and each guard of plain Rust
+# taken out. What each printed is kept in out/slow, and one that has passed at this commit is not run again. So they may be run before,
+# by --slow, which makes no files, and a run goes on after one that failed. With --quick it leaves them out, calls less at random, and the
+# notes say so.
 set -uo pipefail
 cd "$(dirname "$0")/../.." || exit
 source tools/gate/lib.sh
 
+mode=whole
+case ${1:-} in
+    --quick | --slow) mode=${1#--} && shift ;;
+    -*) sed -n 's/^# usage: /usage: /p' "$0" >&2 && exit 2 ;;
+esac
 minutes=1
-[ "${1:-}" != --quick ] || { minutes=0.05 && shift; }
-case ${1:-} in -*) sed -n 's/^# usage: /usage: /p' "$0" >&2 && exit 2 ;; esac
+[ "$mode" != quick ] || minutes=0.05
 folder=${1:-dist}
 commit=$(git rev-parse HEAD)
+state="$commit, kit $(rt version 2>/dev/null || echo none)"
 version=$(sed -nE 's/^version = "(.*)"$/\1/p' rust/Cargo.toml)
 original=$(sed -nE 's/^version = "(.*)"$/\1/p' rust/num-integer/Cargo.toml)
 machine=$(uname -m)-$(uname -s | tr 'A-Z' 'a-z')
@@ -30,8 +37,6 @@ SOURCE_DATE_EPOCH=$(git log -1 --format=%ct)
 stop() { echo "release.sh: $*" >&2 && exit 1; }
 
 [ -z "$(git status --porcelain)" ] || stop 'the checkout has changes that are not committed'
-grep -q "^gate: commit $commit," out/passed 2>/dev/null || stop "\`.ci/run\` has not passed at $commit in this checkout"
-[[ $(grep -m 1 "^## " CHANGELOG.md) = "## $version ("* ]] || stop "CHANGELOG.md does not begin with version $version, which rust/Cargo.toml has"
 
 # ---- the files
 
@@ -179,7 +184,7 @@ notes() {
     grep -E '^(rt: ok|gate: |check_[a-z_]+\.sh: )' out/passed | sed 's/^/- /'
     printf '\nWhat was tried of these files:\n\n'
     sed 's/^/- /' "$work/said"
-    [ "$minutes" = 1 ] || printf -- '- %s: left out\n' \
+    [ "$mode" = whole ] || printf -- '- %s: left out\n' \
         'the targets that need qemu, the second suite of mutants, the first lines of both suites, and each guard taken out'
     printf '\n## Changes\n'
     sed -n "/^## $version (/,/^## /p" "$work/one/clone/CHANGELOG.md" | sed '/^## /d'
@@ -192,9 +197,46 @@ tried() {
     head -n 1 "$work/line" >>"$work/said"
 }
 
+# slow FILE NAME COMMAND..: the same for a slow check. What it printed is kept in a file of out/slow, and it is not run again if it has
+# passed for this commit by this kit.
+slow() {
+    local kept=out/slow/$1 before=$failed
+    if grep -qsxF "passed: commit $state" "$kept"; then
+        tried "$2, in an earlier run" true
+        return
+    fi
+    tried "${@:2}"
+    mkdir -p out/slow && cp "$work/log" "$kept"
+    [ "$failed" -ne "$before" ] || echo "passed: commit $state" >>"$kept"
+}
+
+slow_checks() {
+    tools/gate/install_packages.sh --all || true
+    slow targets 'the tests of the crate, and each call for C, on the targets of docs/PLATFORMS.md' tools/gate/check_targets.sh --all
+    slow guards 'each guard of plain Rust that is taken out is missed by a test' tools/cellarcove check guards
+    slow wrong_lines 'the first line of each mutant is true' tools/cellarcove check wrong_lines
+    slow mutants "the second suite of $(ls crates/*/must-fail-release/*.edit | wc -l) mutants is rejected" tools/gate/check_must_fail_release.sh
+}
+
 made_again() { make_files other && diff "$work/one/SHA256SUMS" "$work/other/SHA256SUMS"; }
 
-[ -z "$(ls -A "$folder" 2>/dev/null)" ] || stop "$folder is not empty"
+# is_free FOLDER: there is nothing in it, or the files of a run that failed later.
+is_free() { [ -z "$(ls -A "$1" 2>/dev/null)" ] || { [ -e "$1/SHA256SUMS" ] && [ ! -e "$1/NOTES.md" ]; }; }
+
+# Copies the files to the folder, in the place of those of a run that failed later.
+copy_files() {
+    mkdir -p "$folder" && { [ ! -e "$folder/SHA256SUMS" ] || (cd "$folder" && cut -d ' ' -f 3 SHA256SUMS | xargs rm -f SHA256SUMS); } &&
+        cp "$files"/* "$work/one/SHA256SUMS" "$folder"
+}
+
+if [ "$mode" = slow ]; then
+    slow_checks
+    finish
+    exit
+fi
+grep -q "^gate: commit $commit," out/passed 2>/dev/null || stop "\`.ci/run\` has not passed at $commit in this checkout"
+[[ $(grep -m 1 "^## " CHANGELOG.md) = "## $version ("* ]] || stop "CHANGELOG.md does not begin with version $version, which rust/Cargo.toml has"
+is_free "$folder" || stop "$folder is not empty"
 files=$work/one/files
 check 'the files are made' make_files one
 [ "$failed" -eq 0 ] || exit 1
@@ -209,11 +251,9 @@ tried 'the package for npm is installed by the line of README.md, tested, compar
     tries_javascript "cellarcove-$version-proved.wasm" --experimental-wasm-memory64
 tried 'the page is served, and calls are tried on it' alone tries_the_page
 tried 'the sources are those of the commit' alone tries_the_sources
-if [ "$minutes" = 1 ]; then
-    tools/gate/install_packages.sh --all || true
-    tried 'the tests of the crate, and each call for C, on the targets of docs/PLATFORMS.md' tools/gate/check_targets.sh --all
-    tried 'each guard of plain Rust that is taken out is missed by a test' tools/cellarcove check guards
-    tried 'the first line of each mutant is true' tools/cellarcove check wrong_lines
-    tried "the second suite of $(ls crates/*/must-fail-release/*.edit | wc -l) mutants is rejected" tools/gate/check_must_fail_release.sh
+if [ "$failed" -ne 0 ] || ! copy_files; then
+    stop "no files were copied to $folder"
 fi
-finish && mkdir -p "$folder" && cp "$files"/* "$work/one/SHA256SUMS" "$folder" && notes >"$folder/NOTES.md" && ls -l "$folder"
+rm -rf "$work"/{target,tried,other} # which take most of the disk
+[ "$mode" != whole ] || slow_checks
+finish && notes >"$folder/NOTES.md" && ls -l "$folder"
