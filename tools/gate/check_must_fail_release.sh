@@ -30,7 +30,8 @@ done
 copy() {
     local name needed
     mapfile -t needed < <(for name in "${names[@]}"; do crates_of "$name"; done | sort -u)
-    mkdir -p "$work/repository/crates" && cp -a "${needed[@]/#/crates/}" "$work/repository/crates" && cp crates.txt HANDLES "$work/repository" || return
+    mkdir -p "$work/repository/crates" && cp -a "${needed[@]/#/crates/}" "$work/repository/crates" && cp HANDLES "$work/repository" &&
+        grep -E "^($(IFS='|' && echo "${needed[*]}"))[: ]" crates.txt >"$work/repository/crates.txt" || return
     cd "$work/repository/crates" && rm -rf "${needed[@]/%//must-fail}" && for name in "${names[@]}"; do mv "$name/"must-fail{-release,} || return; done
 }
 

@@ -118,7 +118,7 @@ calls_over_proved() {
     kit=$(dirname "$(rt doc)")
     for name in $(crates_of "$crate" | sort -u); do
         [ "$name" = "$crate" ] && continue
-        [ -d "crates/$name/out/rlib/$name.rlib" ] || return 1
+        [ -d "crates/$name/out/rlib/$name.rlib" ] || { echo "crates/$name/out has no proved library: run \`rt ci\`" >&2 && return 1; }
         words+=(-L "dependency=$PWD/crates/$name/out/rlib")
     done
     for name in $(sed -n "s/^$crate staticlib: //p" crates.txt); do

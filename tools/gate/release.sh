@@ -207,7 +207,11 @@ slow() {
     fi
     tried "${@:2}"
     mkdir -p out/slow && cp "$work/log" "$kept"
-    [ "$failed" -ne "$before" ] || echo "passed: commit $state" >>"$kept"
+    if [ "$failed" -eq "$before" ]; then
+        echo "passed: commit $state" >>"$kept"
+    else
+        echo "$kept has all that it printed"
+    fi
 }
 
 slow_checks() {

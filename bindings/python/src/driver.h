@@ -102,14 +102,15 @@ static PyObject *tuple_of(Py_ssize_t count, PyObject **items) {
  * something else has them. */
 static PyObject *arguments(Py_ssize_t count) {
     static PyObject *kept[MAX_RESULTS];
-    PyObject **args = &kept[count];
-    if (*args == NULL || Py_REFCNT(*args) > 1 || Py_REFCNT(PyTuple_GetItem(*args, 0)) > 1) {
+    PyObject *args = kept[count];
+    if (args == NULL || Py_REFCNT(args) > 1 || Py_REFCNT(PyTuple_GetItem(args, 0)) > 1) {
         PyObject *items = PyTuple_New(count);
-        Py_XDECREF(*args);
-        *args = tuple_of(1, &items);
+        args = tuple_of(1, &items);
+        Py_XDECREF(kept[count]);
+        kept[count] = args;
     }
-    Py_XINCREF(*args);
-    return *args;
+    Py_XINCREF(args);
+    return args;
 }
 
 /* An object of a class whose base is a tuple, of items that are given away. */
