@@ -3,17 +3,24 @@
 # The tests in C and those of the crate run there too. cargo makes the archives, and Rattle makes one for ARM64 if `rt ci` has left the proved
 # libraries. The crate is compiled without std for bare ARM and for WebAssembly.
 #
-# usage: tools/gate/check_targets.sh [--all]
+# usage: tools/gate/check_targets.sh [--all | TARGET..]
 #
-# i686 needs no emulator on x86-64. With --all it takes the targets that need qemu too, and compares the table of docs/PLATFORMS.md with
-# those that passed. `tools/gate/install_packages.sh --all` installs what is missing. Prints a line for each check and for each program
-# that the machine lacks, and a count at the end.
+# With no word it takes i686, which needs no emulator on x86-64. With --all it takes the targets that need qemu too, and compares the table of
+# docs/PLATFORMS.md with those that passed; with names of that table it takes those alone. `tools/gate/install_packages.sh --all` installs what
+# is missing. Prints a line for each check and for each program that the machine lacks, and a count at the end.
 set -uo pipefail
 cd "$(dirname "$0")/../.." || exit
 source tools/gate/lib.sh
 export CARGO_TARGET_DIR=$work/target
 cargo=$PWD/bindings/cargo compiler=cc emulator=env
 calls=$(tools/cellarcove make symbols | wc -l)
+words=("${@:-i686-unknown-linux-gnu}")
+for word in "${words[@]}"; do
+    [ "$word" = --all ] || grep -q "^| \`$word\` |.*| the crate, C |" docs/PLATFORMS.md || { echo "$word: docs/PLATFORMS.md has no such target" && exit 2; }
+done
+
+# is_wanted WORD: it is --all, or the name of a target, which --all takes too.
+is_wanted() { [[ " ${words[*]} " = *" $1 "* || " ${words[*]} " = *' --all '* ]]; }
 
 # for_target FOLDER TARGET LIBRARIES COMMAND [WORD..]: cargo runs in a folder of a copy of the sources.
 for_target() { (cd "$work/$1" && "$cargo" "${@:2}"); }
@@ -49,7 +56,7 @@ byte_order_and_bits() { rustc --print cfg --target "$1" | sed -nE 's/^target_(en
 # on TARGET PREFIX EMULATOR: the checks of a target, and the row of a table if they pass.
 on() {
     local compiler=$2-gcc emulator=$3 before=$failed key=${1//-/_}
-    has "$compiler" "$1" && has "$emulator" "$1" || return 0
+    is_wanted "$1" && has "$compiler" "$1" && has "$emulator" "$1" || return 0
     export "CARGO_TARGET_${key^^}_LINKER=$compiler" "CARGO_TARGET_${key^^}_RUNNER=$emulator" "CARGO_TARGET_${key^^}_RUSTFLAGS=-C target-feature=+crt-static"
     check "the archive for $1" by_cargo "$1"
     returns_the_same "$1"
@@ -67,17 +74,17 @@ check 'the archive for this machine' bindings/build --cargo "$work/here"
 mv "$work/here/libcellarcove_c.a" "$work/here.a"
 check 'its checksums' sums here
 on i686-unknown-linux-gnu i686-linux-gnu env
-if [ "${1:-}" = --all ]; then
-    on armv7-unknown-linux-gnueabihf arm-linux-gnueabihf qemu-arm-static
-    on aarch64-unknown-linux-gnu aarch64-linux-gnu qemu-aarch64-static
-    on riscv64gc-unknown-linux-gnu riscv64-linux-gnu qemu-riscv64-static
-    on s390x-unknown-linux-gnu s390x-linux-gnu qemu-s390x-static
-    on powerpc-unknown-linux-gnu powerpc-linux-gnu qemu-ppc-static
+on armv7-unknown-linux-gnueabihf arm-linux-gnueabihf qemu-arm-static
+on aarch64-unknown-linux-gnu aarch64-linux-gnu qemu-aarch64-static
+on riscv64gc-unknown-linux-gnu riscv64-linux-gnu qemu-riscv64-static
+on s390x-unknown-linux-gnu s390x-linux-gnu qemu-s390x-static
+on powerpc-unknown-linux-gnu powerpc-linux-gnu qemu-ppc-static
+if is_wanted aarch64-unknown-linux-gnu && command -v rt >/dev/null; then
     compiler=aarch64-linux-gnu-gcc emulator=qemu-aarch64-static
-    if command -v rt >/dev/null; then
-        check "Rattle's archive for ARM64" by_rattle aarch64-unknown-linux-gnu
-        returns_the_same rattle
-    fi
+    check "Rattle's archive for ARM64" by_rattle aarch64-unknown-linux-gnu
+    returns_the_same rattle
+fi
+if is_wanted --all; then
     check 'the table of docs/PLATFORMS.md' diff <(grep '| the crate, C | yes |$' docs/PLATFORMS.md) "$work/rows"
 fi
 finish

@@ -40,7 +40,9 @@ def picture(page: str) -> str:
     columns, lines = (max(place[axis] for place in PLACES.values()) for axis in (0, 1))
     middles = [middle(start, end) for start, end, *_ in rows]
     along = [0.36 if middles.count(place) > 1 else 0.5 for place in middles]       # two arrows cross in their middle
-    parts = [*(MARKER.format(*pair) for pair in COLOURS.items()), *(part for row, place in zip(rows, along) for part in arrow(*row, place))]
+    parts = [MARKER.format(*pair) for pair in COLOURS.items()]
+    for (start, end, kind, more), part_of_way in zip(rows, along):
+        parts += arrow(start, end, kind, more, part_of_way)
     for name in PLACES:
         x, y = centre(name)
         parts.append(f'<rect x="{x - WIDE / 2:.0f}" y="{y - HIGH / 2:.0f}" width="{WIDE}" height="{HIGH}" rx="6" fill="#f6f8fa" stroke="#57606a"/>')
