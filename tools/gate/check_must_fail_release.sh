@@ -1,5 +1,5 @@
 #!/usr/bin/env bash
-# Tries the wrong bodies that the gate does not try: crates/NAME/must-fail-release/*.edit. The prover must refuse each. Copies the
+# Tries the mutants that CI does not try, crates/NAME/must-fail-release/*.edit: the prover must reject each. Copies the
 # crates to a temporary folder, with what was kept in them, and tries them there in the place of those of must-fail. With names of
 # crates, tries theirs alone. Prints a line for each, again those that were not refused, and a count at the end.
 #
@@ -20,7 +20,7 @@ wanted=0
 for name in "${names[@]}"; do
     edits=(crates/"$name"/must-fail-release/*.edit)
     if [ ! -f "${edits[0]}" ]; then
-        echo "$name: no such crate with wrong bodies"
+        echo "$name: no such crate with mutants"
         exit 2
     fi
     wanted=$((wanted + ${#edits[@]}))
