@@ -1,6 +1,5 @@
 //! Tests by subject. `worked_rows.rt` has the rows of all calls, and `rows.rt` says how they are read.
 
-mod averages;
 mod calls;
 mod coefficients;
 mod cookbook;
@@ -12,7 +11,6 @@ mod fractions;
 mod multiples;
 mod own_pairs;
 mod own_values;
-mod pairs;
 mod program;
 mod residues;
 mod results;

@@ -148,21 +148,15 @@ fn of_number(call: Dates, sum: Checksum, n: i64) -> Option<Checksum> {
 /// The checksum with what a call makes of the date of a day and of a number, which is the day of another date if
 /// the call asks two.
 fn of_two_numbers(call: Dates, sum: Checksum, day: i64, n: i64) -> Option<Checksum> {
-    let date = Date::from_day_number(day);
+    let (date, other) = (Date::from_day_number(day), Date::from_day_number(n));
     let sum = sum.with_number(day).with_number(n);
-    match call {
-        Dates::PlusDays => Some(with_date(sum, &date.plus_days(n)?)),
-        Dates::PlusMonths => Some(with_date(sum, &date.plus_months(n)?)),
-        Dates::DaysBetween => Some(sum.with_number(days_between(
-            &date,
-            &Date::from_day_number(n),
-        )?)),
-        Dates::MonthsBetween => Some(sum.with_number(months_between(
-            &date,
-            &Date::from_day_number(n),
-        )?)),
-        _ => Some(sum.with_number(years_between(&date, &Date::from_day_number(n))?)),
-    }
+    Some(match call {
+        Dates::PlusDays => with_date(sum, &date.plus_days(n)?),
+        Dates::PlusMonths => with_date(sum, &date.plus_months(n)?),
+        Dates::DaysBetween => sum.with_number(days_between(&date, &other)?),
+        Dates::MonthsBetween => sum.with_number(months_between(&date, &other)?),
+        _ => sum.with_number(years_between(&date, &other)?),
+    })
 }
 
 fn each_eleventh_day() -> Answered {

@@ -4,10 +4,9 @@ ghost use Rattle.std.specs.Prelude.{IfErr, Some};
 ghost use Rattle.anyhow.specs.Error.{HasMessage};
 ghost use Rattle.calendar.specs.Text.{error_text};
 
-use crate::tests::rows::holds_at;
+use crate::tests::rows::{holds_at, is_written};
 use anyhow::Result;
 use calendar::{Date, DateError};
-use std::alloc::{AllocError, Global};
 use std::process::Abort;
 
 /// A year, a month and a day of the month.
@@ -40,17 +39,12 @@ static NO_TEXTS: &str =
     1900-02-29|2026-00-01|2026-13-01|226-11-23|02026-11-23|+2026-11-23|10000-01-01|-0000-01-01|-1-12-31|\
     +9223372036854775808-12-31|2026-1é-3|２026-11-23";
 
-/// Returns `true` if the date prints the string, and the string is parsed as the date.
-fn is_text_of(date: &Date, text: &str, alloc: Global) -> Result<bool, AllocError> {
-    let printed = date.to_string(alloc)?;
-    Ok(printed.as_str() == text && text.parse() == Ok(*date))
-}
-
 #[test]
 fn texts_of_dates(rt: HostRuntime) {
     for &(parts, text) in &TEXTS {
-        let is_text = is_text_of(&date(&rt, parts), text, rt.alloc());
-        holds_at(&rt, is_text == Ok(true), &("fmt", text));
+        let date = date(&rt, parts);
+        is_written(&rt, rt.alloc(), &date, text);
+        holds_at(&rt, text.parse() == Ok(date), &("parse", text));
     }
 }
 
@@ -71,9 +65,7 @@ fn year_of_text(text: &str) -> Result<i64>
 
 #[test]
 fn text_of_the_error(rt: HostRuntime) {
-    let printed = DateError.to_string(rt.alloc());
-    let printed = printed.expect(&rt, "there is memory");
-    holds_at(&rt, printed.as_str() == "not the text of a date", &"fmt");
+    is_written(&rt, rt.alloc(), &DateError, "not the text of a date");
 }
 
 #[test]

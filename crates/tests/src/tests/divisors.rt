@@ -1,11 +1,12 @@
 //! Greatest common divisors and least common multiples.
 
-use super::calls::Call::Gcd;
+use super::calls::Call;
+use super::calls::Call::{BezoutAndMultiple, Gcd, GcdLcm, Lcm};
 use super::ends::largest;
-use super::results::one;
+use super::results::{Numbers, one, result, two};
 use super::rows::{holds_at, returns, returns_of_two};
-use num_integer::{Fits, checked, gcd, gcd_lcm, lcm};
-use own_types::signed_magnitude::signed_magnitude_of;
+use num_integer::Fits;
+use own_types::signed_magnitude::{SignedMagnitude, signed_magnitude_of, to_i128};
 use own_types::types::{SIGNED, Type, UNSIGNED};
 use std::alloc::Global;
 use std::mem;
@@ -68,20 +69,47 @@ fn gcd_fits_for_each_pair_of_bytes(rt: HostRuntime) {
     }
 }
 
-/// Checks that `gcd_lcm` returns what `gcd` and `lcm` return.
-fn check_both_are_each(rt: &impl Abort, a: i32, b: i32) {
-    holds_at(rt, a.gcd_fits(&b), &("gcd_fits", a, b));
-    holds_at(rt, a.lcm_fits(&b), &("lcm_fits", a, b));
-    let both = gcd_lcm(a, b);
-    holds_at(rt, both == (gcd(a, b), lcm(a, b)), &("gcd_lcm", a, b));
-    holds_at(rt, checked::gcd_lcm(a, b) == Some(both), &("checked", a, b));
+/// The result of a call at `i32`.
+fn at_32_bits(rt: &impl Abort, alloc: Global, call: Call, operands: &[SignedMagnitude]) -> Numbers {
+    result(alloc, Type::I32, call, operands).expect(rt, "the result fits")
+}
+
+/// What `gcd` and `lcm` return.
+fn each(rt: &impl Abort, alloc: Global, operands: &[SignedMagnitude]) -> Numbers {
+    let [gcd, ..] = at_32_bits(rt, alloc, Gcd, operands);
+    let [lcm, ..] = at_32_bits(rt, alloc, Lcm, operands);
+    two(gcd, lcm)
 }
 
 #[test]
 fn test_gcd_lcm(rt: HostRuntime) {
     for a in -128..=255 {
         for b in -128..=255 {
-            check_both_are_each(&rt, a, b);
+            let operands = [signed_magnitude_of(a), signed_magnitude_of(b)];
+            let both = at_32_bits(&rt, rt.alloc(), GcdLcm, &operands);
+            let same = both == each(&rt, rt.alloc(), &operands);
+            holds_at(&rt, same, &("gcd_lcm", a, b));
+        }
+    }
+}
+
+/// The first operand times `x` and the second times `y`, added up in `i32`.
+fn combined_in_32_bits(a: i32, b: i32, x: SignedMagnitude, y: SignedMagnitude) -> Option<i32> {
+    let x = i32::try_from(to_i128(x)?).ok()?;
+    let y = i32::try_from(to_i128(y)?).ok()?;
+    a.checked_mul(x)?.checked_add(b.checked_mul(y)?)
+}
+
+#[test]
+fn test_extended_gcd_lcm(rt: HostRuntime) {
+    for a in -128..=127i32 {
+        for b in -128..=127i32 {
+            let operands = [signed_magnitude_of(a.into()), signed_magnitude_of(b.into())];
+            let [gcd, x, y, lcm] = at_32_bits(&rt, rt.alloc(), BezoutAndMultiple, &operands);
+            let same = two(gcd, lcm) == each(&rt, rt.alloc(), &operands);
+            let combined = combined_in_32_bits(a, b, x, y).expect(&rt, "the sum fits");
+            let is_pair = signed_magnitude_of(combined.into()) == gcd;
+            holds_at(&rt, same && is_pair, &("extended_gcd_lcm", a, b));
         }
     }
 }

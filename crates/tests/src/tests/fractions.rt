@@ -4,11 +4,9 @@ ghost use Rattle.std.specs.Prelude.{IfOk};
 ghost use Rattle.ratio64.specs.Fraction.{IsExact};
 ghost use Rattle.ratio64.specs.Ratio.{num_of, den_of};
 
-use super::rows::holds_at;
+use super::rows::{holds_at, is_written};
 use ratio64::RatioError::{NotFitting, ZeroDenominator};
 use ratio64::{ParseRatioError, Ratio, RatioError};
-use std::alloc::{AllocError, Global};
-use std::fmt::Display;
 use std::hash::{DefaultHasher, Hash, Hasher};
 use std::process::Abort;
 
@@ -156,11 +154,6 @@ fn answers_of_operations(rt: HostRuntime) {
     }
 }
 
-/// Returns `true` if the value is written so.
-fn is_written(value: &impl Display, text: &str, alloc: Global) -> Result<bool, AllocError> {
-    Ok(value.to_string(alloc)?.as_str() == text)
-}
-
 /// The parts of a fraction, and its string.
 static TEXTS: [(Parts, &str); 5] = [
     ((6, -4), "-3/2"),
@@ -174,8 +167,8 @@ static TEXTS: [(Parts, &str); 5] = [
 fn texts(rt: HostRuntime) {
     for &(given, text) in &TEXTS {
         let x = ratio(&rt, given);
-        let written = is_written(&x, text, rt.alloc());
-        holds_at(&rt, written == Ok(true) && text.parse() == Ok(x), &text);
+        is_written(&rt, rt.alloc(), &x, text);
+        holds_at(&rt, text.parse() == Ok(x), &text);
     }
 }
 
@@ -202,14 +195,11 @@ static PARSE_TEXTS: [(ParseRatioError, &str); 2] = [
 fn texts_of_errors(rt: HostRuntime) {
     for &(error, number, text) in &REFUSALS {
         holds_at(&rt, error.number() == number, &("number", error));
-        let written = is_written(&error, text, rt.alloc());
-        holds_at(&rt, written == Ok(true), &("fmt", error));
-        let written = is_written(&ParseRatioError::from(error), text, rt.alloc());
-        holds_at(&rt, written == Ok(true), &("from", error));
+        is_written(&rt, rt.alloc(), &error, text);
+        is_written(&rt, rt.alloc(), &ParseRatioError::from(error), text);
     }
     for &(error, text) in &PARSE_TEXTS {
-        let written = is_written(&error, text, rt.alloc());
-        holds_at(&rt, written == Ok(true), &("fmt", error));
+        is_written(&rt, rt.alloc(), &error, text);
     }
 }
 
@@ -227,14 +217,6 @@ fn quotient_of_texts(num: &str, den: &str) -> anyhow::Result<Ratio> {
     Ok(num.checked_div(&den)?)
 }
 
-/// Returns `true` if the quotient of two strings is an error with this string.
-fn is_refused(num: &str, den: &str, text: &str, alloc: Global) -> Result<bool, AllocError> {
-    match quotient_of_texts(num, den) {
-        Ok(_) => Ok(false),
-        Err(error) => is_written(&error, text, alloc),
-    }
-}
-
 #[test]
 fn errors_of_callers(rt: HostRuntime) {
     let are_fractions = fraction_of(6, -4).is_ok() && quotient_of_texts("6/-4", "3/2").is_ok();
@@ -243,7 +225,8 @@ fn errors_of_callers(rt: HostRuntime) {
         ("1/2", "0", "the denominator is 0"),
         ("1/2", "one", "the text is not a fraction"),
     ] {
-        let refused = is_refused(num, den, text, rt.alloc());
-        holds_at(&rt, refused == Ok(true), &(num, den));
+        let error = quotient_of_texts(num, den).err();
+        let error = error.expect(&rt, "the quotient is refused");
+        is_written(&rt, rt.alloc(), &error, text);
     }
 }

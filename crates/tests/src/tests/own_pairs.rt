@@ -5,7 +5,7 @@ use super::calls::Call;
 use super::ends::Ends;
 use super::results::{Numbers, result};
 use super::roots::{check_root, has_no_root};
-use super::rows::{returns, returns_as_tested};
+use super::rows::returns_as_tested;
 use own_types::signed_magnitude::{SignedMagnitude, signed_magnitude_of};
 use own_types::types::Type;
 use own_types::types::Type::{I64, Marked, OneBit, Percent, Small, TwoBits};
@@ -38,27 +38,30 @@ impl Ends {
 fn check_calls(
     rt: &impl Abort,
     alloc: Global,
+    calls: &str,
     (it, ends): (Type, Ends),
     operands: &[SignedMagnitude],
 ) {
-    for name in CALLS.split(' ') {
+    for name in calls.split(' ') {
         let call = Call::named(name).expect(rt, "the call has this name");
         let expected = ends.expected(alloc, call, operands);
         returns_as_tested(rt, alloc, (it, call), operands, expected);
     }
 }
 
-/// Checks the pairs of a first number and each number from the lower to the higher end.
-fn check_pairs(rt: &impl Abort, alloc: Global, (it, low, high): (Type, u8, u8), a: i128) {
+/// A type, the magnitude of its smallest number, and its largest number.
+type Ranged = (Type, u8, u8);
+
+/// Checks the calls on the pairs of a first number and each number from the lower to the higher end.
+fn check_pairs(rt: &impl Abort, alloc: Global, calls: &str, (it, low, high): Ranged, a: i128) {
     let ends = Ends(u128::from(low), u128::from(high));
     let a = signed_magnitude_of(a);
     for b in -i128::from(low)..=i128::from(high) {
-        check_calls(rt, alloc, (it, ends), &[a, signed_magnitude_of(b)]);
+        check_calls(rt, alloc, calls, (it, ends), &[a, signed_magnitude_of(b)]);
     }
 }
 
-/// The small types, the magnitude of the smallest number, and the largest number.
-static SMALL_TYPES: [(Type, u8, u8); 5] = [
+static SMALL_TYPES: [Ranged; 5] = [
     (Percent, 0, 100),
     (Small, 7, 7),
     (Type::Negated, 7, 7),
@@ -70,7 +73,7 @@ static SMALL_TYPES: [(Type, u8, u8); 5] = [
 fn pairs_of_small_types(rt: HostRuntime) {
     for &(it, low, high) in &SMALL_TYPES {
         for a in -i128::from(low)..=i128::from(high) {
-            check_pairs(&rt, rt.alloc(), (it, low, high), a);
+            check_pairs(&rt, rt.alloc(), CALLS, (it, low, high), a);
         }
     }
 }
@@ -81,26 +84,15 @@ static FIRST_NUMBERS: [i128; 15] = [-100, -99, -60, -50, -7, -2, -1, 0, 1, 2, 3,
 #[test]
 fn pairs_beside_a_byte(rt: HostRuntime) {
     for &a in &FIRST_NUMBERS {
-        check_pairs(&rt, rt.alloc(), (Marked, 100, 100), a);
+        check_pairs(&rt, rt.alloc(), CALLS, (Marked, 100, 100), a);
     }
 }
 
 #[test]
 fn pairs_with_a_multiple(rt: HostRuntime) {
     for (it, high) in [(Small, 7u8), (Type::Negated, 7), (Marked, 100)] {
-        let ends = Ends(u128::from(high), u128::from(high));
         for a in -i128::from(high)..=i128::from(high) {
-            for b in -i128::from(high)..=i128::from(high) {
-                let operands = [signed_magnitude_of(a), signed_magnitude_of(b)];
-                let expected = ends.expected(rt.alloc(), Call::BezoutAndMultiple, &operands);
-                returns(
-                    &rt,
-                    rt.alloc(),
-                    (it, Call::BezoutAndMultiple),
-                    &operands,
-                    expected,
-                );
-            }
+            check_pairs(&rt, rt.alloc(), "extended_gcd_lcm", (it, high, high), a);
         }
     }
 }

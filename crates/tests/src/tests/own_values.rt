@@ -66,22 +66,15 @@ fn bytes_tell_the_work(rt: HostRuntime) {
     let (pairs, iterations) = found.expect(&rt, "the pair fits");
     holds_at(&rt, iterations == 1, &iterations);
     for ExtendedGcd { gcd, x, y } in pairs {
+        let numbers = (gcd.number(), x.number(), y.number());
         let mark = gcd.mark().max(x.mark()).max(y.mark());
-        let numbers = (gcd.number(), x.number(), y.number(), mark);
-        holds_at(
-            &rt,
-            (gcd.number(), x.number(), y.number()) == (1, 1, -49) && mark <= 16,
-            &numbers,
-        );
+        holds_at(&rt, numbers == (1, 1, -49) && mark <= 16, &(numbers, mark));
     }
     let found = coefficients(Marked::new(100), Marked::new(99));
     let (coefficients, iterations) = found.expect(&rt, "the coefficient fits");
     holds_at(&rt, iterations == 1, &iterations);
     for it in coefficients {
-        holds_at(
-            &rt,
-            it.number() == 100 && it.mark() <= 16,
-            &(it.number(), it.mark()),
-        );
+        let (number, mark) = (it.number(), it.mark());
+        holds_at(&rt, number == 100 && mark <= 16, &(number, mark));
     }
 }

@@ -9,6 +9,7 @@ use super::rows::holds_at;
 use intcalc_core::number::read_number;
 use intcalc_core::run::{line_for, run};
 use intcalc_core::sink::{Console, Sink};
+use intcalc_core::words::read_words;
 use std::alloc::{AllocError, Global};
 use std::process::Abort;
 use tape::Tape;
@@ -24,9 +25,12 @@ fn status_of(line: &str) -> u8 {
     }
 }
 
-/// Returns `true` if the words give this line and its status, written at once, in two parts and byte by byte, and
-/// the sink has not failed.
+/// Returns `true` if the words give this line and its status, written at once, in two parts and byte by byte, the
+/// sink has not failed, and the line is `usage` exactly if the words ask for no call.
 pub(super) fn prints(alloc: Global, words: &[&str], line: &str) -> bool {
+    if read_words(words).is_none() != (line == "usage") {
+        return false;
+    }
     for most in [usize::MAX, line.len().div_ceil(2), 1] {
         let mut out = Console::new(Tape {
             text: Vec::new(alloc),
@@ -56,29 +60,21 @@ const NINES: &str = "99999999999999999999999999999999999999999999999999\
 const NEGATIVE_NINES: &str = "-99999999999999999999999999999999999999999999999999\
     99999999999999999999999999999999999999999999999999";
 
-/// Words that no row of text has, and their line.
-const LINES: [(&[&str], &str); 12] = [
-    (&[], "usage"),
-    (&["", "div_rem", "1", "2"], "usage"),
-    (&["i64", "div_rem", "1", ""], "usage"),
-    (&["i64", "div_rem", "1", "2 "], "usage"),
-    (&["i8", "gcd", "1", NINES], "refused 1 OutOfType"),
-    (&["u8", "gcd", "1", NINES], "refused 1 OutOfType"),
-    (&["i64", "gcd", "1", NINES], "refused 1 OutOfType"),
-    (&["u64", "gcd", "1", NINES], "refused 1 OutOfType"),
-    (&["i8", "div_rem", NINES, "1"], "refused 1 OutOfType"),
-    (&["u8", "div_rem", NINES, "1"], "refused 1 OutOfType"),
-    (&["i64", "div_rem", NINES, "1"], "refused 1 OutOfType"),
-    (&["u64", "div_rem", NINES, "1"], "refused 1 OutOfType"),
+/// Words that ask for no call: none, an empty word, and a word with a space.
+const NO_CALLS: [&[&str]; 4] = [
+    &[],
+    &["", "div_rem", "1", "2"],
+    &["i64", "div_rem", "1", ""],
+    &["i64", "div_rem", "1", "2 "],
 ];
 
-/// Words that ask for no call.
+/// Words that ask for no call, with a space between each two.
 static USAGE: &[&str] = &[
     "i64, i64 sqrt, i64 div_rem, i64 gcd 1, i64 div_rem 1, i64 nth_root 5, i64 binomial 5",
     "i64 sqrt 1 2, i64 gcd 1 2 3, i64 div_rem 1 2 3, i64 gcd 1 2 1 3, i64 multinomial 1 2",
     "i64 gcd +1 2, i64 div_rem +1 2, i64 div_rem - 2, i64 cbrt -, i64 div_rem 1 ٣, i64 gcd  2, i64  1 2",
     "i64 divides 1 2, i64 is_even 1, i64 extended_gcd_lcm 1 2, i64 div-rem 1 2, div_rem i64 1 2",
-    "i16 gcd 1 2, U8 gcd 1 2, i16 div_rem 1 2, I64 div_rem 1 2, i32 sqrt 4",
+    "i16 gcd 1 2, U8 gcd 1 2, I64 gcd 1 2, i16 div_rem 1 2, I64 div_rem 1 2, i32 sqrt 4",
     "i64 ratio_add 1 2 1, i64 ratio_mul 1 2 1, i64 ratio_add 1 2 1 3 4, i64 ratio_add 1 2 +1 3",
     "i64 ratio_sub 1 2 1 3, i64 ratio_div 1 2 1 3",
 ];
@@ -109,8 +105,14 @@ fn usage(rt: HostRuntime) {
 
 #[test]
 fn lines(rt: HostRuntime) {
-    for &(words, line) in &LINES {
-        holds_at(&rt, prints(rt.alloc(), words, line), &words);
+    for &words in &NO_CALLS {
+        holds_at(&rt, prints(rt.alloc(), words, "usage"), &words);
+    }
+    for kind in ["i8", "u8", "i64", "u64"] {
+        for words in [[kind, "gcd", "1", NINES], [kind, "div_rem", NINES, "1"]] {
+            let printed = prints(rt.alloc(), &words, "refused 1 OutOfType");
+            holds_at(&rt, printed, &words);
+        }
     }
     let (line, status) = line_for(&["i64", "div_mod_floor", "-8", "3"]);
     let found = (line.as_bytes(), status);

@@ -11,7 +11,7 @@ use super::results::{Numbers, operand, result, truth};
 use own_types::signed_magnitude::{SignedMagnitude, signed_magnitude_of};
 use own_types::types::{NATIVE, SIGNED, Type, UNSIGNED};
 use std::alloc::Global;
-use std::fmt::Debug;
+use std::fmt::{Debug, Display};
 use std::process::Abort;
 
 /// Asserts that the check holds, with a message that shows the row: the call and its operands. A message of
@@ -20,6 +20,13 @@ pub(crate) fn holds_at(rt: &impl Abort, holds: bool, row: &impl Debug)
     ensures { IsTrue holds }
 {
     assert!(rt; holds, "at {row:?}");
+}
+
+/// Asserts that the value is written so.
+pub(crate) fn is_written(rt: &impl Abort, alloc: Global, value: &impl Display, text: &str) {
+    let written = value.to_string(alloc).expect(rt, "memory is left");
+    let written = written.as_str();
+    holds_at(rt, written == text, &(written, text));
 }
 
 /// Asserts that the call returns these numbers at the type, or that the operands do not meet its precondition.

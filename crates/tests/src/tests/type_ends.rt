@@ -44,7 +44,7 @@ static NUMBER_CALLS: [(Call, &[usize]); 6] = [
 ];
 
 /// Two numbers, their sum, difference and product, and their averages.
-static SUMS: [([i128; 2], [i128; 5]); 18] = [
+static SUMS: [([i128; 2], [i128; 5]); 20] = [
     ([MIN, 0], [MIN, MIN, 0, -HALF - 1, -HALF - 1]),
     ([MIN, 1], [MIN + 1, OUT, MIN, -HALF - 1, -HALF]),
     ([MIN, -1], [OUT, MIN + 1, OUT, -HALF - 2, -HALF - 1]),
@@ -59,6 +59,8 @@ static SUMS: [([i128; 2], [i128; 5]); 18] = [
     ([MAX, 2], [OUT, MAX - 2, OUT, HALF + 1, HALF + 2]),
     ([MAX, MAX], [OUT, 0, OUT, MAX, MAX]),
     ([MAX, MAX - 1], [OUT, 1, OUT, MAX - 1, MAX]),
+    ([MAX - 3, MAX - 1], [OUT, -2, OUT, MAX - 2, MAX - 2]),
+    ([MAX - 3, MAX - 2], [OUT, -1, OUT, MAX - 3, MAX - 2]),
     ([0, MAX], [MAX, MIN + 1, 0, HALF, HALF + 1]),
     ([0, 0], [0, 0, 0, 0, 0]),
     ([0, 1], [1, -1, 0, 0, 1]),

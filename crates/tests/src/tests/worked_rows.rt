@@ -1,7 +1,6 @@
 //! Worked rows of each call, most of them with its results at the ends of a type.
 
 use super::rows::check_rows;
-use num_integer::Integer;
 
 // ---- division
 
@@ -48,15 +47,7 @@ static FLOORED: &[&str] = &[
     "signed/u8/u64 div_ceil: 8 3 = 3, 1 2 = 1",
     "signed div_ceil: 8 -3 or -8 3 = -2, -8 -3 = 3, 1 -2 or -1 2 = 0, -1 -2 = 1",
     "i8 div_ceil: -128 -1 = refused 6 NotFitting",
-];
-
-#[test]
-fn test_div_mod_floor(rt: HostRuntime) {
-    check_rows(&rt, rt.alloc(), FLOORED);
-}
-
-/// Only the smallest number by -1 has a quotient that is out of range.
-static QUOTIENTS_THAT_FIT: &[&str] = &[
+    // Only the smallest number by -1 has a quotient that is out of range.
     "i8 quotient_fits: -127 -1 = true, -128 -1 or -128 0 = false",
     "u8 quotient_fits: 255 255 = true, 0 0 = false",
     "i64 quotient_fits: -9223372036854775807 -1 = true, -9223372036854775808 -1 or -9223372036854775808 0 = false",
@@ -65,8 +56,8 @@ static QUOTIENTS_THAT_FIT: &[&str] = &[
 ];
 
 #[test]
-fn quotients_that_fit(rt: HostRuntime) {
-    check_rows(&rt, rt.alloc(), QUOTIENTS_THAT_FIT);
+fn test_div_mod_floor(rt: HostRuntime) {
+    check_rows(&rt, rt.alloc(), FLOORED);
 }
 
 // ---- multiples
@@ -86,9 +77,6 @@ static NEIGHBOURS: &[&str] = &[
     "signed prev_multiple_of: 16 -8 = 16, 23 -8 = 24, -16 8 or -16 -8 or -23 -8 = -16, -23 8 = -24",
     "u8 prev_multiple_of: 255 2 = 254, 1 -1 = refused 1 OutOfType",
     "i64 prev_multiple_of: 0 0 = refused 2 ZeroDivisor",
-];
-
-static MULTIPLES_IN_RANGE: &[&str] = &[
     "i8 next_multiple_fits: 120 8 or -128 -1 or -126 -3 = true, 127 8 or -128 -3 or -127 -3 = false",
     "u8 next_multiple_fits: 255 5 = true, 255 2 or 0 0 = false",
     "percent next_multiple_fits: 97 10 = true, 100 3 = false",
@@ -101,7 +89,6 @@ static MULTIPLES_IN_RANGE: &[&str] = &[
 #[test]
 fn multiples_on_both_sides(rt: HostRuntime) {
     check_rows(&rt, rt.alloc(), NEIGHBOURS);
-    check_rows(&rt, rt.alloc(), MULTIPLES_IN_RANGE);
 }
 
 static ARE_MULTIPLES: &[&str] = &[
@@ -191,24 +178,6 @@ fn test_lcm_overflow(rt: HostRuntime) {
     check_rows(&rt, rt.alloc(), MULTIPLES_THAT_FIT);
 }
 
-/// Divisors and their iterations. The smallest number makes no iteration with another.
-static ITERATIONS_OF_DIVISORS: &[&str] = &[
-    "u64 gcd_counted: 0 0 = 0 0, 5 3 or 3 5 = 1 2, 18446744073709551615 1 = 1 63",
-    "u128 gcd_counted: 18446744073709551617 18446744073709551617 = 18446744073709551617 0",
-    "u128 gcd_counted: 55340232221128654851 18446744073709551617 = 18446744073709551617 1",
-    "u128 gcd_counted: 92233720368547758085 55340232221128654851 = 18446744073709551617 2",
-    "u128 gcd_counted: 340282366920938463463374607431768211455 1 = 1 127",
-    "u8 gcd_counted: 128 42 = 2 2",
-    "i64 gcd_counted: 56 42 or -56 42 = 14 1, 48 -48 = 48 0, -9223372036854775808 3 or 3 -9223372036854775808 = 1 0",
-    "i8 gcd_counted: -128 42 = 2 0, -128 -64 = 64 0",
-    "i128 gcd_counted: -170141183460469231731687303715884105728 170141183460469231731687303715884105727 = 1 0",
-];
-
-#[test]
-fn iterations_of_divisors(rt: HostRuntime) {
-    check_rows(&rt, rt.alloc(), ITERATIONS_OF_DIVISORS);
-}
-
 // ---- Bezout pairs
 
 static PAIRS: &[&str] = &[
@@ -223,28 +192,9 @@ static PAIRS: &[&str] = &[
     "small extended_gcd_lcm: -6 3 = 3 0 1 6",
 ];
 
-/// The pairs and their iterations.
-static ITERATIONS_OF_PAIRS: &[&str] = &[
-    "i64 extended_gcd_counted: 240 46 = 2 -9 47 4, 46 240 = 2 47 -9 5, 8 13 = 1 5 -3 5, 5 0 = 5 1 0 0",
-    "i64 extended_gcd_counted: -5 0 = 5 -1 0 0, 0 -5 = 5 0 -1 0, 0 -9223372036854775808 = refused",
-    "i8/i64 extended_gcd_counted: 10 4 = 2 1 -2 1",
-    "i64/small extended_gcd_counted: -6 4 = 2 -1 -1 1",
-    "i64/u64/one_bit extended_gcd_counted: 0 0 = 0 1 0 0",
-    "isize extended_gcd_counted: 8 9 = 1 -1 1 2",
-    "i8 extended_gcd_counted: -128 127 = 1 -1 -1 1, -128 1 = 1 0 1 0, -128 0 or -128 -128 = refused",
-    "i128 extended_gcd_counted: -170141183460469231731687303715884105728 170141183460469231731687303715884105727 = 1 -1 -1 1",
-    "u8/u64 extended_gcd_counted: 4 12 = 4 1 0 1",
-    "u64 extended_gcd_counted: 0 7 = 7 0 1 0, 12 4 = 4 0 1 0, 7 0 = 7 1 0 0",
-    "u8 extended_gcd_counted: 10 4 or 4 10 = refused",
-    "percent extended_gcd_counted: 20 100 = 20 1 0 1",
-    "small/negated extended_gcd_counted: 7 5 = 1 -2 3 2",
-    "one_bit extended_gcd_counted: 1 1 or 0 1 = 1 0 1 0, 1 0 = 1 1 0 0",
-];
-
 #[test]
-fn pairs_and_their_iterations(rt: HostRuntime) {
+fn pairs(rt: HostRuntime) {
     check_rows(&rt, rt.alloc(), PAIRS);
-    check_rows(&rt, rt.alloc(), ITERATIONS_OF_PAIRS);
 }
 
 // ---- averages
@@ -315,8 +265,38 @@ static ROOTS: &[&str] = &[
     "u32 nth_root: 4294967295 31 = 2, 4294967295 32 = 1",
 ];
 
-/// Square roots and their iterations.
-static ITERATIONS_OF_ROOTS: &[&str] = &[
+#[test]
+fn roots(rt: HostRuntime) {
+    check_rows(&rt, rt.alloc(), ROOTS);
+}
+
+// ---- results and their iterations
+
+static ITERATIONS: &[&str] = &[
+    // The smallest number makes no iteration with another.
+    "u64 gcd_counted: 0 0 = 0 0, 5 3 or 3 5 = 1 2, 18446744073709551615 1 = 1 63",
+    "u128 gcd_counted: 18446744073709551617 18446744073709551617 = 18446744073709551617 0",
+    "u128 gcd_counted: 55340232221128654851 18446744073709551617 = 18446744073709551617 1",
+    "u128 gcd_counted: 92233720368547758085 55340232221128654851 = 18446744073709551617 2",
+    "u128 gcd_counted: 340282366920938463463374607431768211455 1 = 1 127",
+    "u8 gcd_counted: 128 42 = 2 2",
+    "i64 gcd_counted: 56 42 or -56 42 = 14 1, 48 -48 = 48 0, -9223372036854775808 3 or 3 -9223372036854775808 = 1 0",
+    "i8 gcd_counted: -128 42 = 2 0, -128 -64 = 64 0",
+    "i128 gcd_counted: -170141183460469231731687303715884105728 170141183460469231731687303715884105727 = 1 0",
+    "i64 extended_gcd_counted: 240 46 = 2 -9 47 4, 46 240 = 2 47 -9 5, 8 13 = 1 5 -3 5, 5 0 = 5 1 0 0",
+    "i64 extended_gcd_counted: -5 0 = 5 -1 0 0, 0 -5 = 5 0 -1 0, 0 -9223372036854775808 = refused",
+    "i8/i64 extended_gcd_counted: 10 4 = 2 1 -2 1",
+    "i64/small extended_gcd_counted: -6 4 = 2 -1 -1 1",
+    "i64/u64/one_bit extended_gcd_counted: 0 0 = 0 1 0 0",
+    "isize extended_gcd_counted: 8 9 = 1 -1 1 2",
+    "i8 extended_gcd_counted: -128 127 = 1 -1 -1 1, -128 1 = 1 0 1 0, -128 0 or -128 -128 = refused",
+    "i128 extended_gcd_counted: -170141183460469231731687303715884105728 170141183460469231731687303715884105727 = 1 -1 -1 1",
+    "u8/u64 extended_gcd_counted: 4 12 = 4 1 0 1",
+    "u64 extended_gcd_counted: 0 7 = 7 0 1 0, 12 4 = 4 0 1 0, 7 0 = 7 1 0 0",
+    "u8 extended_gcd_counted: 10 4 or 4 10 = refused",
+    "percent extended_gcd_counted: 20 100 = 20 1 0 1",
+    "small/negated extended_gcd_counted: 7 5 = 1 -2 3 2",
+    "one_bit extended_gcd_counted: 1 1 or 0 1 = 1 0 1 0, 1 0 = 1 1 0 0",
     "u64/usize sqrt_counted: 18446744073709551615 = 4294967295 1",
     "u64 sqrt_counted: 18446744065119617025 = 4294967295 1, 18446744065119617024 = 4294967294 2, 99 = 9 2, 16 = 4 0",
     "u64 sqrt_counted: 8 = 2 2, 3 = 1 0",
@@ -334,9 +314,8 @@ static ITERATIONS_OF_ROOTS: &[&str] = &[
 ];
 
 #[test]
-fn worked_roots(rt: HostRuntime) {
-    check_rows(&rt, rt.alloc(), ROOTS);
-    check_rows(&rt, rt.alloc(), ITERATIONS_OF_ROOTS);
+fn iterations(rt: HostRuntime) {
+    check_rows(&rt, rt.alloc(), ITERATIONS);
 }
 
 // ---- coefficients, multinomials and rows
@@ -361,6 +340,13 @@ static BINOMIALS: &[&str] = &[
     "u8 binomial_counted: 9 4 = 126 4, 200 199 = 200 1, 3 4 = 0 0",
     "u8 binomial_fits: 10 5 or 11 3 or 255 1 or 255 254 or 0 255 = true, 11 4 or 11 5 or 255 2 = false",
     "i8 binomial_fits: 9 4 or 10 3 = true, 10 5 or -1 0 or 3 -1 = false",
+    // The largest coefficient of a row is in its middle. It fits for the largest row, and not for the next.
+    "u16 binomial_fits: 18 9 = true, 19 9 = false",
+    "i16 binomial_fits: 17 8 = true, 18 9 = false",
+    "u32 binomial_fits: 34 17 = true, 35 17 = false",
+    "i32 binomial_fits: 33 16 = true, 34 17 = false",
+    "u64 binomial_fits: 67 33 = true, 68 34 = false",
+    "i64 binomial_fits: 66 33 = true, 67 33 = false",
     "percent binomial_fits: 8 4 or 100 99 = true, 9 4 = false",
     "small binomial_fits: 4 2 or 7 1 = true, 5 2 = false",
     "two_bits binomial_fits: 3 1 = true",
@@ -413,25 +399,12 @@ static ROWS: &[&str] = &[
     "i8/i16/i32/i64/u8/u16/u32/u64 has_row: 3 1 3 3 1 = true",
 ];
 
-/// The largest coefficient of a row is in its middle: that of the largest row fits, and that of the next row does not.
-static MIDDLES: &[&str] = &[
-    "u8 binomial_fits: 10 5 = true, 11 5 = false",
-    "i8 binomial_fits: 9 4 = true, 10 5 = false",
-    "u16 binomial_fits: 18 9 = true, 19 9 = false",
-    "i16 binomial_fits: 17 8 = true, 18 9 = false",
-    "u32 binomial_fits: 34 17 = true, 35 17 = false",
-    "i32 binomial_fits: 33 16 = true, 34 17 = false",
-    "u64 binomial_fits: 67 33 = true, 68 34 = false",
-    "i64 binomial_fits: 66 33 = true, 67 33 = false",
-];
-
 #[test]
-fn rows_and_their_middles(rt: HostRuntime) {
+fn rows(rt: HostRuntime) {
     check_rows(&rt, rt.alloc(), ROWS);
-    check_rows(&rt, rt.alloc(), MIDDLES);
 }
 
-// ---- parity, and one more or less
+// ---- parity
 
 static EVEN: &[&str] = &[
     "i8 is_even: -128 = true",
@@ -454,25 +427,10 @@ fn test_odd(rt: HostRuntime) {
     check_rows(&rt, rt.alloc(), ODD);
 }
 
-static ONE_MORE_OR_LESS: &[&str] = &[
-    "i8 inc: 126 = 127, 127 = refused",
-    "i8 dec: -127 = -128, -128 = refused",
-    "u8 dec: 0 = refused",
-];
+// ---- the ends of the types, signs and magnitudes, one more or less, sums and products
 
-#[test]
-fn one_more_or_less(rt: HostRuntime) {
-    check_rows(&rt, rt.alloc(), ONE_MORE_OR_LESS);
-    let (mut up, mut down) = (41, 43);
-    up.inc();
-    down.dec();
-    assert!(rt; (up, down) == (42, 42));
-}
-
-// ---- the ends of the types, signs and magnitudes, sums and products
-
-/// The magnitude of the smallest number, and the largest number.
-static ENDS: &[&str] = &[
+static ENDS_AND_SUMS: &[&str] = &[
+    // The magnitude of the smallest number, and the largest number.
     "i8 ends: [] = 128 127",
     "u8 ends: [] = 0 255",
     "i64/isize ends: [] = 9223372036854775808 9223372036854775807",
@@ -493,14 +451,11 @@ static ENDS: &[&str] = &[
     "u8 fits: 256 = false",
     "i8 parts: -128 = -128, 0 = 0",
     "small/negated parts: -7 = -7",
-];
-
-#[test]
-fn ends(rt: HostRuntime) {
-    check_rows(&rt, rt.alloc(), ENDS);
-}
-
-static SUMS: &[&str] = &[
+    "i32 inc: 41 = 42",
+    "i8 inc: 126 = 127, 127 = refused",
+    "i32 dec: 43 = 42",
+    "i8 dec: -127 = -128, -128 = refused",
+    "u8 dec: 0 = refused",
     "i8 sum: -128 -1 = refused, -128 127 = -1",
     "u8 sum: 255 1 = refused, 254 1 = 255",
     "i8 difference: 0 -128 = refused, -1 -128 = 127",
@@ -512,13 +467,12 @@ static SUMS: &[&str] = &[
 ];
 
 #[test]
-fn sums_and_products(rt: HostRuntime) {
-    check_rows(&rt, rt.alloc(), SUMS);
+fn ends_and_sums(rt: HostRuntime) {
+    check_rows(&rt, rt.alloc(), ENDS_AND_SUMS);
 }
 
 // ---- sums and products of fractions
 
-/// Sums and products of fractions.
 static FRACTIONS: &[&str] = &[
     "i64 ratio_add: 1 2 1 3 = 5 6, 1 6 1 3 or 0 -9223372036854775808 1 2 = 1 2",
     "i64 ratio_add: 2 4 -1 -2 or -9223372036854775808 -9223372036854775808 0 5 = 1 1, 1 -2 1 3 = -1 6",
