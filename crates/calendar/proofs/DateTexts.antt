@@ -75,12 +75,6 @@ made_date (Some x) date h year month day = ap (λ (d : Date). Some d) (of_parts 
 pub no_date : {o : Option Date} {date : Date} {text : List ℕ} → o ≡ None → text ≢ text_of date → (o ≡ Some date) ↔ (text ≡ text_of date)
 no_date none other = (λ e. absurd cc, λ e. absurd (other e))
 
-pub not_both : {A : Type 0} {o : Option A} {x : A} → o ≡ None → o ≢ Some x
-not_both none some = cc
-
-pub same_some : {A : Type 0} {o : Option A} {x y : A} → o ≡ Some x → o ≡ Some y → x ≡ y
-same_some first second = cc
-
 -- ---- printing
 
 pub zero_padded : (places n : ℕ) → padded_integral (format_spec 32 0 4 places 18446744073709551615) false [] (decimal n) ≡ padded places n

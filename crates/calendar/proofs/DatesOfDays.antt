@@ -2,7 +2,7 @@
 use Rattle.calendar.proofs.Common.{◌≡◌, ◌+◌, ◌*◌, ◌/◌, ◌<◌, ◌≤◌, ◌+ℤ◌, ◌-ℤ◌, ℕ, zero, suc, ℤ, pos, negsuc, unsigned_abs, FitsSigned, MatchOption, Option, Some, None, w64, ◌∙◌, ap, arith, inl, inr, le_refl, refl, subst, sym, cases_lt, ints, IfSome, IsSome, Date, Thursday, number_of, DateExists, IsoWeekExists, YearOfDayExists, days_in_month, HasDay, day_number, first_day}
 use Rattle.calendar.proofs.DateOrder.{last_of_year, next_month, next_year, year_day_range}
 use Rattle.calendar.proofs.LaterEras.{later, number_later}
-use Rattle.calendar.proofs.MonthLengths.{month_length_range}
+use Rattle.calendar.proofs.MonthLengths.{date_of, month_length_range}
 use Rattle.calendar.proofs.WeekdayPlaces.{weekday_within}
 use Rattle.calendar.proofs.YearLengths.{next_first_day}
 
@@ -12,24 +12,12 @@ use Rattle.calendar.proofs.YearLengths.{next_first_day}
 month_begins : (year : ℤ) (month : ℕ) → 1 ≤ month → month ≤ 12 → (date : Date) × (number_of date ≡ day_number year month 1)
 month_begins year month from to =
     let (least, most) = month_length_range year month from to in
-    let date : Date = record {
-      year = year;
-      month = month;
-      day_of_month = 1;
-      valid = record { month_from_one = from; month_to_twelve = to; day_from_one = le_refl 1; day_to_last = omega arith };
-    } in
-    (date, refl)
+    (date_of year month 1 from to (le_refl 1) (omega arith), refl)
 
 -- a day later in the same month is a date
 same_month_later : (date : Date) → date.day_of_month < days_in_month date.year date.month → (next : Date) × (number_of next ≡ number_of date +ℤ pos 1)
 same_month_later date before =
-    let next : Date = record {
-      year = date.year;
-      month = date.month;
-      day_of_month = date.day_of_month + 1;
-      valid = record { month_from_one = date.valid.month_from_one; month_to_twelve = date.valid.month_to_twelve; day_from_one = omega arith; day_to_last = omega arith };
-    } in
-    (next, omega (arith, ints))
+    (date_of date.year date.month (date.day_of_month + 1) date.valid.month_from_one date.valid.month_to_twelve (omega arith) (omega arith), omega (arith, ints))
 
 -- after 31 December comes 1 January
 next_january : (date : Date) → 12 ≤ date.month → days_in_month date.year date.month ≤ date.day_of_month → day_number (date.year +ℤ pos 1) 1 1 ≡ number_of date +ℤ pos 1

@@ -1,7 +1,7 @@
 -- The weeks of ISO 8601.
-use Rattle.calendar.proofs.Common.{◌≡◌, ◌+◌, ◌-◌, ◌/◌, ◌%◌, ◌<◌, ◌≤◌, ◌≤ℤ◌, ◌<ℤ◌, ◌+ℤ◌, ◌-ℤ◌, ◌*ℤ◌, ℕ, ℤ, pos, negsuc, FitsSigned, MatchOption, Option, Some, None, w64, ap, arith, inl, inr, refl, subst, sym, cases_lt, ints, floored_by_range, floored_remainder_range, linear, IsFloored, IsRemainder, ∥∥₁_elim, ∥∥₁_prop, props, is_prop→PathP, Date, number_of, HasIsoWeek, HasIsoWeeks, IsDayOfIsoWeek, IsInIsoWeek, IsThursdayOfWeek, IsoDayExists, IsoDayIsOnly, IsoWeekIsOnly, IsoWeekOfNumbersIsOnly, IsoWeeksAreOnly, OrderOfIsoWeeks, WeeksOfAYear, YearOfDayIsOnly, HasDay, days_in_year, first_day, weekday_number, HasWeekday, Weekday, Monday, Thursday}
+use Rattle.calendar.proofs.Common.{◌≡◌, ◌+◌, ◌-◌, ◌*◌, ◌/◌, ◌%◌, ◌<◌, ◌≤◌, ◌≤ℤ◌, ◌<ℤ◌, ◌+ℤ◌, ◌-ℤ◌, ◌*ℤ◌, ℕ, ℤ, pos, FitsSigned, MatchOption, Option, Some, None, w64, ap, arith, inl, inr, refl, subst, sym, cases_lt, ints, floored_by_range, floored_remainder_range, linear, IsFloored, IsRemainder, ∥∥₁_elim, ∥∥₁_prop, props, is_prop→PathP, Date, number_of, HasIsoWeek, HasIsoWeeks, IsDayOfIsoWeek, IsInIsoWeek, IsThursdayOfWeek, IsoDayExists, IsoDayIsOnly, IsoWeekIsOnly, IsoWeekOfNumbersIsOnly, IsoWeeksAreOnly, OrderOfIsoWeeks, WeeksOfAYear, YearOfDayIsOnly, HasDay, days_in_year, first_day, weekday_number, HasWeekday, Weekday, Monday, Thursday}
 use Rattle.calendar.proofs.DateOrder.{year_day_range}
-use Rattle.calendar.proofs.WeekdayPlaces.{below_seven, days_earlier, days_later, on_weekday, same_day, weekday_within, weeks_apart}
+use Rattle.calendar.proofs.WeekdayPlaces.{below_seven, days_earlier, days_later, on_weekday, same_day, weekday_within}
 use Rattle.calendar.proofs.YearLengths.{later_year, length_range, next_first_day}
 
 -- ---- Thursdays
@@ -32,7 +32,7 @@ days_to_thursday date era days n january place first is =
     let same : number_of date +ℤ pos 3 -ℤ pos ((n + 1) % 7) ≡ first_day date.year +ℤ days = omega (arith, ints, place, first, is) in
     (rw same at (of_week {day = number_of date} (since_monday era n place)), omega (arith, ints, place, first, is, from), omega (arith, ints, place, first, is, to, length.1))
 
-pub to_thursday : {first : ℤ} (era : ℤ) (n : ℕ) → first ≡ pos 146097 *ℤ era +ℤ pos n -ℤ pos 865565 → IsRemainder IsFloored (pos 0 -ℤ first) (pos 7) (pos 6 -ℤ pos ((n + 5) % 7))
+pub to_thursday : {first : ℤ} (era : ℤ) (n : ℕ) → first ≡ pos 146097 *ℤ era +ℤ pos n -ℤ pos 865565 → IsRemainder IsFloored (pos 0 -ℤ first) (pos 7) (pos (6 - (n + 5) % 7))
 to_thursday era n place = record { quotient = pos 123652 -ℤ pos 20871 *ℤ era -ℤ pos ((n + 5) / 7); division = floored_by_range (omega (arith, ints)) (omega (arith, ints)) (omega (arith, ints)) }
 
 -- ---- years
@@ -98,41 +98,21 @@ ordered_weeks a b y z v w h k less =
     ] in
     grind (arith, linear, h.of_week.from, k.of_week.to, same_day Thursday h.of_week.has_weekday k.of_week.has_weekday)
 
--- a day of the week after a Thursday's Monday
-pub weekday_after : (weekday : Weekday) {day : ℤ} → HasWeekday day Thursday → HasWeekday (day -ℤ pos 3 +ℤ pos ((weekday_number weekday + 6) % 7)) weekday
-weekday_after weekday h = days_later ((weekday_number weekday + 6) % 7) (days_earlier {b = Monday} 3 h refl) (omega (arith, below_seven weekday))
-
--- the day of the week whose Thursday is `place` days after 1 January
-pub day_of_week : {year place : ℤ} {week : ℕ} (weekday : Weekday) → HasWeekday (first_day year +ℤ place) Thursday → (pos 7 *ℤ (pos week -ℤ pos 1)) ≤ℤ place → place <ℤ (pos 7 *ℤ pos week) → pos 0 ≤ℤ place → place <ℤ pos (days_in_year year)
-    → IsDayOfIsoWeek (first_day year +ℤ place -ℤ pos 3 +ℤ pos ((weekday_number weekday + 6) % 7)) year week weekday
-day_of_week {year} {place} weekday h from before inside below = record {
+-- each day of the week of another day
+pub day_of_week : {day year : ℤ} {week : ℕ} (weekday : Weekday) (h : IsInIsoWeek day year week) → IsDayOfIsoWeek (h.thursday -ℤ pos 3 +ℤ pos ((weekday_number weekday + 6) % 7)) year week weekday
+day_of_week weekday h = record {
   in_week = record {
-    thursday = first_day year +ℤ place;
-    of_week = record { has_weekday = h; from = omega (arith, ints); to = omega (arith, ints) };
-    of_year = record { from = omega (arith, ints); before = omega (arith, ints, next_first_day year) };
-    from = omega (arith, ints);
-    before = omega (arith, ints);
+    thursday = h.thursday;
+    of_week = record { has_weekday = h.of_week.has_weekday; from = omega (arith, ints); to = omega (arith, ints) };
+    of_year = h.of_year;
+    from = h.from;
+    before = h.before;
   };
-  has_weekday = weekday_after weekday h;
+  has_weekday = days_later ((weekday_number weekday + 6) % 7) (days_earlier {b = Monday} 3 h.of_week.has_weekday refl) (omega (arith, below_seven weekday));
 }
 
--- a week has each day of the week
 pub iso_day_exists : IsoDayExists
-iso_day_exists year week weekday h =
-    let k = h.in_week in
-    let (days, small, own) = weekday_within (k.thursday -ℤ pos 3) weekday in (
-      _,
-      record {
-        in_week = record {
-          thursday = k.thursday;
-          of_week = record { has_weekday = k.of_week.has_weekday; from = omega (arith, ints); to = omega (arith, ints) };
-          of_year = k.of_year;
-          from = k.from;
-          before = k.before;
-        };
-        has_weekday = own;
-      },
-    )
+iso_day_exists year week weekday h = (_, day_of_week weekday h.in_week)
 
 -- of which there is only one
 pub one_day : IsoDayIsOnly
@@ -142,46 +122,62 @@ one_day a b year week weekday h k =
     let thursday = same_day Thursday first.of_week.has_weekday second.of_week.has_weekday (omega (arith, ints, first.from, first.before, second.from, second.before)) (omega (arith, ints, first.from, first.before, second.from, second.before)) in
     same_day weekday h.has_weekday k.has_weekday (omega (arith, ints, thursday, first.of_week.to, second.of_week.from)) (omega (arith, ints, thursday, first.of_week.from, second.of_week.to))
 
-pub day_or_none : (o : Option Date) {day year : ℤ} {week : ℕ} (weekday : Weekday) → IsDayOfIsoWeek day year week weekday → MatchOption o ((y : ℤ) → HasDay y day → ¬ (FitsSigned w64 y)) (λ date. number_of date ≡ day)
+-- a day of the week by the days to the Thursday, and its date
+by_thursday : {year days : ℤ} {week : ℕ} (place : ℕ) (weekday : Weekday) → IsDayOfIsoWeek (first_day year +ℤ pos place) year week Thursday → days ≡ pos place -ℤ pos 3 +ℤ pos ((weekday_number weekday + 6) % 7) → IsDayOfIsoWeek (first_day year +ℤ days) year week weekday
+by_thursday {year} {days} place weekday h is =
+    let thursday = same_day Thursday h.in_week.of_week.has_weekday h.has_weekday (omega (arith, ints, h.in_week.of_week.to)) (omega (arith, ints, h.in_week.of_week.from)) in
+    let same : h.in_week.thursday -ℤ pos 3 +ℤ pos ((weekday_number weekday + 6) % 7) ≡ first_day year +ℤ days = omega (arith, ints, thursday) in
+    rw same at (day_of_week weekday h.in_week)
+
+pub day_or_none : (o : Option Date) {year days : ℤ} {week : ℕ} (place : ℕ) (weekday : Weekday) → IsDayOfIsoWeek (first_day year +ℤ pos place) year week Thursday → days ≡ pos place -ℤ pos 3 +ℤ pos ((weekday_number weekday + 6) % 7)
+    → MatchOption o ((y : ℤ) → HasDay y (first_day year +ℤ days) → ¬ (FitsSigned w64 y)) (λ date. number_of date ≡ first_day year +ℤ days)
     → MatchOption o ((d y : ℤ) → IsDayOfIsoWeek d year week weekday → HasDay y d → ¬ (FitsSigned w64 y)) (λ date. IsDayOfIsoWeek (number_of date) year week weekday)
-day_or_none None weekday own beyond = λ d y k h fits. beyond y (subst (λ (t : ℤ). HasDay y t) (one_day _ _ _ _ weekday k own) h) fits
-day_or_none (Some date) {year = year} {week = week} weekday own near = subst (λ (t : ℤ). IsDayOfIsoWeek t year week weekday) (sym near) own
+day_or_none None place weekday h is beyond = λ d y k l fits. beyond y (subst (λ (t : ℤ). HasDay y t) (one_day _ _ _ _ weekday k (by_thursday place weekday h is)) l) fits
+day_or_none (Some date) {year = year} {week = week} place weekday h is near = subst (λ (t : ℤ). IsDayOfIsoWeek t year week weekday) (sym near) (by_thursday place weekday h is)
 
--- a Thursday in the year has a week of the year
-pub has_week : {year place : ℤ} {week : ℕ} → HasWeekday (first_day year +ℤ place) Thursday → (pos 7 *ℤ (pos week -ℤ pos 1)) ≤ℤ place → place <ℤ (pos 7 *ℤ pos week) → (pos 0 ≤ℤ place) × (place <ℤ pos (days_in_year year)) → HasIsoWeek year week
-has_week h from before inside = record { day = _; in_week = (day_of_week Thursday h from before inside.0 inside.1).in_week }
+-- the Thursdays of a year, from the first on
+pub later_thursday : (year : ℤ) {first : ℕ} (weeks : ℕ) → IsRemainder IsFloored (pos 0 -ℤ first_day year) (pos 7) (pos first) → HasWeekday (first_day year +ℤ pos (first + 7 * weeks)) Thursday
+later_thursday year weeks h = is_thursday (pos weeks -ℤ h.quotient) (omega (arith, ints, h.division.division.equation))
 
--- a Thursday outside the year has no week of the year
-pub no_day : {day year place : ℤ} {week : ℕ} → HasWeekday (first_day year +ℤ place) Thursday → (pos 7 *ℤ (pos week -ℤ pos 1)) ≤ℤ place → place <ℤ (pos 7 *ℤ pos week) → IsInIsoWeek day year week → (pos 0 ≤ℤ place) × (place <ℤ pos (days_in_year year))
-no_day {year = year} own from before h =
+-- the Thursday of a week, if it is in the year
+pub thursday_in_year : {year : ℤ} {week : ℕ} (place : ℕ) → HasWeekday (first_day year +ℤ pos place) Thursday → 7 * week ≤ place + 7 → place < 7 * week → place < days_in_year year → IsDayOfIsoWeek (first_day year +ℤ pos place) year week Thursday
+thursday_in_year {year} place h from before inside = record {
+  in_week = record {
+    thursday = first_day year +ℤ pos place;
+    of_week = record { has_weekday = h; from = omega (arith, ints); to = omega (arith, ints) };
+    of_year = record { from = omega (arith, ints); before = omega (arith, ints, next_first_day year) };
+    from = omega (arith, ints);
+    before = omega (arith, ints);
+  };
+  has_weekday = h;
+}
+
+-- and if some day is in the week, it is
+pub within_year : {day year : ℤ} {week : ℕ} (place : ℕ) → HasWeekday (first_day year +ℤ pos place) Thursday → 7 * week ≤ place + 7 → place < 7 * week → IsInIsoWeek day year week → place < days_in_year year
+within_year {year = year} place own from before h =
     let same = same_day Thursday h.of_week.has_weekday own (omega (arith, ints, h.from, h.before)) (omega (arith, ints, h.from, h.before)) in
-    (omega (arith, ints, h.of_year.from), omega (arith, ints, h.of_year.before, next_first_day year))
-
--- the days to the Thursday of a week fit
-pub place_fits : {place : ℤ} (week : ℕ) → week < 256 → (pos 7 *ℤ (pos week -ℤ pos 1)) ≤ℤ place → place <ℤ (pos 7 *ℤ pos week) → FitsSigned w64 place
-place_fits week small from before = omega (arith, ints)
+    omega (arith, ints, h.of_year.before, next_first_day year)
 
 -- ---- the number of weeks of a year
 
--- 53, if the 53rd Thursday is in the year, and else 52
-pub has_53_weeks : {year place : ℤ} → HasWeekday (first_day year +ℤ place) Thursday → pos 364 ≤ℤ place → place <ℤ pos 371 → place <ℤ pos (days_in_year year) → HasIsoWeeks year 53
-has_53_weeks {year = year} h from before below = record {
-  day = _;
-  in_last = (day_of_week Thursday h from before (omega (arith, ints)) below).in_week;
-  no_later = λ other week k. (week_range other year week k).1;
-}
+-- 53, if the year has a week 53, and else 52
+pub has_53_weeks : {year : ℤ} → HasIsoWeek year 53 → HasIsoWeeks year 53
+has_53_weeks {year} h = record { day = h.day; in_last = h.in_week; no_later = λ other week k. (week_range other year week k).1 }
 
-pub has_52_weeks : {year place : ℤ} → HasWeekday (first_day year +ℤ place) Thursday → pos 364 ≤ℤ place → place <ℤ pos 371 → ¬ ((pos 0 ≤ℤ place) × (place <ℤ pos (days_in_year year))) → HasIsoWeeks year 52
-has_52_weeks {year} {place} h from before none = record {
-  day = _;
-  in_last = (day_of_week {place = place -ℤ pos 7} Thursday (weeks_apart (negsuc 0) (omega (arith, ints)) h) (omega (arith, ints)) (omega (arith, ints)) (omega (arith, ints)) (omega (arith, ints, length_range year))).in_week;
-  no_later = λ other week k. elim (cases_lt week 53) [
-    | inl small ↦ omega arith
-    | inr last ↦
-        let number : week ≡ 53 = omega (arith, week_range other year week k) in
-        absurd (none (no_day h from before (rw number at k)))
-  ];
-}
+pub has_52_weeks : {year : ℤ} → ¬ (HasIsoWeek year 53) → HasIsoWeeks year 52
+has_52_weeks {year} none =
+    let (days, small, h) = weekday_within (first_day year +ℤ pos 357) Thursday in
+    let place : first_day year +ℤ pos 357 +ℤ pos days ≡ first_day year +ℤ pos (357 + days) = omega (arith, ints) in
+    record {
+      day = _;
+      in_last = (thursday_in_year {week = 52} (357 + days) (rw place at h) (omega arith) (omega arith) (omega (arith, length_range year))).in_week;
+      no_later = λ other week k. elim (cases_lt week 53) [
+        | inl small ↦ omega arith
+        | inr last ↦
+            let number : week ≡ 53 = omega (arith, week_range other year week k) in
+            absurd (none (record { day = other; in_week = rw number at k }))
+      ];
+    }
 
 -- of which there is only one
 pub one_number : IsoWeeksAreOnly

@@ -1,7 +1,7 @@
 -- Dates some months apart.
 use Rattle.calendar.proofs.Common.{◌≡◌, ◌<◌, ◌≤◌, ◌+◌, ◌-◌, ◌/◌, ◌%◌, ◌≤ℤ◌, ◌<ℤ◌, ◌+ℤ◌, ◌-ℤ◌, ◌*ℤ◌, ℕ, ℤ, pos, negsuc, min, unsigned_abs, ◌∙◌, arith, inl, inr, refl, sym, cases_lt, by_lt_z, ints, floored_quotient_range, floored_remainder_range, linear, IsFloored, IsQuotient, IsMonthsAfter, IsMonthsBetween, IsYearsBetween, number_of, MonthsAfterExists, MonthsAfterIsOnly, MonthsBetweenIsOnly, YearsBetweenIsOnly, days_in_month, month_number, Date}
 use Rattle.calendar.proofs.DateOrder.{of_parts, order}
-use Rattle.calendar.proofs.MonthLengths.{month_length_range}
+use Rattle.calendar.proofs.MonthLengths.{date_of, month_length_range}
 
 -- ---- months by their numbers
 
@@ -40,12 +40,7 @@ pub months_after_exists : MonthsAfterExists
 months_after_exists from months =
     let (year, month, month_from, month_to, is) = month_of (month_number from.year from.month +ℤ months) in
     let (length, most) = month_length_range year month month_from month_to in
-    let date : Date = record {
-      year = year;
-      month = month;
-      day_of_month = min from.day_of_month (days_in_month year month);
-      valid = record { month_from_one = month_from; month_to_twelve = month_to; day_from_one = omega (arith, from.valid.day_from_one); day_to_last = omega arith };
-    } in
+    let date : Date = date_of year month (min from.day_of_month (days_in_month year month)) month_from month_to (omega (arith, from.valid.day_from_one)) (omega arith) in
     (date, record { month_is = is; day_is = refl })
 
 pub only_months_after : MonthsAfterIsOnly

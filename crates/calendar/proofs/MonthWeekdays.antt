@@ -2,7 +2,7 @@
 use Rattle.calendar.proofs.Common.{◌≡◌, ◌↔◌, ◌+◌, ◌-◌, ◌*◌, ◌%◌, ◌<◌, ◌≤◌, ◌+ℤ◌, ◌-ℤ◌, ◌*ℤ◌, ℕ, ℤ, pos, negsuc, MatchOption, Option, Some, None, arith, refl, sym, by_lt_z, ints, IsSome, Date, Weekday, HasFifthWeekday, HasParts, IsLastWeekdayOfMonth, IsNthWeekday, number_of, LastWeekdayOfMonthIsOnly, NthWeekdayIsOnly, IsDate, days_in_month, weekday_number, HasWeekday, day_number}
 use Rattle.calendar.proofs.DateOrder.{only_date}
 use Rattle.calendar.proofs.FoundOrBeyond.{is_found}
-use Rattle.calendar.proofs.MonthLengths.{month_length_range}
+use Rattle.calendar.proofs.MonthLengths.{date_of, month_length_range}
 use Rattle.calendar.proofs.WeekdayPlaces.{days_earlier, same_day, weekday_within, weeks_apart}
 
 -- the dates of a month follow each other
@@ -37,15 +37,8 @@ pub nth_weekday_exists : (year : ℤ) (month : ℕ) (weekday : Weekday) (n : ℕ
 nth_weekday_exists year month weekday n from to n_from n_to =
     let (length, most) = month_length_range year month from to in
     let (days, small, has_weekday) = weekday_within (day_number year month 1) weekday in
-    let date : Date = record {
-      year = year;
-      month = month;
-      day_of_month = 7 * (n - 1) + days + 1;
-      valid = record { month_from_one = from; month_to_twelve = to; day_from_one = omega arith; day_to_last = omega arith };
-    } in (
-      date,
-      record { year_is = refl; month_is = refl; has_weekday = weeks_apart (pos (n - 1)) (omega (arith, ints)) has_weekday; after_weeks = omega arith; within_weeks = omega arith },
-    )
+    let date : Date = date_of year month (7 * (n - 1) + days + 1) from to (omega arith) (omega arith) in
+    (date, record { year_is = refl; month_is = refl; has_weekday = weeks_apart (pos (n - 1)) (omega (arith, ints)) has_weekday; after_weeks = omega arith; within_weeks = omega arith })
 
 -- so each of these results is there
 pub first_four : (year : ℤ) (month : ℕ) (weekday : Weekday) (n : ℕ) (o : Option Date) → MatchOption o ((date : Date) → ¬ (IsNthWeekday year month weekday n date)) (λ date. IsNthWeekday year month weekday n date)
@@ -56,12 +49,7 @@ first_four year month weekday n o found from to n_from n_to = is_found (IsNthWee
 fifth_weekday : {year : ℤ} {month : ℕ} {weekday : Weekday} → 1 ≤ month → month ≤ 12 → HasFifthWeekday year month weekday → (date : Date) × IsNthWeekday year month weekday 5 date
 fifth_weekday {year} {month} from to h =
     let (least, most) = month_length_range year month from to in
-    let date : Date = record {
-      year = year;
-      month = month;
-      day_of_month = h.day + 28;
-      valid = record { month_from_one = from; month_to_twelve = to; day_from_one = omega arith; day_to_last = h.before_four_weeks };
-    } in
+    let date : Date = date_of year month (h.day + 28) from to (omega arith) h.before_four_weeks in
     (date, record { year_is = refl; month_is = refl; has_weekday = weeks_apart (pos 4) (omega (arith, ints)) h.has_weekday; after_weeks = omega (arith, h.from_one); within_weeks = omega (arith, most, h.before_four_weeks) })
 
 has_fifth : (date : Date) {year : ℤ} {month : ℕ} {weekday : Weekday} → IsNthWeekday year month weekday 5 date → HasFifthWeekday year month weekday
@@ -104,12 +92,7 @@ last_weekday_exists year month weekday from to =
     let (least, most) = month_length_range year month from to in
     let length : ℕ = days_in_month year month in
     let (days, small, has_weekday) = weekday_within (day_number year month length -ℤ pos 6) weekday in
-    let date : Date = record {
-      year = year;
-      month = month;
-      day_of_month = length - (6 - days);
-      valid = record { month_from_one = from; month_to_twelve = to; day_from_one = omega arith; day_to_last = omega arith };
-    } in
+    let date : Date = date_of year month (length - (6 - days)) from to (omega arith) (omega arith) in
     let parts : HasParts date year month (length - (6 - days)) = record { year_is = refl; month_is = refl; day_is = refl } in
     let place : day_number year month length -ℤ pos 6 +ℤ pos days ≡ number_of date = omega (arith, ints, before_end date length (6 - days) parts) in
     (date, in_last_week date length (6 - days) parts refl (rw place at has_weekday) (omega arith))

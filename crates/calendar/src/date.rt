@@ -8,7 +8,7 @@ ghost use Rattle.calendar.specs.Months.{IsDate};
 use crate::days_in_year;
 use crate::eras::{
     DAYS_PER_ERA, YEARS_PER_ERA, days_to_month, era_before_year, eras_in_days, march_year_of_day,
-    near_year, parts_from_march,
+    near_year, parts_from_march, wide_sum,
 };
 use crate::months::{days_before_month, length_of_month, month_and_day_in_year};
 use crate::years::nearby_year;
@@ -220,6 +220,7 @@ impl Date {
     /// Returns the date `days` days after this one, or before it if `days` is negative, or `None` if its
     /// year does not fit an `i64`. `Date::new(2000, 3, 1).unwrap().plus_days(-1)` is
     /// `Date::new(2000, 2, 29)`.
+    #[tactic(auto, using(crate::proofs::YearLengths::year_steps))]
     #[inline]
     pub fn plus_days(&self, days: i64) -> Option<Self>
         ensures { MatchOption result
@@ -248,7 +249,7 @@ impl Date {
     {
         let (era, day) = self.day_of_era();
         let (eras, rest) = eras_in_days(days);
-        Self::from_day_number(i64::from(day + rest) - EPOCH_IN_ERA_0).eras_later(era + eras)
+        Self::from_day_of_era(era + eras, i64::from(day + rest))
     }
 
     /// Returns the date `days` days before this one, or after it if `days` is negative, or `None` if its
@@ -261,8 +262,18 @@ impl Date {
     {
         let (era, day) = self.day_of_era();
         let (before, rest) = eras_in_days(days);
-        let near = Self::from_day_number(i64::from(day) - i64::from(rest) - EPOCH_IN_ERA_0);
-        near.eras_later(era - before)
+        Self::from_day_of_era(era - before, i64::from(day) - i64::from(rest))
+    }
+
+    /// Returns the date of a day that is counted as by [`Date::day_of_era`], or `None` if its year does not
+    /// fit. The day may be outside the era.
+    fn from_day_of_era(era: i64, day: i64) -> Option<Self>
+        requires { unsigned_abs day < 2 ^ 32 }
+        ensures { MatchOption result
+            ((date : Date) → number_of date ≡ pos 146097 *ℤ era +ℤ day -ℤ pos 865566 → ¬ (FitsSigned w64 date.year))
+            (λ date. number_of date ≡ pos 146097 *ℤ era +ℤ day -ℤ pos 865566) }
+    {
+        Self::from_day_number(day - EPOCH_IN_ERA_0).eras_later(era)
     }
 
     /// Returns the date `eras` times 400 years after this one, or `None` if its year does not fit.
@@ -271,7 +282,7 @@ impl Date {
             (λ date. HasParts date (self.now.year +ℤ pos 400 *ℤ eras) self.now.month self.now.day_of_month) }
     {
         Some(Self {
-            year: narrowed(i128::from(self.year) + i128::from(YEARS_PER_ERA) * i128::from(eras))?,
+            year: narrowed(wide_sum(YEARS_PER_ERA, eras, self.year))?,
             month: self.month,
             day_of_month: self.day_of_month,
         })
@@ -283,7 +294,7 @@ impl Date {
         ensures small { unsigned_abs result < 2 ^ 73 }
     {
         let (era, day) = self.day_of_era();
-        i128::from(DAYS_PER_ERA) * i128::from(era) + i128::from(day) - i128::from(EPOCH_IN_ERA_0)
+        wide_sum(DAYS_PER_ERA, era, i64::from(day) - EPOCH_IN_ERA_0)
     }
 
     /// Returns the era of the year, and the day of that era: day 1 is 1 March, 400 years before the era

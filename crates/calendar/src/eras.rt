@@ -69,6 +69,7 @@ pub(crate) const fn era_before_year(year: i64) -> (i64, u32)
 #[inline]
 pub(crate) const fn eras_in_days(days: i64) -> (i64, u32)
     ensures place { days ≡ pos 146097 *ℤ result.0 +ℤ pos result.1 }
+    ensures small { unsigned_abs result.0 < 2 ^ 47 }
     ensures below { result.1 < 146097 }
 {
     groups_and_rest(days, DAYS_PER_ERA)
@@ -94,8 +95,17 @@ pub(crate) fn days_of_eras(eras: i64, days: i64) -> Option<i64>
 {
     match DAYS_PER_ERA.checked_mul(eras) {
         Some(whole) => whole.checked_add(days),
-        None => narrowed(i128::from(DAYS_PER_ERA) * i128::from(eras) + i128::from(days)),
+        None => narrowed(wide_sum(DAYS_PER_ERA, eras, days)),
     }
+}
+
+/// Returns `size` times `count` plus `more`.
+#[inline]
+pub(crate) fn wide_sum(size: i64, count: i64, more: i64) -> i128
+    requires { unsigned_abs size < 2 ^ 18 }
+    ensures { result ≡ size *ℤ count +ℤ more }
+{
+    i128::from(size) * i128::from(count) + i128::from(more)
 }
 
 /// Returns the days from 1 March, 400 years before the era begins, to the first of `month`, `year` years after
@@ -139,7 +149,8 @@ const fn days_of_years(years: u32) -> u32
 pub(crate) const fn days_from_march(month: u8) -> u16
     requires from_one { 1 ≤ month }
     requires to_twelve { month ≤ 12 }
-    ensures early { month ≤ 2 → result ≡ 275 + 31 * month }
+    ensures early { month ≤ 2 → (year : ℤ) → result ≡ days_before_month year month + 306 }
+    ensures from_306 { month ≤ 2 → 306 ≤ result }
     ensures late { 2 < month → (year : ℤ) → days_before_month year month ≡ days_before_month year 3 + result }
     ensures small { result ≤ 337 }
 {
@@ -166,7 +177,7 @@ pub(crate) const fn month_and_day(days: u32) -> (u8, u8)
 }
 
 /// Returns the year, the month and the day of the month `days` days after 1 March of `year`.
-#[tactic(auto, using(crate::proofs::MarchYears::month_steps))]
+#[tactic(auto, using(crate::proofs::MarchYears::march_parts))]
 #[inline]
 pub(crate) const fn parts_from_march(year: i64, days: u32) -> (i64, u8, u8)
     requires within { days < days_in_year (year +ℤ pos 1) }

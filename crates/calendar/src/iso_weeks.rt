@@ -11,7 +11,7 @@ ghost use Rattle.calendar.specs.Weeks.{HasWeekday};
 ghost use Rattle.calendar.specs.declared.weekday.Weekday.TheVariants.{Thursday};
 
 use crate::eras::{days_to_month, era_before_year};
-use crate::years::{is_in_year, nearby_year};
+use crate::years::{is_longer_than, nearby_year};
 use crate::{Date, Weekday};
 
 /// An ISO 8601 week, from Monday to Sunday. Its year is the year of its Thursday. Week 1 contains the first
@@ -35,6 +35,7 @@ impl IsoWeek {
 
     /// Returns the number of the week in its year, from 1 to 52 or 53.
     /// `IsoWeek::new(2004, 53).unwrap().week()` is `53`.
+    #[tactic(auto, using(crate::proofs::IsoWeeks::number_range))]
     pub const fn week(&self) -> u8
         ensures week { result ≡ self.now.week }
         ensures from_one { 1 ≤ result }
@@ -50,10 +51,9 @@ impl IsoWeek {
         ensures { MatchOption result (¬ (HasIsoWeek year week))
             (λ found. HasIsoWeek year week × (found.year ≡ year) × (found.week ≡ week)) }
     {
-        if is_in_year(year, days_to_thursday_of_week(year, week)) {
-            Some(Self { year, week })
-        } else {
-            None
+        match days_to_week(year, week) {
+            Some(_) => Some(Self { year, week }),
+            None => None,
         }
     }
 
@@ -98,12 +98,8 @@ impl Date {
             ((day y : ℤ) → IsDayOfIsoWeek day year week weekday → HasDay y day → ¬ (FitsSigned w64 y))
             (λ date. IsDayOfIsoWeek (number_of date) year week weekday) }
     {
-        let thursday = days_to_thursday_of_week(year, week);
-        if is_in_year(year, thursday) {
-            Self::in_nearby_year(year, days_to_weekday(thursday, weekday))
-        } else {
-            None
-        }
+        let thursday = days_to_week(year, week)?;
+        Self::in_nearby_year(year, days_to_weekday(thursday, weekday))
     }
 }
 
@@ -113,10 +109,9 @@ pub fn weeks_in_year(year: i64) -> u8
     ensures from_52 { 52 ≤ result }
     ensures to_53 { result ≤ 53 }
 {
-    if is_in_year(year, days_to_thursday_of_week(year, 53)) {
-        53
-    } else {
-        52
+    match days_to_week(year, 53) {
+        Some(_) => 53,
+        None => 52,
     }
 }
 
@@ -135,26 +130,35 @@ fn days_to_thursday_of_date(date: &Date) -> i64
     i64::from(thursday) - i64::from(days_to_month(year_of_era, 1))
 }
 
-/// Returns the number of days from 1 January to the Thursday of the week. The year may be too short to have
-/// that week.
-const fn days_to_thursday_of_week(year: i64, week: u8) -> i64
-    ensures weekday { HasWeekday (first_day year +ℤ result) Thursday }
-    ensures from { (pos 7 *ℤ (pos week -ℤ pos 1)) ≤ℤ result }
-    ensures before { result <ℤ (pos 7 *ℤ pos week) }
+/// Returns the number of days from 1 January to the Thursday of the week, or `None` if the year has no such
+/// week.
+const fn days_to_week(year: i64, week: u8) -> Option<u16>
+    ensures week { MatchOption result (¬ (HasIsoWeek year week))
+        (λ days. IsDayOfIsoWeek (first_day year +ℤ pos days) year week Thursday) }
+    ensures below { IfSome result (λ days. days < 366) }
 {
-    days_to_first_thursday(year) + 7 * (week as i64 - 1)
+    if week == 0 {
+        return None;
+    }
+    let days = days_to_first_thursday(year) + 7 * (week as u16 - 1);
+    if is_longer_than(year, days) {
+        Some(days)
+    } else {
+        None
+    }
 }
 
 /// Returns the number of days from 1 January to the first Thursday of the year.
 ///
 /// In Rattle, the contract counts from 1970-01-01, day 0, which is a Thursday.
-const fn days_to_first_thursday(year: i64) -> i64
-    ensures { IsRemainder IsFloored (pos 0 -ℤ first_day year) (pos 7) result }
+const fn days_to_first_thursday(year: i64) -> u16
+    ensures value { IsRemainder IsFloored (pos 0 -ℤ first_day year) (pos 7) (pos result) }
+    ensures small { result < 7 }
 {
     // 1 March of the first year of an era is a Wednesday.
     let (_, year_of_era) = era_before_year(year);
     let days_to_january = days_to_month(year_of_era, 1);
-    6 - ((days_to_january + 5) % 7) as i64
+    6 - ((days_to_january + 5) % 7) as u16
 }
 
 /// Returns the number of days from a Monday to `weekday` of the same week.
@@ -166,12 +170,11 @@ fn days_after_monday(weekday: Weekday) -> i64
 
 /// Returns the number of days from 1 January to `weekday` in the week whose Thursday is `thursday` days after
 /// 1 January.
-fn days_to_weekday(thursday: i64, weekday: Weekday) -> i64
-    requires from { pos 0 ≤ℤ thursday }
-    requires below { thursday <ℤ pos 366 }
-    ensures value { result ≡ thursday -ℤ pos 3 +ℤ pos ((weekday_number weekday + 6) % 7) }
+fn days_to_weekday(thursday: u16, weekday: Weekday) -> i64
+    requires { thursday < 366 }
+    ensures value { result ≡ pos thursday -ℤ pos 3 +ℤ pos ((weekday_number weekday + 6) % 7) }
     ensures from { pos 0 ≤ℤ (result +ℤ pos 6) }
     ensures below { result <ℤ pos 372 }
 {
-    thursday - 3 + days_after_monday(weekday)
+    i64::from(thursday) - 3 + days_after_monday(weekday)
 }

@@ -75,6 +75,7 @@ fn ten_bytes(year: u16, month: u8, day_of_month: u8) -> [u8; 10]
 }
 
 /// Returns the two digits of a number below 100.
+#[tactic(auto, using(crate::proofs::PaddedNumbers::two_places))]
 #[inline]
 fn two_digits(number: u8) -> [u8; 2]
     requires { number < 100 }

@@ -146,6 +146,7 @@ impl FromStr for Weekday {
 
 impl Date {
     /// Returns the day of the week. `Date::new(2000, 2, 29).unwrap().weekday()` is `Weekday::Tuesday`.
+    #[tactic(auto, using(crate::proofs::WeekdayPlaces::weekday_in_era))]
     #[inline]
     pub fn weekday(&self) -> Weekday
         ensures { HasWeekday (number_of self.now) result }

@@ -52,10 +52,19 @@ const fn length_of(year: i64) -> i64
     days_in_year(year) as i64
 }
 
-/// Returns `true` if the day `days` days after 1 January of the year is in the same year.
-#[tactic(auto, using(crate::proofs::YearLengths::length_range))]
+/// Returns `true` if the year has more than `days` days.
+#[tactic(auto, using(crate::proofs::YearLengths::year_steps))]
 #[inline]
-pub(crate) const fn is_in_year(year: i64, days: i64) -> bool
+pub(crate) const fn is_longer_than(year: i64, days: u16) -> bool
+    ensures { IsTrue result ↔ (days < days_in_year year) }
+{
+    days < 365 || days < days_in_year(year)
+}
+
+/// Returns `true` if the day `days` days after 1 January of the year is in the same year.
+#[tactic(auto, using(crate::proofs::YearLengths::year_steps))]
+#[inline]
+const fn is_in_year(year: i64, days: i64) -> bool
     ensures { IsTrue result ↔ ((pos 0 ≤ℤ days) × (days <ℤ pos (days_in_year year))) }
 {
     0 <= days && (days < 365 || days < length_of(year))

@@ -8,7 +8,7 @@
 use crate::calendar::days_in_year;
 use crate::calendar::eras::{
     days_to_month, era_before_year, eras_in_days, march_year_of_day, near_year, parts_from_march,
-    DAYS_PER_ERA, YEARS_PER_ERA,
+    wide_sum, DAYS_PER_ERA, YEARS_PER_ERA,
 };
 use crate::calendar::months::{days_before_month, length_of_month, month_and_day_in_year};
 use crate::calendar::years::nearby_year;
@@ -318,7 +318,7 @@ impl Date {
     fn far_plus_days(&self, days: i64) -> Option<Self> {
         let (era, day) = self.day_of_era();
         let (eras, rest) = eras_in_days(days);
-        Self::from_day_number(i64::from(day + rest) - EPOCH_IN_ERA_0).eras_later(era + eras)
+        Self::from_day_of_era(era + eras, i64::from(day + rest))
     }
 
     /// Returns the date `days` days before this one, or after it if `days` is negative, or `None`
@@ -337,14 +337,19 @@ impl Date {
     pub fn minus_days(&self, days: i64) -> Option<Self> {
         let (era, day) = self.day_of_era();
         let (before, rest) = eras_in_days(days);
-        let near = Self::from_day_number(i64::from(day) - i64::from(rest) - EPOCH_IN_ERA_0);
-        near.eras_later(era - before)
+        Self::from_day_of_era(era - before, i64::from(day) - i64::from(rest))
+    }
+
+    /// Returns the date of a day that is counted as by [`Date::day_of_era`], or `None` if its year
+    /// does not fit. The day may be outside the era.
+    fn from_day_of_era(era: i64, day: i64) -> Option<Self> {
+        Self::from_day_number(day - EPOCH_IN_ERA_0).eras_later(era)
     }
 
     /// Returns the date `eras` times 400 years after this one, or `None` if its year does not fit.
     fn eras_later(&self, eras: i64) -> Option<Self> {
         Some(Self {
-            year: narrowed(i128::from(self.year) + i128::from(YEARS_PER_ERA) * i128::from(eras))?,
+            year: narrowed(wide_sum(YEARS_PER_ERA, eras, self.year))?,
             month: self.month,
             day_of_month: self.day_of_month,
         })
@@ -353,7 +358,7 @@ impl Date {
     /// Returns the number of the day, which may not fit an `i64`.
     pub(crate) fn wide_day_number(&self) -> i128 {
         let (era, day) = self.day_of_era();
-        i128::from(DAYS_PER_ERA) * i128::from(era) + i128::from(day) - i128::from(EPOCH_IN_ERA_0)
+        wide_sum(DAYS_PER_ERA, era, i64::from(day) - EPOCH_IN_ERA_0)
     }
 
     /// Returns the era of the year, and the day of that era: day 1 is 1 March, 400 years before the

@@ -71,8 +71,14 @@ const fn groups_and_rest(n: i64, size: i64) -> (i64, u32) {
 pub(crate) fn days_of_eras(eras: i64, days: i64) -> Option<i64> {
     match DAYS_PER_ERA.checked_mul(eras) {
         Some(whole) => whole.checked_add(days),
-        None => narrowed(i128::from(DAYS_PER_ERA) * i128::from(eras) + i128::from(days)),
+        None => narrowed(wide_sum(DAYS_PER_ERA, eras, days)),
     }
+}
+
+/// Returns `size` times `count` plus `more`.
+#[inline]
+pub(crate) fn wide_sum(size: i64, count: i64, more: i64) -> i128 {
+    i128::from(size) * i128::from(count) + i128::from(more)
 }
 
 /// Returns the days from 1 March, 400 years before the era begins, to the first of `month`, `year`

@@ -2,7 +2,7 @@
 //! ISO 8601 weeks, which begin on Monday.
 
 use crate::calendar::eras::{days_to_month, era_before_year};
-use crate::calendar::years::{is_in_year, nearby_year};
+use crate::calendar::years::{is_longer_than, nearby_year};
 use crate::calendar::{Date, Weekday};
 
 /// An ISO 8601 week, from Monday to Sunday. Its year is the year of its Thursday. Week 1 contains
@@ -70,10 +70,9 @@ impl IsoWeek {
     /// [Contract](crate::definitions::contracts#calendarisoweeknew)
     #[must_use]
     pub const fn new(year: i64, week: u8) -> Option<Self> {
-        if is_in_year(year, days_to_thursday_of_week(year, week)) {
-            Some(Self { year, week })
-        } else {
-            None
+        match days_to_week(year, week) {
+            Some(_) => Some(Self { year, week }),
+            None => None,
         }
     }
 
@@ -132,12 +131,8 @@ impl Date {
     /// [Contract](crate::definitions::contracts#calendardatefrom_iso_week)
     #[must_use]
     pub fn from_iso_week(year: i64, week: u8, weekday: Weekday) -> Option<Self> {
-        let thursday = days_to_thursday_of_week(year, week);
-        if is_in_year(year, thursday) {
-            Self::in_nearby_year(year, days_to_weekday(thursday, weekday))
-        } else {
-            None
-        }
+        let thursday = days_to_week(year, week)?;
+        Self::in_nearby_year(year, days_to_weekday(thursday, weekday))
     }
 }
 
@@ -154,10 +149,9 @@ impl Date {
 /// [Contract](crate::definitions::contracts#calendarweeks_in_year)
 #[must_use]
 pub fn weeks_in_year(year: i64) -> u8 {
-    if is_in_year(year, days_to_thursday_of_week(year, 53)) {
-        53
-    } else {
-        52
+    match days_to_week(year, 53) {
+        Some(_) => 53,
+        None => 52,
     }
 }
 
@@ -172,18 +166,26 @@ fn days_to_thursday_of_date(date: &Date) -> i64 {
     i64::from(thursday) - i64::from(days_to_month(year_of_era, 1))
 }
 
-/// Returns the number of days from 1 January to the Thursday of the week. The year may be too short
-/// to have that week.
-const fn days_to_thursday_of_week(year: i64, week: u8) -> i64 {
-    days_to_first_thursday(year) + 7 * (week as i64 - 1)
+/// Returns the number of days from 1 January to the Thursday of the week, or `None` if the year has
+/// no such week.
+const fn days_to_week(year: i64, week: u8) -> Option<u16> {
+    if week == 0 {
+        return None;
+    }
+    let days = days_to_first_thursday(year) + 7 * (week as u16 - 1);
+    if is_longer_than(year, days) {
+        Some(days)
+    } else {
+        None
+    }
 }
 
 /// Returns the number of days from 1 January to the first Thursday of the year.
-const fn days_to_first_thursday(year: i64) -> i64 {
+const fn days_to_first_thursday(year: i64) -> u16 {
     // 1 March of the first year of an era is a Wednesday.
     let (_, year_of_era) = era_before_year(year);
     let days_to_january = days_to_month(year_of_era, 1);
-    6 - ((days_to_january + 5) % 7) as i64
+    6 - ((days_to_january + 5) % 7) as u16
 }
 
 /// Returns the number of days from a Monday to `weekday` of the same week.
@@ -193,6 +195,6 @@ fn days_after_monday(weekday: Weekday) -> i64 {
 
 /// Returns the number of days from 1 January to `weekday` in the week whose Thursday is `thursday`
 /// days after 1 January.
-fn days_to_weekday(thursday: i64, weekday: Weekday) -> i64 {
-    thursday - 3 + days_after_monday(weekday)
+fn days_to_weekday(thursday: u16, weekday: Weekday) -> i64 {
+    i64::from(thursday) - 3 + days_after_monday(weekday)
 }

@@ -59,9 +59,15 @@ const fn length_of(year: i64) -> i64 {
     days_in_year(year) as i64
 }
 
+/// Returns `true` if the year has more than `days` days.
+#[inline]
+pub(crate) const fn is_longer_than(year: i64, days: u16) -> bool {
+    days < 365 || days < days_in_year(year)
+}
+
 /// Returns `true` if the day `days` days after 1 January of the year is in the same year.
 #[inline]
-pub(crate) const fn is_in_year(year: i64, days: i64) -> bool {
+const fn is_in_year(year: i64, days: i64) -> bool {
     0 <= days && (days < 365 || days < length_of(year))
 }
 

@@ -5,4 +5,4 @@ pub returns-clause-day : goal.returns-clause-day
 returns-clause-day c = λ era.
     let after = c.from_march_on.ensures in
     let months = c.days_from_march.ensures in
-    month_of_march era c.args.year c.args.month c.from_march_on.result c.days_of_years.result c.days_from_march.result c.requires.from_one c.requires.to_twelve after.before after.after c.days_of_years.ensures.day months.early months.late
+    month_of_march c.args.month c.from_march_on.result c.days_from_march.result after.before after.after months.early months.late era c.args.year c.days_of_years.result c.days_of_years.ensures.day

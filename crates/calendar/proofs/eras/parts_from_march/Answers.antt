@@ -9,12 +9,3 @@ returns-else-days-lt306 c =
     let next = c.requires.next_fits in
     let found = c.month_and_day-month.ensures.next_year (c.args.year +ℤ pos 1) c.if-days-lt306.false (omega (arith, c.requires.within, third_month (c.args.year +ℤ pos 1))) in
     simp to_z-of_z (record { date = found.0; day = omega (arith, ints, found.1, third_month c.args.year, next_first_day c.args.year) })
-
-pub overflow_add-result : goal.overflow_add-result
-overflow_add-result c = let year = c.ranges.year in simp to_z-of_z c.requires.next_fits
-
-pub returns-then-days-lt306 : goal.returns-then-days-lt306
-returns-then-days-lt306 c =
-    let year = c.ranges.year in
-    let found = c.month_and_day-month.ensures.from_march c.args.year c.if-days-lt306.true in
-    simp to_z-of_z (record { date = found.0; day = omega (arith, ints, found.1) })

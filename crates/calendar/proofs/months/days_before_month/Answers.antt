@@ -7,6 +7,5 @@ returns c =
     let year = c.ranges.year in
     let after = c.from_march_on.ensures in
     let months = c.days_from_march.ensures in
-    let (long, is) = days_before c.args.year c.args.month c.from_march_on.result c.days_from_march.result c.requires.from_one c.requires.to_twelve after.before after.after months.early months.late in
     let length = simp to_z-of_z at c.days_in_year.ensures.days in
-    rw length (omega (arith, long, is))
+    rw length (omega (arith, days_before c.args.month c.from_march_on.result c.days_from_march.result after.before after.after months.early months.late c.args.year))

@@ -1,5 +1,5 @@
 use Rattle.calendar.proofs.Common.{ℤ, Some, FitsSigned, w64, ap, refl, rules, sym, ◌∙◌, to_z-of_z}
-use Rattle.calendar.proofs.DateTexts.{made_date, no_date, not_both, only_number, same_some, small_parts}
+use Rattle.calendar.proofs.DateTexts.{made_date, no_date, only_number, small_parts}
 use Rattle.calendar.proofs.text.parse_date.Goals as goal
 
 pub returns-in_err-front : goal.returns-in_err-front
@@ -14,7 +14,8 @@ pub returns-in_err-parse_year : goal.returns-in_err-parse_year
 returns-in_err-parse_year c = λ date fits. no_date c.from_residual-in_err-parse_year.ensures (λ e.
     let front = only_number c.args.text.now _ _ _ _ c.in_ok-front.ensures.0 (small_parts date).1 c.in_ok-front.ensures.1 e in
     let year = only_number c.in_ok-front.front.now _ _ _ _ c.in_ok-year.ensures.0 (small_parts date).0 c.in_ok-year.ensures.1 front.0 in
-    not_both c.in_err-parse_year.was ((c.parse_year.ensures date.year fits).1 year.0))
+    let read = (c.parse_year.ensures date.year fits).1 year.0 in
+    cc (c.in_err-parse_year.was))
 
 pub returns : goal.returns
 returns c =
@@ -29,5 +30,5 @@ returns c =
           let front = only_number c.args.text.now _ _ _ _ c.in_ok-front.ensures.0 (small_parts date).1 c.in_ok-front.ensures.1 e in
           let year = only_number c.in_ok-front.front.now _ _ _ _ c.in_ok-year.ensures.0 (small_parts date).0 c.in_ok-year.ensures.1 front.0 in
           let read = (c.parse_year.ensures date.year fits).1 year.0 in
-          made_date c.new.result date made (same_some c.in_ok-parse_year.was read) year.1 front.1,
+          made_date c.new.result date made (cc (c.in_ok-parse_year.was)) year.1 front.1,
     )
