@@ -1,4 +1,4 @@
-use Rattle.cellarcove_c.proofs.Common.{arith, refl, SolvesBothCongruences}
+use Rattle.cellarcove_c.proofs.Common.{refl, SolvesBothCongruences}
 use Rattle.cellarcove_c.proofs.CommonSolutions.{solved}
 use Rattle.cellarcove_c.proofs.congruences.reason_for_congruences.Goals as goal
 
