@@ -3,7 +3,7 @@ use Rattle.cellarcove_c.proofs.Common.{◌≡◌, ◌⊎◌, ◌↔◌, ◌<ℤ�
 use Rattle.cellarcove_c.proofs.CommonSolutions.{class_has, no_third}
 
 -- two moduli are bad, or both are positive
-pub not_bad : {m n : ℤ} → pos 0 <ℤ m → pos 0 <ℤ n → ¬ ((m ≤ℤ pos 0) ⊎ (n ≤ℤ pos 0))
+not_bad : {m n : ℤ} → pos 0 <ℤ m → pos 0 <ℤ n → ¬ ((m ≤ℤ pos 0) ⊎ (n ≤ℤ pos 0))
 not_bad m_up n_up (inl low) = absurd (omega (arith, ints, m_up, low))
 not_bad m_up n_up (inr low) = absurd (omega (arith, ints, n_up, low))
 

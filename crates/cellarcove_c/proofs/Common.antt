@@ -58,5 +58,5 @@ pub use Rattle.cellarcove_c.specs.DateTexts.{HasText, ReadsDate}
 pub use Rattle.cellarcove_c.specs.Dates.{IsDayBeyond, IsOfIsoNumber}
 pub use Rattle.cellarcove_c.specs.Decimals.{HasDigits}
 pub use Rattle.cellarcove_c.specs.Laws.{AnswersIsOnly, AnswersModuloIsOnly, ClassOfBothIsOnly, DayOfIsoNumberIsOnly, FewestPagesIsOnly, FractIsOnly, InDigitsIsOnly, InPartsIsOnly, MonthsBetweenIsOnly, MonthsLaterIsOnly, NextOfSeveralIsOnly, OfIsoNumberIsOnly, OnBothIsOnly, OrderNumberIsOnly, PaddingIsOnly, PowerIsOnly, ReadDateIsOnly, ReasonIsOnly, RootWithRestIsOnly, StandsForIsOnly, StandsForNumberIsOnly, StandsForReadIsOnly, YearsBetweenIsOnly}
-pub use Rattle.cellarcove_c.specs.Statuses.{StatusIs, StatusIsOneOf, answer_of, bad_modulus, common_solution_of, no_date, no_solution, not_fitting, outside}
+pub use Rattle.cellarcove_c.specs.Statuses.{StatusIs, StatusIsOneOf, answer_of, bad_modulus, common_solution_of, no_solution, not_fitting, outside}
 pub use Rattle.cellarcove_c.specs.declared.fractions.FractionAnswer.{FractionAnswer}

@@ -50,10 +50,6 @@ not_beyond {year} {week} weekday date same own fits = λ h.
 
 -- ---- days of the week by their number
 
--- the number of a day of the week is from 1 to 7
-pub number_range : (weekday : Weekday) {number : ℕ} → iso_number weekday ≡ number → (1 ≤ number) × (number ≤ 7)
-number_range weekday same = (omega (arith, same), omega (arith, same))
-
 -- a date with a property of its day of the week, by the number of that day
 pub of_iso_number : {weekday : ℕ} {Is : Weekday → Date → Type 0} {year : ℤ} {month day : ℕ} (w : Weekday) (date : Date) → iso_number w ≡ weekday → HasParts date year month day
     → Is w date → IsOfIsoNumber weekday Is year month day

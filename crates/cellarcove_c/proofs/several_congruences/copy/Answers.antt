@@ -13,28 +13,18 @@ loop-i-preserved g c =
     one_copied g.C.Congruence.pair_of (IsPair g.T.Number.value g.T.Number.fits) c.args.congruences.now c.loop-i.pairs c.loop-i.i c.index-congruences-i.is pair.pair c.loop-i-test.true room
     c.loop-i.invariant (pair.in_range.0, pair.in_range.1, positive)
 
-pub returns-then-not-is_below : goal.returns-then-not-is_below
-returns-then-not-is_below g c = record {
-  pairs = λ h. absurd (false≢true h);
-  in_range = λ h. absurd (false≢true h);
-  each_positive = λ h. absurd (false≢true h);
-  positive = (
-    λ h. absurd (false≢true h),
-    λ all.
-        let has = copied_has g.C.Congruence.pair_of (λ p. pos 0 <ℤ g.T.Number.value p.1) c.args.congruences.now c.loop-i.i c.index-congruences-i.is c.loop-i-test.true all in
-        absurd (iff_false c.is_below.ensures c.if-not-is_below.true (rw (c.zero.ensures.value, c.pair-pair.ensures.pair) has)),
-  );
-}
+pub returns-then-not-is_below-clause-positive : goal.returns-then-not-is_below-clause-positive
+returns-then-not-is_below-clause-positive g c = (
+  λ h. absurd (false≢true h),
+  λ all.
+      let has = copied_has g.C.Congruence.pair_of (λ p. pos 0 <ℤ g.T.Number.value p.1) c.args.congruences.now c.loop-i.i c.index-congruences-i.is c.loop-i-test.true all in
+      absurd (iff_false c.is_below.ensures c.if-not-is_below.true (rw (c.zero.ensures.value, c.pair-pair.ensures.pair) has)),
+)
 
-pub returns : goal.returns
-returns g c =
+pub returns-clause-positive : goal.returns-clause-positive
+returns-clause-positive g c =
     let value = g.T.Number.value in
     let fits = g.T.Number.fits in
     let all = all_copied g.C.Congruence.pair_of (IsPair value fits) c.args.congruences.now c.loop-i.pairs c.loop-i.i c.loop-i-test.false (c.loop-i.auto.pairs ∙ c.requires) c.loop-i.invariant in
     let positive = All-weaker (IsPair value fits) (λ p. pos 0 <ℤ value p.1) (λ _ h. h.2) c.loop-i.pairs all.1 in
-    record {
-      pairs = λ _. all.0;
-      in_range = λ _. All-weaker (IsPair value fits) (λ p. fits (value p.0) × fits (value p.1)) (λ _ h. (h.0, h.1)) c.loop-i.pairs all.1;
-      each_positive = λ _. positive;
-      positive = (λ _. All-same (λ p. pos 0 <ℤ value p.1) (map g.C.Congruence.pair_of c.args.congruences.now) c.loop-i.pairs (sym all.0) positive, λ _. refl);
-    }
+    (λ _. All-same (λ p. pos 0 <ℤ value p.1) (map g.C.Congruence.pair_of c.args.congruences.now) c.loop-i.pairs (sym all.0) positive, λ _. refl)
