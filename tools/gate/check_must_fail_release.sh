@@ -1,12 +1,11 @@
 #!/usr/bin/env bash
-# Tries the mutants that CI does not try, crates/NAME/must-fail-release/*.edit: the prover must reject each. Copies the
-# crates to a temporary folder, with what was kept in them, and tries them there in the place of those of must-fail. With names of
-# crates, tries theirs alone. Prints a line for each that was refused, then what else `rt` said, and a count. If all is well, it does not
-# print the proofs of the libraries below.
+# Tries the mutants that CI does not try, crates/NAME/must-fail-release/*.edit: the prover must reject each. In a temporary copy of the
+# crates, it tries them in place of those of must-fail. With names of crates, it tries theirs alone. It prints a line for each that was
+# rejected, then what else `rt` said, and a count.
 #
-# Once all of a crate were tried, `rt` keeps on this machine what it refused, by the checksums of the edit and of the sources of the crate and
-# of those below it. So a run tries what has changed since an earlier one in any checkout, be it of the whole suite or crate by crate, and a
-# run that was stopped goes on with the crate at which it was stopped. Where nothing has changed, no library is built.
+# Once all of a crate were tried, `rt` keeps on this machine what it rejected, by the checksums of the edit and of the sources of the crate
+# and of those below it. So a run tries what has changed since an earlier one in any checkout, and a run that was stopped goes on with the
+# crate at which it was stopped. If nothing has changed, no library is built.
 #
 # usage: tools/gate/check_must_fail_release.sh [NAME..]
 set -uo pipefail

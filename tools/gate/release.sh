@@ -10,9 +10,8 @@
 # or cargo makes it if there is no `rt`. Each file is tried without a net and without `rt`.
 #
 # Then it runs the slow checks: all targets, the second suite of mutants, the first lines of both suites, and each guard of plain Rust
-# taken out. What each printed is kept in out/slow, and one that has passed at this commit is not run again. So they may be run before,
-# by --slow, which makes no files, and a run goes on after one that failed. With --quick it leaves them out, calls less at random, and the
-# notes say so.
+# taken out. out/slow keeps what each printed, and one that has passed at this commit is not run again: --slow runs them before, and makes
+# no files. --quick leaves them out and calls less at random, and the notes say so.
 set -uo pipefail
 cd "$(dirname "$0")/../.." || exit
 source tools/gate/lib.sh

@@ -18,11 +18,6 @@ def centre(name: str) -> tuple[float, float]:
     return 16 + WIDE / 2 + ACROSS * column, 16 + HIGH / 2 + DOWN * row
 
 
-def middle(start: str, end: str) -> tuple[float, float]:
-    (x, y), (to_x, to_y) = centre(start), centre(end)
-    return (x + to_x) / 2, (y + to_y) / 2
-
-
 def arrow(start: str, end: str, kind: str, more: str, along: float) -> Iterator[str]:
     """An arrow from the edge of one box to that of another, with its words on that part of the way."""
     (x, y), (to_x, to_y) = centre(start), centre(end)
@@ -38,7 +33,7 @@ def arrow(start: str, end: str, kind: str, more: str, along: float) -> Iterator[
 def picture(page: str) -> str:
     rows = ROW.findall(page)
     columns, lines = (max(place[axis] for place in PLACES.values()) for axis in (0, 1))
-    middles = [middle(start, end) for start, end, *_ in rows]
+    middles = [[a + b for a, b in zip(centre(start), centre(end))] for start, end, *_ in rows]
     along = [0.36 if middles.count(place) > 1 else 0.5 for place in middles]       # two arrows cross in their middle
     parts = [MARKER.format(*pair) for pair in COLOURS.items()]
     for (start, end, kind, more), part_of_way in zip(rows, along):
