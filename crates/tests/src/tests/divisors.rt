@@ -83,9 +83,9 @@ fn each(rt: &impl Abort, alloc: Global, operands: &[SignedMagnitude]) -> Numbers
 
 #[test]
 fn test_gcd_lcm(rt: HostRuntime) {
-    for a in -128..=255 {
-        for b in -128..=255 {
-            let operands = [signed_magnitude_of(a), signed_magnitude_of(b)];
+    for a in -128..=255i32 {
+        for b in -128..=255i32 {
+            let operands = [signed_magnitude_of(a.into()), signed_magnitude_of(b.into())];
             let both = at_32_bits(&rt, rt.alloc(), GcdLcm, &operands);
             let same = both == each(&rt, rt.alloc(), &operands);
             holds_at(&rt, same, &("gcd_lcm", a, b));
