@@ -28,7 +28,7 @@ def facts_of(log: str) -> Iterator[str]:
     """What a run printed of the axioms, as the page says it."""
     found = {name: (words, reports) for name, words, reports in proofs(log)}
     if found and not any('foreign=' in words for words, _ in found.values()):
-        yield 'No crate has an axiom of its own'
+        yield 'No crate adds an axiom'
     for name in LINKED:
         reports = found.get(name, ('', ()))[1]
         if reports:
@@ -46,6 +46,6 @@ def compared(page: str, facts: Iterable[str]) -> Iterator[tuple[str, bool]]:
 
 def check(words: list[str]) -> bool:
     log, page = Path(words[0]).read_text(errors='replace'), (ROOT / 'docs/TRUST.md').read_text()
-    foreign = [(f'{name} declares functions in C: it has axioms of its own', False) for name, words, _ in proofs(log) if 'foreign=' in words]
+    foreign = [(f'{name} declares functions in C: it adds axioms', False) for name, words, _ in proofs(log) if 'foreign=' in words]
     found = [*compared(page, facts_of(log)), *foreign]
     return counted(found or [('all proofs were kept, so nothing is compared', True)])

@@ -1,5 +1,5 @@
 -- Eras of 400 years, after which the calendar repeats.
-use Rattle.calendar.proofs.Common.{◌≡◌, ◌+◌, ◌-◌, ◌/◌, ◌%◌, ◌<◌, ◌+ℤ◌, ◌-ℤ◌, ◌*ℤ◌, ℕ, ℤ, pos, negsuc, neg_ℤ, FitsSigned, MatchOption, Option, Some, None, w64, ◌∙◌, arith, subst, sym, nat_tests, ints, dist-left, divides_by_magnitude, mul-neg, Divides, HasParts, number_of, IsDate, first_day, Date}
+use Rattle.calendar.proofs.Common.{◌≡◌, ◌+◌, ◌-◌, ◌/◌, ◌%◌, ◌<◌, ◌^◌, ◌+ℤ◌, ◌-ℤ◌, ◌*ℤ◌, ℕ, ℤ, pos, negsuc, neg_ℤ, unsigned_abs, FitsSigned, MatchOption, Option, Some, None, w64, ◌∙◌, arith, subst, sym, nat_tests, ints, dist-left, divides_by_magnitude, mul-neg, Divides, HasParts, number_of, IsDate, first_day, Date}
 use Rattle.calendar.specs.LeapYears.{is_leap_year, is_multiple}
 use Rattle.calendar.proofs.DateOrder.{only_date}
 use Rattle.calendar.proofs.YearLengths.{in_era}
@@ -35,6 +35,12 @@ from_place year eras era n place = omega (arith, ints, in_era era n year place, 
 first_day_later : (year eras : ℤ) → first_day (year +ℤ pos 400 *ℤ eras) ≡ first_day year +ℤ pos 146097 *ℤ eras
 first_day_later (pos n) eras = from_place (pos n) eras (pos (n / 400) -ℤ pos 1) (n % 400 + 399) (omega (arith, ints))
 first_day_later (negsuc n) eras = from_place (negsuc n) eras (negsuc (n / 400) -ℤ pos 1) (798 - n % 400) (omega (arith, ints))
+
+-- days and eras that are added or subtracted fit
+pub days_and_eras : (day rest : ℕ) (era eras : ℤ) → day < 2 ^ 30 → rest < 146097 → unsigned_abs era < 2 ^ 55 → unsigned_abs eras < 2 ^ 47
+    → FitsSigned w64 (pos day) × FitsSigned w64 (pos rest) × FitsSigned w64 (pos (day + rest)) × FitsSigned w64 (pos day -ℤ pos rest) × FitsSigned w64 era × FitsSigned w64 eras × FitsSigned w64 (era +ℤ eras) × FitsSigned w64 (era -ℤ eras)
+days_and_eras day rest era eras day_below rest_below small more_small =
+    (omega (arith, ints), omega (arith, ints), omega (arith, ints), omega (arith, ints), omega (arith, ints), omega (arith, ints), omega (arith, ints), omega (arith, ints))
 
 -- ---- dates
 

@@ -51,7 +51,7 @@ impl IsoWeek {
         ensures { MatchOption result (¬ (HasIsoWeek year week))
             (λ found. HasIsoWeek year week × (found.year ≡ year) × (found.week ≡ week)) }
     {
-        match days_to_week(year, week) {
+        match days_to_thursday_of_week(year, week) {
             Some(_) => Some(Self { year, week }),
             None => None,
         }
@@ -98,7 +98,7 @@ impl Date {
             ((day y : ℤ) → IsDayOfIsoWeek day year week weekday → HasDay y day → ¬ (FitsSigned w64 y))
             (λ date. IsDayOfIsoWeek (number_of date) year week weekday) }
     {
-        let thursday = days_to_week(year, week)?;
+        let thursday = days_to_thursday_of_week(year, week)?;
         Self::in_nearby_year(year, days_to_weekday(thursday, weekday))
     }
 }
@@ -109,7 +109,7 @@ pub fn weeks_in_year(year: i64) -> u8
     ensures from_52 { 52 ≤ result }
     ensures to_53 { result ≤ 53 }
 {
-    match days_to_week(year, 53) {
+    match days_to_thursday_of_week(year, 53) {
         Some(_) => 53,
         None => 52,
     }
@@ -132,7 +132,7 @@ fn days_to_thursday_of_date(date: &Date) -> i64
 
 /// Returns the number of days from 1 January to the Thursday of the week, or `None` if the year has no such
 /// week.
-const fn days_to_week(year: i64, week: u8) -> Option<u16>
+const fn days_to_thursday_of_week(year: i64, week: u8) -> Option<u16>
     ensures week { MatchOption result (¬ (HasIsoWeek year week))
         (λ days. IsDayOfIsoWeek (first_day year +ℤ pos days) year week Thursday) }
     ensures below { IfSome result (λ days. days < 366) }

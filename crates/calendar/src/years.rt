@@ -61,15 +61,6 @@ pub(crate) const fn is_longer_than(year: i64, days: u16) -> bool
     days < 365 || days < days_in_year(year)
 }
 
-/// Returns `true` if the day `days` days after 1 January of the year is in the same year.
-#[tactic(auto, using(crate::proofs::YearLengths::year_steps))]
-#[inline]
-const fn is_in_year(year: i64, days: i64) -> bool
-    ensures { IsTrue result ↔ ((pos 0 ≤ℤ days) × (days <ℤ pos (days_in_year year))) }
-{
-    0 <= days && (days < 365 || days < length_of(year))
-}
-
 /// Returns the year of the day `days` days after 1 January of a year, and the days from its 1 January to
 /// that day, or `None` if that year does not fit an `i64`.
 #[inline]
@@ -81,11 +72,11 @@ pub(crate) fn nearby_year(year: i64, days: i64) -> Option<(i64, u16)>
         (λ found. (found.1 < days_in_year found.0)
         × (first_day found.0 +ℤ pos found.1 ≡ first_day year +ℤ days)) }
 {
-    if is_in_year(year, days) {
-        Some((year, days as u16))
-    } else if days < 0 {
+    if days < 0 {
         let before = year.checked_sub(1)?;
         Some((before, (days + length_of(before)) as u16))
+    } else if is_longer_than(year, days as u16) {
+        Some((year, days as u16))
     } else {
         let after = year.checked_add(1)?;
         Some((after, (days - length_of(year)) as u16))

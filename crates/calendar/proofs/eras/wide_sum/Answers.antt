@@ -3,35 +3,27 @@ use Rattle.std.proofs.lemmas.Int.{fits_signed_from_abs, unsigned_abs-mul}
 use Rattle.calendar.proofs.Common.{◌<◌, ◌≤◌, ◌^◌, ◌*◌, ◌+ℤ◌, ◌*ℤ◌, ℤ, unsigned_abs, FitsSigned, w64, w128, arith, refl, ints, to_z-of_z}
 use Rattle.calendar.proofs.eras.wide_sum.Goals as goal
 
--- the sum and its parts fit
-fitting : (size count more : ℤ) → unsigned_abs size < 2 ^ 18 → FitsSigned w64 count → FitsSigned w64 more
-    → FitsSigned w128 size × FitsSigned w128 count × FitsSigned w128 more × FitsSigned w128 (size *ℤ count) × FitsSigned w128 (size *ℤ count +ℤ more)
-fitting size count more small count_fits more_fits =
+-- the numbers fit 64 and 128 bits, and their product and the sum fit 128
+fitting : (size count more : ℤ) → unsigned_abs size < 2 ^ 18 → FitsSigned w64 size → FitsSigned w64 count → FitsSigned w64 more
+    → FitsSigned w64 size × FitsSigned w64 count × FitsSigned w64 more × FitsSigned w128 size × FitsSigned w128 count × FitsSigned w128 more
+    × FitsSigned w128 (size *ℤ count) × FitsSigned w128 (size *ℤ count +ℤ more)
+fitting size count more small size_fits count_fits more_fits =
     let most : unsigned_abs count ≤ 2 ^ 63 = omega (arith, ints) in
     let bound : unsigned_abs size ≤ 2 ^ 18 = omega arith in
     let product : unsigned_abs (size *ℤ count) ≤ 2 ^ 18 * 2 ^ 63 = omega (arith, unsigned_abs-mul size count, mul-le-mul bound most) in
-    (omega (arith, ints), omega (arith, ints), omega (arith, ints), fits_signed_from_abs w128 (size *ℤ count) (omega arith), omega (arith, ints))
+    (size_fits, count_fits, more_fits, omega (arith, ints), omega (arith, ints), omega (arith, ints), fits_signed_from_abs w128 (size *ℤ count) (omega arith), omega (arith, ints))
 
 pub overflow_mul-result : goal.overflow_mul-result
 overflow_mul-result c =
-    let size = c.ranges.size in
-    let count = c.ranges.count in
-    let more = c.ranges.more in
-    let (wide_size, wide_count, wide_more, product, sum) = fitting c.args.size c.args.count c.args.more c.requires count more in
+    let (size, count, more, wide_size, wide_count, wide_more, product, sum) = fitting c.args.size c.args.count c.args.more c.requires c.ranges.size c.ranges.count c.ranges.more in
     simp (c.from.ensures, c.from-2.ensures, to_z-of_z) product
 
 pub overflow_add-result : goal.overflow_add-result
 overflow_add-result c =
-    let size = c.ranges.size in
-    let count = c.ranges.count in
-    let more = c.ranges.more in
-    let (wide_size, wide_count, wide_more, product, sum) = fitting c.args.size c.args.count c.args.more c.requires count more in
+    let (size, count, more, wide_size, wide_count, wide_more, product, sum) = fitting c.args.size c.args.count c.args.more c.requires c.ranges.size c.ranges.count c.ranges.more in
     simp (c.from.ensures, c.from-2.ensures, c.from-3.ensures, to_z-of_z) sum
 
 pub returns : goal.returns
 returns c =
-    let size = c.ranges.size in
-    let count = c.ranges.count in
-    let more = c.ranges.more in
-    let (wide_size, wide_count, wide_more, product, sum) = fitting c.args.size c.args.count c.args.more c.requires count more in
+    let (size, count, more, wide_size, wide_count, wide_more, product, sum) = fitting c.args.size c.args.count c.args.more c.requires c.ranges.size c.ranges.count c.ranges.more in
     simp (c.from.ensures, c.from-2.ensures, c.from-3.ensures, to_z-of_z) refl

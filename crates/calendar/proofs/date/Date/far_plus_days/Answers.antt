@@ -1,10 +1,6 @@
-use Rattle.calendar.proofs.Common.{◌≡◌, ◌+◌, ◌<◌, ◌^◌, ◌+ℤ◌, ◌-ℤ◌, ◌*ℤ◌, ℕ, ℤ, pos, unsigned_abs, FitsSigned, w64, arith, ints, to_z-of_z, number_of}
+use Rattle.calendar.proofs.Common.{◌≡◌, ◌+◌, ◌+ℤ◌, ◌-ℤ◌, ◌*ℤ◌, pos, arith, ints, to_z-of_z, number_of}
+use Rattle.calendar.proofs.LaterEras.{days_and_eras}
 use Rattle.calendar.proofs.date.Date.far_plus_days.Goals as goal
-
--- the days and the eras fit
-fitting : (day rest : ℕ) (era eras : ℤ) → day < 2 ^ 30 → rest < 146097 → unsigned_abs era < 2 ^ 55 → unsigned_abs eras < 2 ^ 47
-    → FitsSigned w64 (pos (day + rest)) × FitsSigned w64 era × FitsSigned w64 eras × FitsSigned w64 (era +ℤ eras)
-fitting day rest era eras day_below rest_below small more_small = (omega (arith, ints), omega (arith, ints), omega (arith, ints), omega (arith, ints))
 
 pub returns : goal.returns
 returns c =
@@ -15,6 +11,6 @@ returns c =
     let rest = c.eras_in_days-eras.result.1 in
     let of_era = c.day_of_era-era.ensures in
     let in_days = c.eras_in_days-eras.ensures in
-    let (sum, era_fits, eras_fit, later) = fitting day rest era eras of_era.below in_days.below of_era.small in_days.small in
+    let (day_fits, rest_fits, sum, difference, era_fits, eras_fit, later, before) = days_and_eras day rest era eras of_era.below in_days.below of_era.small in_days.small in
     let same : number_of c.args.self.now +ℤ c.args.days ≡ pos 146097 *ℤ (era +ℤ eras) +ℤ pos (day + rest) -ℤ pos 865566 = omega (arith, ints, of_era.number, simp to_z-of_z at in_days.place) in
     rw same (simp (c.from.ensures, to_z-of_z) at c.from_day_of_era.ensures)

@@ -1,7 +1,7 @@
 use Rattle.calendar.proofs.Common.{◌-◌, arith, refl, to_z-of_z}
 use Rattle.calendar.proofs.IsoWeeks.{later_thursday, thursday_in_year, week_range, within_year}
 use Rattle.calendar.proofs.YearLengths.{length_range}
-use Rattle.calendar.proofs.iso_weeks.days_to_week.Goals as goal
+use Rattle.calendar.proofs.iso_weeks.days_to_thursday_of_week.Goals as goal
 
 pub returns-then-week-eq0-clause-week : goal.returns-then-week-eq0-clause-week
 returns-then-week-eq0-clause-week c = λ h. omega (arith, week_range h.day c.args.year c.args.week h.in_week)
