@@ -12,7 +12,7 @@ set -uo pipefail
 cd "$(dirname "$0")/../.." || exit
 source tools/gate/lib.sh
 export CARGO_TARGET_DIR=$work/target
-cargo=$PWD/bindings/cargo compiler=cc emulator=env
+cargo=$PWD/bindings/cargo compiler=cc emulator=env tested='the crate, C'
 calls=$(tools/cellarcove make symbols | wc -l)
 words=("${@:-i686-unknown-linux-gnu}")
 for word in "${words[@]}"; do
@@ -80,11 +80,12 @@ on riscv64gc-unknown-linux-gnu riscv64-linux-gnu qemu-riscv64-static
 on s390x-unknown-linux-gnu s390x-linux-gnu qemu-s390x-static
 on powerpc-unknown-linux-gnu powerpc-linux-gnu qemu-ppc-static
 if is_wanted aarch64-unknown-linux-gnu && command -v rt >/dev/null; then
-    compiler=aarch64-linux-gnu-gcc emulator=qemu-aarch64-static
+    compiler=aarch64-linux-gnu-gcc emulator=qemu-aarch64-static tested="$tested|C" before=$failed
     check "Rattle's archive for ARM64" by_rattle aarch64-unknown-linux-gnu
     returns_the_same rattle
+    [ "$failed" -ne "$before" ] || echo "| \`aarch64-unknown-linux-gnu\`, by Rattle | little | 64 | $emulator | C | yes |" >>"$work/rows"
 fi
 if is_wanted --all; then
-    check 'the table of docs/PLATFORMS.md' diff <(grep '| the crate, C | yes |$' docs/PLATFORMS.md) "$work/rows"
+    check 'the table of docs/PLATFORMS.md' diff <(grep -E "\| ($tested) \| yes \|\$" docs/PLATFORMS.md) "$work/rows"
 fi
 finish

@@ -9,9 +9,9 @@
 # has passed in this checkout, and once more in another folder: both have the same sums. Rattle has made the static library in the gate,
 # or cargo makes it if there is no `rt`. Each file is tried without a net and without `rt`.
 #
-# Then it runs the slow checks: all targets, the second suite of mutants, the first lines of both suites, and each guard of plain Rust
-# taken out. out/slow keeps what each printed, and one that has passed at this commit is not run again: --slow runs them before, and makes
-# no files. --quick leaves them out and calls less at random, and the notes say so.
+# Then it runs the slow checks side by side: all targets, the second suite of mutants, the first lines of both suites, and each guard of
+# plain Rust taken out. out/slow keeps what each printed, and one that has passed at this commit is not run again: --slow runs them before,
+# and makes no files. --quick leaves them out and calls less at random, and the notes say so.
 set -uo pipefail
 cd "$(dirname "$0")/../.." || exit
 source tools/gate/lib.sh
@@ -25,7 +25,7 @@ minutes=1
 [ "$mode" != quick ] || minutes=0.05
 folder=${1:-dist}
 commit=$(git rev-parse HEAD)
-state="$commit, kit $(rt version 2>/dev/null || echo none)"
+state="passed: commit $commit, kit $(rt version 2>/dev/null || echo none)"
 version=$(sed -nE 's/^version = "(.*)"$/\1/p' rust/Cargo.toml)
 original=$(sed -nE 's/^version = "(.*)"$/\1/p' rust/num-integer/Cargo.toml)
 machine=$(uname -m)-$(uname -s | tr 'A-Z' 'a-z')
@@ -196,29 +196,22 @@ tried() {
     head -n 1 "$work/line" >>"$work/said"
 }
 
-# slow FILE NAME COMMAND..: the same for a slow check. What it printed is kept in a file of out/slow, and it is not run again if it has
-# passed for this commit by this kit.
-slow() {
-    local kept=out/slow/$1 before=$failed
-    if grep -qsxF "passed: commit $state" "$kept"; then
-        tried "$2, in an earlier run" true
-        return
-    fi
-    tried "${@:2}"
-    mkdir -p out/slow && cp "$work/log" "$kept"
-    if [ "$failed" -eq "$before" ]; then
-        echo "passed: commit $state" >>"$kept"
-    else
-        echo "$kept has all that it printed"
-    fi
-}
+# begins FILE COMMAND..: a slow check runs beside the others, unless it has passed for this commit by this kit. out/slow keeps what it printed.
+begins() { has_passed "$1" >"$work/log" 2>&1 || { "${@:2}" >"out/slow/$1" 2>&1 && echo "$state" >>"out/slow/$1"; } & }
+has_passed() { grep -qsxF "$state" "out/slow/$1" || { tail -n 40 "out/slow/$1" && return 1; }; }
 
 slow_checks() {
     tools/gate/install_packages.sh --all || true
-    slow targets 'the tests of the crate, and each call for C, on the targets of docs/PLATFORMS.md' tools/gate/check_targets.sh --all
-    slow guards 'each guard of plain Rust that is taken out is missed by a test' tools/cellarcove check guards
-    slow wrong_lines 'the first line of each mutant is true' tools/cellarcove check wrong_lines
-    slow mutants "the second suite of $(ls crates/*/must-fail-release/*.edit | wc -l) mutants is rejected" tools/gate/check_must_fail_release.sh
+    mkdir -p out/slow
+    begins targets tools/gate/check_targets.sh --all
+    begins guards tools/cellarcove check guards
+    begins wrong_lines tools/cellarcove check wrong_lines
+    begins mutants tools/gate/check_must_fail_release.sh
+    wait
+    tried 'the tests of the crate, and each call for C, on the targets of docs/PLATFORMS.md' has_passed targets
+    tried 'each guard of plain Rust that is taken out is missed by a test' has_passed guards
+    tried 'the first line of each mutant is true' has_passed wrong_lines
+    tried "the second suite of $(ls crates/*/must-fail-release/*.edit | wc -l) mutants is rejected" has_passed mutants
 }
 
 made_again() { make_files other && diff "$work/one/SHA256SUMS" "$work/other/SHA256SUMS"; }
