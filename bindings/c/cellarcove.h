@@ -1026,9 +1026,9 @@ CELLARCOVE_PURE cellarcove_fraction_answer cellarcove_fraction_from_text(const u
 /* ---- Dates that are read from a text. The text is its bytes, with no zero at the end ---- */
 
 /** The date of a text of ISO 8601: a year of at least four digits, a month and a day of two digits, with hyphens
- *  between them. A year below 0 has a minus, and one above 9999 has a plus. That of 2026-11-28 is 2026-11-28. text
- *  points to text_len numbers, aligned, which do not change during the call; it may be null if text_len is 0.
- *  CELLARCOVE_NO_DATE if it is the text of no date whose year fits. */
+ *  between them. A year below 0 has a minus, and one above 9999 has a plus. The text 2026-11-28 gives 28 November
+ *  2026. text points to text_len numbers, aligned, which do not change during the call; it may be null if text_len
+ *  is 0. CELLARCOVE_NO_DATE if it is the text of no date whose year fits. */
 CELLARCOVE_PURE cellarcove_date_answer cellarcove_date_from_text(const uint8_t *text, size_t text_len);
 
 /* ---- Products divided by a number, rounded to the nearest integer ---- */

@@ -1651,8 +1651,8 @@ template <class N0, class N1, class N2, class N3> [[nodiscard]] auto count_times
 // ---- Dates that are read from a text. The text is its bytes, with no zero at the end
 
 /// The date of a text of ISO 8601: a year of at least four digits, a month and a day of two digits, with hyphens
-/// between them. A year below 0 has a minus, and one above 9999 has a plus. That of 2026-11-28 is 2026-11-28.
-/// status::no_date if it is the text of no date whose year fits.
+/// between them. A year below 0 has a minus, and one above 9999 has a plus. The text 2026-11-28 gives 28 November
+/// 2026. status::no_date if it is the text of no date whose year fits.
 [[nodiscard]] inline result<date> date_from_text(std::string_view text) {
     auto r = cellarcove_date_from_text(reinterpret_cast<const std::uint8_t *>(text.data()), text.size());
     return r.status == CELLARCOVE_ANSWER ? result<date>(date::from_c(r.date)) : result<date>(static_cast<status>(r.status));

@@ -734,8 +734,8 @@ export function fractionFromText(text: string): Fraction;
 export function tryFractionFromText(text: string): Attempt<Fraction>;
 
 /** The date of a text of ISO 8601: a year of at least four digits, a month and a day of two digits, with hyphens between them. A year
- *  below 0 has a minus, and one above 9999 has a plus. That of `2026-11-28` is 2026-11-28. `NO_DATE` if it is the text of no date whose
- *  year fits. */
+ *  below 0 has a minus, and one above 9999 has a plus. The text `2026-11-28` gives 28 November 2026. `NO_DATE` if it is the text of no
+ *  date whose year fits. */
 export function dateFromText(text: string): PlainDate;
 export function tryDateFromText(text: string): Attempt<PlainDate>;
 

@@ -5351,7 +5351,7 @@ static PyMethodDef methods[] = {
     "\n"
     "The date of a text of ISO 8601: a year of at least four digits, a month and a day of two\n"
     "digits, with hyphens between them. A year below 0 has a minus, and one above 9999 has a\n"
-    "plus.\n"
+    "plus. The text `2026-11-28` gives 28 November 2026.\n"
     "\n"
     "Raises `Refused` with `NO_DATE` if it is the text of no date whose year fits.\n"
     "\n"

@@ -70,7 +70,7 @@ impl IsoWeek {
     /// [Contract](crate::definitions::contracts#calendarisoweeknew)
     #[must_use]
     pub const fn new(year: i64, week: u8) -> Option<Self> {
-        match days_to_week(year, week) {
+        match days_to_thursday_of_week(year, week) {
             Some(_) => Some(Self { year, week }),
             None => None,
         }
@@ -131,7 +131,7 @@ impl Date {
     /// [Contract](crate::definitions::contracts#calendardatefrom_iso_week)
     #[must_use]
     pub fn from_iso_week(year: i64, week: u8, weekday: Weekday) -> Option<Self> {
-        let thursday = days_to_week(year, week)?;
+        let thursday = days_to_thursday_of_week(year, week)?;
         Self::in_nearby_year(year, days_to_weekday(thursday, weekday))
     }
 }
@@ -149,7 +149,7 @@ impl Date {
 /// [Contract](crate::definitions::contracts#calendarweeks_in_year)
 #[must_use]
 pub fn weeks_in_year(year: i64) -> u8 {
-    match days_to_week(year, 53) {
+    match days_to_thursday_of_week(year, 53) {
         Some(_) => 53,
         None => 52,
     }
@@ -168,7 +168,7 @@ fn days_to_thursday_of_date(date: &Date) -> i64 {
 
 /// Returns the number of days from 1 January to the Thursday of the week, or `None` if the year has
 /// no such week.
-const fn days_to_week(year: i64, week: u8) -> Option<u16> {
+const fn days_to_thursday_of_week(year: i64, week: u8) -> Option<u16> {
     if week == 0 {
         return None;
     }

@@ -65,21 +65,15 @@ pub(crate) const fn is_longer_than(year: i64, days: u16) -> bool {
     days < 365 || days < days_in_year(year)
 }
 
-/// Returns `true` if the day `days` days after 1 January of the year is in the same year.
-#[inline]
-const fn is_in_year(year: i64, days: i64) -> bool {
-    0 <= days && (days < 365 || days < length_of(year))
-}
-
 /// Returns the year of the day `days` days after 1 January of a year, and the days from its 1
 /// January to that day, or `None` if that year does not fit an `i64`.
 #[inline]
 pub(crate) fn nearby_year(year: i64, days: i64) -> Option<(i64, u16)> {
-    if is_in_year(year, days) {
-        Some((year, days as u16))
-    } else if days < 0 {
+    if days < 0 {
         let before = year.checked_sub(1)?;
         Some((before, (days + length_of(before)) as u16))
+    } else if is_longer_than(year, days as u16) {
+        Some((year, days as u16))
     } else {
         let after = year.checked_add(1)?;
         Some((after, (days - length_of(year)) as u16))
