@@ -1,5 +1,5 @@
 -- The date of Easter.
-use Rattle.calendar.proofs.Common.{◌≡◌, ◌⊎◌, ◌+◌, ◌-◌, ◌*◌, ◌/◌, ◌<◌, ◌+ℤ◌, ◌-ℤ◌, ◌*ℤ◌, ℕ, ℤ, pos, unsigned_abs, ◌∙◌, ap, arith, inl, inr, refl, sym, nat_tests, by_lt_z, ints, floored_by_range, floored_quotient_range, floored_remainder_range, linear, only_floored, IsFloored, IsQuotient, IsRemainder, IsEaster, IsEpact, IsLunarCorrection, IsPaschalFullMoon, IsSolarCorrection, days_to_full_moon, EarlierFullMoons, EasterIsOnly, EpactOfTheFirstYear, EpactOfTheNextYear, FullMoonsDiffer, LunarCorrectionOfTwentyFiveCenturies, LunarCorrectionsFrom1800, SolarCorrectionOfTheNextCentury, weekday_number, HasWeekday, IsFirstWeekday, day_number, Weekday, Sunday}
+use Rattle.calendar.proofs.Common.{◌≡◌, ◌⊎◌, ◌+◌, ◌-◌, ◌*◌, ◌/◌, ◌<◌, ◌+ℤ◌, ◌-ℤ◌, ◌*ℤ◌, ℕ, ℤ, pos, unsigned_abs, ◌∙◌, ap, arith, inl, inr, refl, sym, nat_tests, by_lt_z, ints, to_z-of_z, floored_by_range, floored_quotient_range, floored_remainder_range, linear, only_floored, IsFloored, IsQuotient, IsRemainder, IsEaster, IsEpact, IsLunarCorrection, IsPaschalFullMoon, IsSolarCorrection, days_to_full_moon, EarlierFullMoons, EasterIsOnly, EpactOfTheFirstYear, EpactOfTheNextYear, FullMoonsDiffer, LunarCorrectionOfTwentyFiveCenturies, LunarCorrectionsFrom1800, SolarCorrectionOfTheNextCentury, weekday_number, HasWeekday, IsFirstWeekday, day_number, Weekday, Sunday}
 use Rattle.calendar.proofs.WeekdayPlaces.{days_later, first_within, only_first}
 
 -- the Sunday after a day
@@ -136,3 +136,6 @@ first_epact = (early (pos 15) (pos 3) 3 8 refl (omega arith) refl refl (omega ar
       lunar_is = record { remainder = pos moon; division = floored 25 moon gain moon_small };
       epact_is = record { quotient = pos 0; division = floored 30 1 refl (omega arith) };
     }
+
+-- what the goals about Easter and its full moon need
+pub ruleset easter_steps = (ints, to_z-of_z, march_days_later, is_easter)

@@ -40,6 +40,7 @@ impl Date {
 impl Days {
     /// Returns how many dates are left, or `None` if that number does not fit in `usize`.
     /// `Date::from_day_number(0).days_until(Date::from_day_number(3)).len()` is `Some(3)`.
+    #[tactic(auto, using(crate::proofs::DayRanges::days_from_first, crate::proofs::FoundOrBeyond::some_from_ok))]
     pub fn len(&self) -> Option<usize>
         ensures { SomeIff result (length self.now < 2 ^ 64) (length self.now) }
     {
@@ -48,6 +49,7 @@ impl Days {
 
     /// Returns `true` if no date is left.
     /// `Date::from_day_number(3).days_until(Date::from_day_number(0)).is_empty()` is `true`.
+    #[tactic(auto, using(crate::proofs::DayRanges::is_none))]
     pub fn is_empty(&self) -> bool
         ensures { IsTrue result ↔ (self.now ≡ []) }
     {

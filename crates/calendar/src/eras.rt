@@ -76,6 +76,7 @@ pub(crate) const fn eras_in_days(days: i64) -> (i64, u32)
 }
 
 /// Returns the quotient of `n` by `size`, rounded down, and the remainder.
+#[tactic(auto, using(crate::proofs::Remainders::division_steps))]
 #[inline]
 const fn groups_and_rest(n: i64, size: i64) -> (i64, u32)
     requires from { pos 0 <ℤ size }

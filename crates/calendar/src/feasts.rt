@@ -12,6 +12,7 @@ use integer_core::{div_floor, mod_floor};
 
 /// Returns the date of Easter Sunday: the first Sunday after the Paschal full moon, by the tables of Clavius
 /// for the Gregorian calendar. `Some(easter(2024))` is `Date::new(2024, 3, 31)`.
+#[tactic(auto, using(crate::proofs::EasterSundays::easter_steps))]
 pub fn easter(year: i64) -> Date
     ensures year { result.year ≡ year }
     ensures easter { IsEaster year (number_of result) }
@@ -57,6 +58,7 @@ fn days_to_next_sunday(date: &Date) -> u8
 }
 
 /// Returns the day of the Paschal full moon, counted from 1 March, which is day 1.
+#[tactic(auto, using(crate::proofs::EasterSundays::easter_steps))]
 fn paschal_full_moon(year: i64) -> u8
     ensures full_moon { IsPaschalFullMoon year (day_number year 3 result) }
     ensures from { 21 ≤ result }

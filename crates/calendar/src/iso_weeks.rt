@@ -132,6 +132,7 @@ fn days_to_thursday_of_date(date: &Date) -> i64
 
 /// Returns the number of days from 1 January to the Thursday of the week, or `None` if the year has no such
 /// week.
+#[tactic(auto, using(crate::proofs::YearLengths::year_steps))]
 const fn days_to_thursday_of_week(year: i64, week: u8) -> Option<u16>
     ensures week { MatchOption result (¬ (HasIsoWeek year week))
         (λ days. IsDayOfIsoWeek (first_day year +ℤ pos days) year week Thursday) }

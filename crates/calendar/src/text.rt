@@ -58,6 +58,7 @@ impl Text for Date {
 }
 
 /// Returns the text of a date in a year of four digits.
+#[tactic(auto, using(crate::proofs::PaddedNumbers::four_places, crate::proofs::PaddedNumbers::two_places))]
 #[inline]
 fn ten_bytes(year: u16, month: u8, day_of_month: u8) -> [u8; 10]
     requires year { year < 10000 }

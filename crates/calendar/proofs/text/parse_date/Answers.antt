@@ -2,9 +2,6 @@ use Rattle.calendar.proofs.Common.{ℤ, Some, FitsSigned, w64, ap, refl, rules, 
 use Rattle.calendar.proofs.DateTexts.{made_date, no_date, only_number, small_parts}
 use Rattle.calendar.proofs.text.parse_date.Goals as goal
 
-pub returns-in_err-front : goal.returns-in_err-front
-returns-in_err-front c = λ date fits. no_date c.from_residual.ensures (λ e. c.in_err-front.ensures _ _ (small_parts date).1 e)
-
 pub returns-in_err-year : goal.returns-in_err-year
 returns-in_err-year c = λ date fits. no_date c.from_residual-in_err-year.ensures (λ e.
     let front = only_number c.args.text.now _ _ _ _ c.in_ok-front.ensures.0 (small_parts date).1 c.in_ok-front.ensures.1 e in

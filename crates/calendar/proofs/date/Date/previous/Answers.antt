@@ -23,8 +23,3 @@ returns-in_ok-checked_sub c =
     let same : date.year -ℤ pos 1 +ℤ pos 1 ≡ date.year = omega (arith, ints) in
     let step = rw same at (next_year (date.year -ℤ pos 1)) in
     rw (back.1, month, day) (simp to_z-of_z (omega (arith, ints, step)))
-
-pub returns-then-self-gt1 : goal.returns-then-self-gt1
-returns-then-self-gt1 c =
-    let year : FitsSigned w64 c.args.self.now.year = search rules in
-    simp to_z-of_z (omega (arith, ints))
