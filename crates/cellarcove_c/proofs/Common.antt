@@ -12,7 +12,6 @@ pub use Rattle.std.proofs.lemmas.Str.Ascii.{IsAscii-cons, IsAscii-nil}
 pub use Rattle.std.specs.Fmt.{decimal}
 pub use Rattle.std.specs.Int.{FitsUnsignedBits, int_pow, w64}
 pub use Rattle.std.specs.List.{All}
-pub use Rattle.std.specs.Option.{SomeIff}
 pub use Rattle.std.specs.Prelude.{Bool, Err, FitsSigned, IfOk, IfSome, IsTrue, List, MatchOption, MatchResult, None, Ok, Option, Result, Some, [], false, length, map, min, nat_lt, negsuc, pos, replicate, suc, true, unsigned_abs, zero, ℕ, ℤ, ◌%◌, ◌*ℤ◌, ◌*◌, ◌++◌, ◌+ℤ◌, ◌+◌, ◌-ℤ◌, ◌-◌, ◌/◌, ◌<ℤ◌, ◌<◌, ◌^◌, ◌↔◌, ◌∷◌, ◌≡◌, ◌≢◌, ◌≤ℤ◌, ◌≤◌, ◌⊎◌}
 pub use Rattle.std.specs.Str.{IsAscii, IsUtf8}
 pub use Rattle.std.specs.declared.cmp.Ordering.TheVariants.{Equal, Greater, Less}
@@ -51,7 +50,6 @@ pub use Rattle.ratio64.specs.Ratio.{den_of, num_of}
 pub use Rattle.ratio64.specs.Rounding.{IsRoundedEven}
 pub use Rattle.ratio64.specs.declared.error.RatioError.{RatioError}
 pub use Rattle.ratio64.specs.declared.fraction.Ratio.{Ratio}
-pub use Rattle.applied.specs.Schedules.{IsMeeting}
 pub use Rattle.cellarcove_c.specs.Answers.{Answers, Refuses}
 pub use Rattle.cellarcove_c.specs.Congruences.{HavePositiveModuli, IsBeyond, IsClassOfBoth, IsNever, IsNextOfSeveral, IsReasonOfCongruences, IsReasonOfSeveral}
 pub use Rattle.cellarcove_c.specs.DateTexts.{HasText, ReadsDate}

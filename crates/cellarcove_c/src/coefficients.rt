@@ -16,6 +16,7 @@ use num_integer::checked;
 ///
 /// `OUTSIDE` if a number is negative. `NOT_FITTING` if the coefficient does not fit.
 #[unsafe(no_mangle)]
+#[tactic(auto, using(crate::proofs::NumbersReadBack::read_back))]
 pub extern "C" fn cellarcove_binomial_i64(n: i64, k: i64) -> I64Answer
     ensures { I64Answers
         ((pos 0 ≤ℤ n) × (pos 0 ≤ℤ k) × FitsSigned w64 (coefficient_of n k))

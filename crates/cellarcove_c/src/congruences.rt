@@ -114,6 +114,7 @@ pub extern "C" fn cellarcove_chinese_remainder_i64(a: i64, m: i64, b: i64, n: i6
 /// `BAD_MODULUS` if `m` or `n` is 0. `NO_SOLUTION` if there is no such number. `NOT_FITTING` if there
 /// is one, and the step does not fit.
 #[unsafe(no_mangle)]
+#[tactic(auto, using(crate::proofs::NumbersReadBack::read_back))]
 pub extern "C" fn cellarcove_chinese_remainder_u64(a: u64, m: u64, b: u64, n: u64) -> U64Solutions
     ensures answer { (pos 0 <ℤ pos m) → (pos 0 <ℤ pos n)
         → EachFits (FitsUnsignedBits 64) (IsLeastCommonMultiple (pos m) (pos n))
@@ -241,6 +242,7 @@ pub extern "C" fn cellarcove_count_congruent_u64(
 /// `BAD_MODULUS` if `m` or `n` is not positive. `NO_SOLUTION` if there is no such number. `NOT_FITTING`
 /// if it does not fit.
 #[unsafe(no_mangle)]
+#[tactic(auto, using(crate::proofs::NumbersReadBack::read_back))]
 pub extern "C" fn cellarcove_next_common_solution_i64(
     from: i64,
     a: i64,

@@ -73,6 +73,7 @@ pub extern "C" fn cellarcove_day_from_date(date: Date) -> I64Answer
 ///
 /// `NO_DATE` if there is no such date. `NOT_FITTING` if the year of the result does not fit.
 #[unsafe(no_mangle)]
+#[tactic(auto, using(crate::proofs::NumbersReadBack::read_back))]
 pub extern "C" fn cellarcove_plus_days(date: Date, days: i64) -> DateAnswer
     ensures answer { result.status ≡ 0
         → Exists result.date × (day_of result.date ≡ day_of date +ℤ days) }
@@ -96,6 +97,7 @@ pub extern "C" fn cellarcove_plus_days(date: Date, days: i64) -> DateAnswer
 ///
 /// `NO_DATE` if there is no such date. `NOT_FITTING` if the number does not fit.
 #[unsafe(no_mangle)]
+#[tactic(auto, using(crate::proofs::NumbersReadBack::read_back))]
 pub extern "C" fn cellarcove_days_between(from: Date, to: Date) -> I64Answer
     ensures answer { Exists from → Exists to
         → AnswersWhere (FitsSigned w64 (day_of to -ℤ day_of from))
@@ -226,6 +228,7 @@ pub extern "C" fn cellarcove_iso_week(date: Date) -> IsoWeekAnswer
 /// `OUTSIDE` if `weekday` is not from 1 to 7, whatever the week. `NO_DATE` if the year has no such
 /// week. `NOT_FITTING` if the year of the date does not fit.
 #[unsafe(no_mangle)]
+#[tactic(auto, using(crate::proofs::NumbersReadBack::read_back))]
 pub extern "C" fn cellarcove_date_from_iso_week(year: i64, week: u8, weekday: u8) -> DateAnswer
     ensures answer { result.status ≡ 0 → Exists result.date × ((w : Weekday)
         × (iso_number w ≡ weekday) × IsDayOfIsoWeek (day_of result.date) year week w) }
@@ -247,6 +250,7 @@ pub extern "C" fn cellarcove_date_from_iso_week(year: i64, week: u8, weekday: u8
 
 /// Returns the date of Easter Sunday of a year, by the rules of today. That of 2024 is 2024-03-31.
 #[unsafe(no_mangle)]
+#[tactic(auto, using(crate::proofs::NumbersReadBack::read_integers))]
 pub extern "C" fn cellarcove_easter(year: i64) -> Date
     ensures year { result.year ≡ year }
     ensures date { Exists result }

@@ -35,6 +35,7 @@ pub struct U64Division {
 ///
 /// `OUTSIDE` if `y` is 0. `NOT_FITTING` if the quotient does not fit.
 #[unsafe(no_mangle)]
+#[tactic(auto, using(crate::proofs::NumbersReadBack::quotients))]
 pub extern "C" fn cellarcove_div_rem_i64(x: i64, y: i64) -> I64Division
     ensures { I64Quotients IsTruncated x y result }
 {
@@ -55,6 +56,7 @@ pub extern "C" fn cellarcove_div_rem_u64(x: u64, y: u64) -> U64Division
 ///
 /// `OUTSIDE` if `y` is 0. `NOT_FITTING` if the quotient does not fit.
 #[unsafe(no_mangle)]
+#[tactic(auto, using(crate::proofs::NumbersReadBack::quotients))]
 pub extern "C" fn cellarcove_div_floor_i64(x: i64, y: i64) -> I64Answer
     ensures { I64Quotient y (IsQuotient IsFloored x y) result }
 {
@@ -75,6 +77,7 @@ pub extern "C" fn cellarcove_div_floor_u64(x: u64, y: u64) -> U64Answer
 ///
 /// `OUTSIDE` if `y` is 0. `NOT_FITTING` if the quotient does not fit.
 #[unsafe(no_mangle)]
+#[tactic(auto, using(crate::proofs::NumbersReadBack::quotients))]
 pub extern "C" fn cellarcove_div_ceil_i64(x: i64, y: i64) -> I64Answer
     ensures { I64Quotient y (IsQuotient IsCeiled x y) result }
 {
@@ -95,6 +98,7 @@ pub extern "C" fn cellarcove_div_ceil_u64(x: u64, y: u64) -> U64Answer
 ///
 /// `OUTSIDE` if `y` is 0. `NOT_FITTING` if the quotient does not fit.
 #[unsafe(no_mangle)]
+#[tactic(auto, using(crate::proofs::NumbersReadBack::quotients))]
 pub extern "C" fn cellarcove_div_round_i64(x: i64, y: i64) -> I64Answer
     ensures { I64Quotient y (IsQuotient IsNearest x y) result }
 {
@@ -116,6 +120,7 @@ pub extern "C" fn cellarcove_div_round_u64(x: u64, y: u64) -> U64Answer
 ///
 /// `OUTSIDE` if `y` is 0. `NOT_FITTING` if the quotient does not fit.
 #[unsafe(no_mangle)]
+#[tactic(auto, using(crate::proofs::NumbersReadBack::quotients))]
 pub extern "C" fn cellarcove_div_round_even_i64(x: i64, y: i64) -> I64Answer
     ensures { I64Quotient y (IsQuotient IsNearestEven x y) result }
 {
@@ -158,6 +163,7 @@ pub extern "C" fn cellarcove_mod_floor_u64(x: u64, y: u64) -> U64Answer
 ///
 /// `OUTSIDE` if `y` is 0. `NOT_FITTING` if the quotient does not fit.
 #[unsafe(no_mangle)]
+#[tactic(auto, using(crate::proofs::NumbersReadBack::quotients))]
 pub extern "C" fn cellarcove_div_mod_floor_i64(x: i64, y: i64) -> I64Division
     ensures { I64Quotients IsFloored x y result }
 {
@@ -205,6 +211,7 @@ pub extern "C" fn cellarcove_product_div_mod_floor_u64(a: u64, b: u64, d: u64) -
 ///
 /// `OUTSIDE` if `y` is 0. `NOT_FITTING` if the multiple does not fit.
 #[unsafe(no_mangle)]
+#[tactic(auto, using(crate::proofs::NumbersReadBack::quotients))]
 pub extern "C" fn cellarcove_next_multiple_of_i64(x: i64, y: i64) -> I64Answer
     ensures { I64Quotient y (IsMultiple IsCeiled x y) result }
 {
@@ -228,6 +235,7 @@ pub extern "C" fn cellarcove_next_multiple_of_u64(x: u64, y: u64) -> U64Answer
 ///
 /// `OUTSIDE` if `y` is 0. `NOT_FITTING` if the multiple does not fit.
 #[unsafe(no_mangle)]
+#[tactic(auto, using(crate::proofs::NumbersReadBack::quotients))]
 pub extern "C" fn cellarcove_prev_multiple_of_i64(x: i64, y: i64) -> I64Answer
     ensures { I64Quotient y (IsMultiple IsFloored x y) result }
 {

@@ -43,6 +43,7 @@ pub struct U64GcdLcm {
 ///
 /// `NOT_FITTING` if it is 2^63.
 #[unsafe(no_mangle)]
+#[tactic(auto, using(crate::proofs::NumbersReadBack::read_back))]
 pub extern "C" fn cellarcove_gcd_i64(x: i64, y: i64) -> I64Answer
     ensures { I64Answers (GcdFits (FitsSigned w64) x y) (IsGreatestCommonDivisor x y)
         (StatusIs not_fitting) result }
@@ -52,6 +53,7 @@ pub extern "C" fn cellarcove_gcd_i64(x: i64, y: i64) -> I64Answer
 
 /// Returns the greatest common divisor, which always fits. That of 56 and 42 is 14.
 #[unsafe(no_mangle)]
+#[tactic(auto, using(crate::proofs::NumbersReadBack::read_back))]
 pub extern "C" fn cellarcove_gcd_u64(x: u64, y: u64) -> U64Answer
     ensures answer { U64Answers (GcdFits (FitsUnsignedBits 64) (pos x) (pos y))
         (IsGreatestCommonDivisor (pos x) (pos y)) (StatusIs not_fitting) result }
@@ -64,6 +66,7 @@ pub extern "C" fn cellarcove_gcd_u64(x: u64, y: u64) -> U64Answer
 ///
 /// `NOT_FITTING` if the multiple does not fit.
 #[unsafe(no_mangle)]
+#[tactic(auto, using(crate::proofs::NumbersReadBack::read_back))]
 pub extern "C" fn cellarcove_lcm_i64(x: i64, y: i64) -> I64Answer
     ensures { I64Fitting (IsLeastCommonMultiple x y) result }
 {

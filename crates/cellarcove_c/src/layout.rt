@@ -14,6 +14,7 @@ use applied::layout::{align_up, padding};
 ///
 /// `OUTSIDE` if `alignment` is not positive. `NOT_FITTING` if the multiple does not fit.
 #[unsafe(no_mangle)]
+#[tactic(auto, using(crate::proofs::NumbersReadBack::read_back))]
 pub extern "C" fn cellarcove_align_up_i64(offset: i64, alignment: i64) -> I64Answer
     ensures answer { (pos 0 <ℤ alignment) → MatchOption (answer_of result.status result.value)
         (NoneFits (FitsSigned w64) (IsAlignedUp offset alignment)) (IsAlignedUp offset alignment) }
@@ -30,6 +31,7 @@ pub extern "C" fn cellarcove_align_up_i64(offset: i64, alignment: i64) -> I64Ans
 ///
 /// `OUTSIDE` if `alignment` is 0. `NOT_FITTING` if the multiple does not fit.
 #[unsafe(no_mangle)]
+#[tactic(auto, using(crate::proofs::NumbersReadBack::read_back))]
 pub extern "C" fn cellarcove_align_up_u64(offset: u64, alignment: u64) -> U64Answer
     ensures answer { (pos 0 <ℤ pos alignment) → MatchOption (answer_of result.status result.value)
         (NoneFits (FitsUnsignedBits 64) (IsAlignedUp (pos offset) (pos alignment)))

@@ -53,6 +53,7 @@ pub extern "C" fn cellarcove_sqrt_i64(x: i64) -> I64Answer
 
 /// Returns the square root rounded down, which always fits. That of 99 is 9.
 #[unsafe(no_mangle)]
+#[tactic(auto, using(crate::proofs::NumbersReadBack::read_integers))]
 pub extern "C" fn cellarcove_sqrt_u64(x: u64) -> U64Answer
     ensures answer { U64Answers (pos 0 ≤ℤ pos x) (IsRoot (pos x) 2) (StatusIs outside) result }
     ensures always { result.status ≡ 0 }

@@ -18,6 +18,7 @@ use applied::schedules::{count, next_meeting};
 /// `BAD_MODULUS` if `p` or `q` is not positive. `NO_SOLUTION` if there is no such time. `NOT_FITTING` if it does
 /// not fit.
 #[unsafe(no_mangle)]
+#[tactic(auto, using(crate::proofs::NumbersReadBack::read_back))]
 pub extern "C" fn cellarcove_next_meeting_i64(now: i64, a: i64, p: i64, b: i64, q: i64) -> I64Answer
     ensures answer { (pos 0 <ℤ p) → (pos 0 <ℤ q)
         → MatchCommonSolution (common_solution_of result.status result.value)

@@ -35,6 +35,7 @@ pub struct U64Congruence {
 /// `OUTSIDE` if there are more congruences. `BAD_MODULUS` if a modulus is not positive. `NO_SOLUTION` if
 /// there is no such number. `NOT_FITTING` if it does not fit.
 #[unsafe(no_mangle)]
+#[tactic(auto, using(crate::proofs::NumbersReadBack::read_back))]
 pub extern "C" fn cellarcove_next_common_solution_of_i64(
     from: i64,
     congruences: &[I64Congruence],

@@ -13,6 +13,7 @@ use applied::lists::checked;
 ///
 /// `NOT_FITTING` if the sum does not fit.
 #[unsafe(no_mangle)]
+#[tactic(auto, using(crate::proofs::NumbersReadBack::read_back))]
 pub extern "C" fn cellarcove_sum_of_i64(numbers: &[i64]) -> I64Answer
     ensures { I64Number (signed_sum numbers.now) result }
 {

@@ -2,11 +2,6 @@ use Rattle.cellarcove_c.proofs.Common.{FitsSigned, w64, arith, rules, to_z-of_z}
 use Rattle.cellarcove_c.proofs.IsoWeeks.{is_beyond, not_beyond}
 use Rattle.cellarcove_c.proofs.dates.cellarcove_date_from_iso_week.Goals as goal
 
-pub returns-in-Some-from_iso_week-clause-answer : goal.returns-in-Some-from_iso_week-clause-answer
-returns-in-Some-from_iso_week-clause-answer c = λ _.
-    let own = rw (to_z-of_z w64 c.args.year c.ranges.year) at c.in-Some-from_iso_week.ensures in
-    (c.some.ensures.date, (c.in-Some.weekday, c.in-Some.ensures, rw c.some.ensures.number own))
-
 pub returns-in-Some-from_iso_week-clause-not_fitting : goal.returns-in-Some-from_iso_week-clause-not_fitting
 returns-in-Some-from_iso_week-clause-not_fitting c =
     let found = c.in-Some-from_iso_week.found in
