@@ -20,7 +20,7 @@ pub use Rattle.num_integer.proofs.Laws.{coefficient_mirror, remainder_is_only, r
 pub use Rattle.num_integer.specs.Checked.{AnswersWhere}
 pub use Rattle.num_integer.specs.Coefficient.{coefficient}
 pub use Rattle.num_integer.specs.Division.{IsRemainder, IsTruncated}
-pub use Rattle.num_integer.specs.Divisors.{Divides, IsGreatestCommonDivisor, IsLeastCommonMultiple}
+pub use Rattle.num_integer.specs.Divisors.{Divides, IsLeastCommonMultiple}
 pub use Rattle.num_integer.specs.Least.{IsLeastFrom}
 pub use Rattle.num_integer.specs.Range.{EachFits}
 pub use Rattle.modular.proofs.ForCallers.{congruent-refl}
@@ -34,10 +34,9 @@ pub use Rattle.calendar.proofs.ForCallers.{in_its_year, month_length_range, same
 pub use Rattle.calendar.proofs.Laws.{date_of_parts_is_only, iso_day_exists, iso_day_is_only, iso_number_is_only, text_is_only, weeks_of_a_year}
 pub use Rattle.calendar.specs.Dates.{HasParts, IsMonthsBetween, IsYearsBetween, number_of}
 pub use Rattle.calendar.specs.IsoWeeks.{HasIsoWeek, HasIsoWeeks, IsDayOfIsoWeek, IsInIsoWeek}
-pub use Rattle.calendar.specs.Months.{days_before_month}
 pub use Rattle.calendar.specs.Text.{padded, text_of, with_number}
 pub use Rattle.calendar.specs.Weekday.{iso_number}
-pub use Rattle.calendar.specs.Years.{HasDay, days_in_year}
+pub use Rattle.calendar.specs.Years.{HasDay}
 pub use Rattle.calendar.specs.declared.date.Date.{Date}
 pub use Rattle.calendar.specs.declared.text.DateError.{DateError}
 pub use Rattle.calendar.specs.declared.weekday.Weekday.{Weekday}
