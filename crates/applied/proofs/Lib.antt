@@ -10,6 +10,7 @@ pub mod SignedSums
 pub mod WeightedShares
 pub mod LargestRemainders
 pub mod NearestQuotients
+pub mod NearestAnswers
 pub mod FallingFactorials
 pub mod FirstMultiples
 pub mod Laws

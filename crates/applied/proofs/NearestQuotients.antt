@@ -1,6 +1,7 @@
 -- Quotients rounded to the nearest integer: from those rounded down, the only ones, and when they fit.
 use Rattle.std.specs.Prelude.{◌≡◌, ◌≢◌, ◌⊎◌, ◌↔◌, ◌<◌, ◌≤◌, ◌≤ℤ◌, ◌+◌, ◌*◌, ◌<ℤ◌, ◌+ℤ◌, ◌-ℤ◌, ◌*ℤ◌}
 use Rattle.std.proofs.Math.Bool.{beq}
+use Rattle.num_integer.proofs.FittingAnswers.{IsKind, floored}
 use Rattle.applied.proofs.Common.{Bool, true, false, not, signed, ℕ, ℤ, pos, neg_ℤ, unsigned_abs, ap, arith, inl, inr, le_refl, refl, subst, cases_lt, by_lt_z, unsigned_abs-mul, mul-le, IsDivision, IsFloored, IsQuotient, IsEven, EachFits, IsRange, divides_or_not, expand, from_not_less, linear, other_quotient_fits, products, sizes, zero_or_not, division_exists, NearestEvenQuotientIsOnly, NearestQuotientExists, NearestQuotientFitsExactly, NearestQuotientIsOnly, NoIntegerIsNearer, IsDown, IsNearer, IsNearest, IsNearestEven, LiesWithin}
 
 next_product : (q d : ℤ) → (q +ℤ pos 1) *ℤ d ≡ q *ℤ d +ℤ d
@@ -122,13 +123,29 @@ not_less_even x y less =
     let both = halves x.division x.nearest y.division y.nearest less in
     not_both_even both.0 (x.tie (omega (arith, sizes, both.1))) (y.tie (omega (arith, sizes, both.2)))
 
+-- so is the remainder, which makes both kinds a kind of division
+same_remainder : {n d q r p s : ℤ} → IsDivision n d q r → IsDivision n d p s → q ≡ p → (q ≡ p) × (r ≡ s)
+same_remainder h k same = let equation = rw same at h.equation in (same, omega (arith, linear, equation, k.equation))
+
+nearest_kind : IsKind IsNearest
+nearest_kind = record {
+  division = λ h. h.division;
+  only = λ h k. same_remainder h.division k.division (omega (arith, linear, from_not_less (not_less_nearest h k), from_not_less (not_less_nearest k h)));
+  exact = λ h. record { division = h; nearest = omega (arith, sizes); tie = λ half. absurd (omega (arith, sizes, h.small)) };
+}
+
+nearest_even_kind : IsKind IsNearestEven
+nearest_even_kind = record {
+  division = λ h. h.division;
+  only = λ h k. same_remainder h.division k.division (omega (arith, linear, from_not_less (not_less_even h k), from_not_less (not_less_even k h)));
+  exact = λ h. record { division = h; nearest = omega (arith, sizes); tie = λ half. absurd (omega (arith, sizes, h.small)) };
+}
+
 pub nearest_quotient_is_only : NearestQuotientIsOnly
-nearest_quotient_is_only = λ n d q h other k.
-    omega (arith, linear, from_not_less (not_less_nearest h.division k.division), from_not_less (not_less_nearest k.division h.division))
+nearest_quotient_is_only = λ n d q h other k. (nearest_kind.only k.division h.division).0
 
 pub nearest_even_quotient_is_only : NearestEvenQuotientIsOnly
-nearest_even_quotient_is_only = λ n d q h other k.
-    omega (arith, linear, from_not_less (not_less_even h.division k.division), from_not_less (not_less_even k.division h.division))
+nearest_even_quotient_is_only = λ n d q h other k. (nearest_even_kind.only k.division h.division).0
 
 -- ---- no integer is nearer
 
@@ -167,10 +184,11 @@ nearest_quotient_exists = λ n d nonzero.
 
 -- ---- by magnitudes
 
--- a kind of quotient that turns its sign if the number or the divisor does
-record TurnsItsSign (Kind : ℤ → ℤ → ℤ → ℤ → Type 0) : Type 0 where
-  number : (n d q r : ℤ) → Kind n d q r → Kind (neg_ℤ n) d (neg_ℤ q) (neg_ℤ r)
-  divisor : (n d q r : ℤ) → Kind n d q r → Kind n (neg_ℤ d) (neg_ℤ q) r
+-- a kind of division with the sign of the quotient turned if that of the number or of the divisor is
+pub record IsRounding (Kind : ℤ → ℤ → ℤ → ℤ → Type 0) : Type 0 where
+  pub kind : IsKind Kind
+  pub number : (n d q r : ℤ) → Kind n d q r → Kind (neg_ℤ n) d (neg_ℤ q) (neg_ℤ r)
+  pub divisor : (n d q r : ℤ) → Kind n d q r → Kind n (neg_ℤ d) (neg_ℤ q) r
 
 negated_number : {n d q r : ℤ} → IsDivision n d q r → IsDivision (neg_ℤ n) d (neg_ℤ q) (neg_ℤ r) × (neg_ℤ q *ℤ d ≡ neg_ℤ (q *ℤ d))
 negated_number {n} {d} {q} {r} h =
@@ -185,8 +203,9 @@ negated_divisor {n} {d} {q} {r} h =
 negated_even : {q : ℤ} → IsEven q → IsEven (neg_ℤ q)
 negated_even even = let half = even.product in record { factor = neg_ℤ even.factor; product = omega (arith, products) }
 
-nearest_iterations : TurnsItsSign IsNearest
-nearest_iterations = record {
+pub nearest : IsRounding IsNearest
+nearest = record {
+  kind = nearest_kind;
   number = λ n d q r h.
       let turned = negated_number h.division in
       record {
@@ -203,8 +222,9 @@ nearest_iterations = record {
       };
 }
 
-nearest_even_iterations : TurnsItsSign IsNearestEven
-nearest_even_iterations = record {
+pub nearest_even : IsRounding IsNearestEven
+nearest_even = record {
+  kind = nearest_even_kind;
   number = λ n d q r h. record {
     division = (negated_number h.division).0;
     nearest = omega (arith, sizes, h.nearest);
@@ -218,20 +238,14 @@ nearest_even_iterations = record {
 }
 
 -- the quotient of the magnitudes, with the sign of the quotient, is that of the numbers
-quotient_by_magnitudes : {Kind : ℤ → ℤ → ℤ → ℤ → Type 0} → TurnsItsSign Kind → (s u : Bool) (m e q : ℕ) → IsQuotient Kind (pos m) (pos e) (pos q)
+pub quotient_by_magnitudes : {Kind : ℤ → ℤ → ℤ → ℤ → Type 0} → IsRounding Kind → (s u : Bool) (m e q : ℕ) → IsQuotient Kind (pos m) (pos e) (pos q)
     → IsQuotient Kind (signed s m) (signed u e) (signed (not (beq s u)) q)
-quotient_by_magnitudes iterations false false m e q h = h
-quotient_by_magnitudes iterations true false m e q h = record { remainder = _; division = iterations.number _ _ _ _ h.division }
-quotient_by_magnitudes iterations false true m e q h = record { remainder = _; division = iterations.divisor _ _ _ _ h.division }
-quotient_by_magnitudes iterations true true m e q h =
+quotient_by_magnitudes rounding false false m e q h = h
+quotient_by_magnitudes rounding true false m e q h = record { remainder = _; division = rounding.number _ _ _ _ h.division }
+quotient_by_magnitudes rounding false true m e q h = record { remainder = _; division = rounding.divisor _ _ _ _ h.division }
+quotient_by_magnitudes rounding true true m e q h =
     let back : neg_ℤ (neg_ℤ (pos q)) ≡ pos q = omega (arith, products) in
-    record { remainder = _; division = rw back at (iterations.divisor _ _ _ _ (iterations.number _ _ _ _ h.division)) }
-
-pub nearest_by_magnitudes : (s u : Bool) (m e q : ℕ) → IsQuotient IsNearest (pos m) (pos e) (pos q) → IsQuotient IsNearest (signed s m) (signed u e) (signed (not (beq s u)) q)
-nearest_by_magnitudes = quotient_by_magnitudes nearest_iterations
-
-pub nearest_even_by_magnitudes : (s u : Bool) (m e q : ℕ) → IsQuotient IsNearestEven (pos m) (pos e) (pos q) → IsQuotient IsNearestEven (signed s m) (signed u e) (signed (not (beq s u)) q)
-nearest_even_by_magnitudes = quotient_by_magnitudes nearest_even_iterations
+    record { remainder = _; division = rw back at (rounding.divisor _ _ _ _ (rounding.number _ _ _ _ h.division)) }
 
 -- a divisor other than 0 has a magnitude other than 0
 pub magnitude_nonzero : (u : Bool) (e : ℕ) → signed u e ≢ pos 0 → pos e ≢ pos 0
@@ -242,26 +256,17 @@ magnitude_nonzero false e nonzero = nonzero
 
 module _ {fits : ℤ → Type 0} {low high n d : ℤ} (range : IsRange fits low high) (n_fits : fits n) (d_fits : fits d) where
   -- if the exact quotients of a kind fit, each quotient does
-  each_quotient_fits : (Kind : ℤ → ℤ → ℤ → ℤ → Type 0) → ((q : ℤ) → IsDivision n d q (pos 0) → Kind n d q (pos 0)) → EachFits fits (IsQuotient Kind n d) → (q r : ℤ) → IsDivision n d q r → fits q
-  each_quotient_fits Kind exact each q r h = elim (zero_or_not (d +ℤ pos 1)) [
+  each_quotient_fits : {Kind : ℤ → ℤ → ℤ → ℤ → Type 0} → IsKind Kind → EachFits fits (IsQuotient Kind n d) → {q r : ℤ} → IsDivision n d q r → fits q
+  each_quotient_fits kind each {q} {r} h = elim (zero_or_not (d +ℤ pos 1)) [
     | inl minus ↦
         let none : r ≡ pos 0 = omega (arith, sizes) in
-        each q (record { remainder = pos 0; division = exact q (subst (IsDivision n d q) none h) })
+        each q (record { remainder = pos 0; division = kind.exact (subst (IsDivision n d q) none h) })
     | inr other ↦ other_quotient_fits range n_fits d_fits (λ e. other (omega (arith, sizes))) h
   ]
 
-  same_fit : (Kind : ℤ → ℤ → ℤ → ℤ → Type 0) → ((q r : ℤ) → Kind n d q r → IsDivision n d q r)
-      → ((q : ℤ) → IsDivision n d q (pos 0) → Kind n d q (pos 0)) → EachFits fits (IsQuotient IsFloored n d) ↔ EachFits fits (IsQuotient Kind n d)
-  same_fit Kind division exact = (
-    λ each q h. each_quotient_fits IsFloored (λ p k. record { division = k; sign = inl refl }) each q h.remainder
-        (division q h.remainder h.division),
-    λ each q h. each_quotient_fits Kind exact each q h.remainder h.division.division,
-  )
+  -- so the quotients of one kind fit exactly if those of another do
+  pub same_fit : {Kind Other : ℤ → ℤ → ℤ → ℤ → Type 0} → IsKind Kind → IsKind Other → EachFits fits (IsQuotient Kind n d) ↔ EachFits fits (IsQuotient Other n d)
+  same_fit kind other = (λ each q h. each_quotient_fits kind each (other.division h.division), λ each q h. each_quotient_fits other each (kind.division h.division))
 
 pub nearest_quotient_fits_exactly : (fits : ℤ → Type 0) → NearestQuotientFitsExactly fits
-nearest_quotient_fits_exactly fits = λ low high n d range n_fits d_fits. (
-  same_fit range n_fits d_fits IsNearest (λ q r h. h.division)
-      (λ q k. record { division = k; nearest = omega (arith, sizes); tie = λ half. absurd (omega (arith, sizes, k.small)) }),
-  same_fit range n_fits d_fits IsNearestEven (λ q r h. h.division)
-      (λ q k. record { division = k; nearest = omega (arith, sizes); tie = λ half. absurd (omega (arith, sizes, k.small)) }),
-)
+nearest_quotient_fits_exactly fits = λ low high n d range n_fits d_fits. (same_fit range n_fits d_fits floored nearest_kind, same_fit range n_fits d_fits floored nearest_even_kind)

@@ -3,9 +3,6 @@
 
 ghost use Rattle.std.specs.Prelude.{◌≢◌, ◌<ℤ◌, ◌≤ℤ◌, ◌*ℤ◌, pos};
 ghost use Rattle.std.specs.Option.{IsSome};
-ghost use Rattle.num_integer.specs.Checked.{AnswersWhere, FitsWith};
-ghost use Rattle.num_integer.specs.Division.{IsQuotient};
-ghost use Rattle.num_integer.specs.Range.{EachFits};
 ghost use Rattle.applied.specs.Rounding.{AnswersQuotient, IsNearest, IsNearestEven};
 
 use num_integer::operators::{is_minus_one, is_zero};
@@ -70,10 +67,7 @@ pub fn product_div_round<T: NativeInteger<Magnitude = u64>>(a: T, b: T, d: T) ->
 fn wide_product_div_round<T: NativeInteger<Magnitude = u64>>(a: T, b: T, d: T) -> Option<T>
     requires in_range { T.fits (T.value a) × T.fits (T.value b) × T.fits (T.value d) }
     requires nonzero { T.value d ≢ pos 0 }
-    ensures { AnswersWhere
-        (EachFits T.fits (IsQuotient IsNearest (T.value a *ℤ T.value b) (T.value d)))
-        (FitsWith T.fits T.value (IsQuotient IsNearest (T.value a *ℤ T.value b) (T.value d)))
-        result }
+    ensures { AnswersQuotient IsNearest T.fits T.value (T.value a *ℤ T.value b) (T.value d) result }
 {
     let (product, divisor) = (parts_of_product(a, b), parts_of(d));
     let magnitude = crate::rounding::div_round(product.1, u128::from(divisor.1));
@@ -104,10 +98,7 @@ pub fn product_div_round_even<T: NativeInteger<Magnitude = u64>>(a: T, b: T, d: 
 fn wide_product_div_round_even<T: NativeInteger<Magnitude = u64>>(a: T, b: T, d: T) -> Option<T>
     requires in_range { T.fits (T.value a) × T.fits (T.value b) × T.fits (T.value d) }
     requires nonzero { T.value d ≢ pos 0 }
-    ensures { AnswersWhere
-        (EachFits T.fits (IsQuotient IsNearestEven (T.value a *ℤ T.value b) (T.value d)))
-        (FitsWith T.fits T.value (IsQuotient IsNearestEven (T.value a *ℤ T.value b) (T.value d)))
-        result }
+    ensures { AnswersQuotient IsNearestEven T.fits T.value (T.value a *ℤ T.value b) (T.value d) result }
 {
     let (product, divisor) = (parts_of_product(a, b), parts_of(d));
     let magnitude = crate::rounding::div_round_even(product.1, u128::from(divisor.1));

@@ -1,14 +1,11 @@
 use Rattle.applied.proofs.Common.{iff_false}
-use Rattle.applied.proofs.NearestQuotients.{nearest_quotient_fits_exactly}
+use Rattle.applied.proofs.NearestAnswers.{test_of_nearest}
+use Rattle.applied.proofs.NearestQuotients.{nearest_even}
 use Rattle.applied.proofs.rounding.checked.div_round_even.Goals as goal
 
 pub returns-then-quotient_fits-clause-answer : goal.returns-then-quotient_fits-clause-answer
 returns-then-quotient_fits-clause-answer g c =
-    let same = nearest_quotient_fits_exactly g.T.Number.fits _ _ _ _ g.met.T.Integer.range_law c.requires.in_range.0 c.requires.in_range.1 in
-    let domain = c.quotient_fits.ensures.domain.1.0 c.if-quotient_fits.true in
-    ((domain.0, same.1.0 domain.1), (c.div_round_even.ensures.in_range, c.div_round_even.ensures.nearest))
+    ((test_of_nearest nearest_even g.met.T.Integer.range_law c.requires.in_range.0 c.requires.in_range.1 c.quotient_fits.ensures.domain.1).0 c.if-quotient_fits.true, (c.div_round_even.ensures.in_range, c.div_round_even.ensures.nearest))
 
 pub returns-else-quotient_fits-clause-answer : goal.returns-else-quotient_fits-clause-answer
-returns-else-quotient_fits-clause-answer g c =
-    let same = nearest_quotient_fits_exactly g.T.Number.fits _ _ _ _ g.met.T.Integer.range_law c.requires.in_range.0 c.requires.in_range.1 in
-    λ domain. iff_false c.quotient_fits.ensures.domain.1 c.if-quotient_fits.false (domain.0, same.1.1 domain.1)
+returns-else-quotient_fits-clause-answer g c = iff_false (test_of_nearest nearest_even g.met.T.Integer.range_law c.requires.in_range.0 c.requires.in_range.1 c.quotient_fits.ensures.domain.1) c.if-quotient_fits.false

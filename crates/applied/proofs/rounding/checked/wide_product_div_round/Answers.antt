@@ -1,5 +1,5 @@
-use Rattle.applied.proofs.Common.{answers_only, sym, IsQuotient, IsNearest}
-use Rattle.applied.proofs.NearestQuotients.{magnitude_nonzero, nearest_by_magnitudes, nearest_quotient_is_only}
+use Rattle.applied.proofs.NearestAnswers.{answer_by_magnitudes}
+use Rattle.applied.proofs.NearestQuotients.{magnitude_nonzero, nearest}
 use Rattle.applied.proofs.rounding.checked.wide_product_div_round.Goals as goal
 
 pub div_round-magnitude-requires-clause-nonzero : goal.div_round-magnitude-requires-clause-nonzero
@@ -7,7 +7,5 @@ div_round-magnitude-requires-clause-nonzero g c = rw c.from.ensures (magnitude_n
 
 pub returns : goal.returns
 returns g c =
-    let own = rw (c.parts_of_product-product.ensures, c.parts_of-divisor.ensures) at
-    (nearest_by_magnitudes c.parts_of_product-product.result.0 c.parts_of-divisor.result.0 c.parts_of_product-product.result.1 c.parts_of-divisor.result.1 c.div_round-magnitude.result
-    (rw c.from.ensures at c.div_round-magnitude.ensures.nearest)) in
-    answers_only g.T.Number.fits (IsQuotient IsNearest _ _) g.T.Number.value c.number_of.result own (λ y h. sym (nearest_quotient_is_only _ _ _ own y h)) c.number_of.ensures
+    answer_by_magnitudes nearest g.T.Number.fits g.T.Number.value c.number_of.result c.parts_of_product-product.result c.parts_of-divisor.result
+    c.parts_of_product-product.ensures c.parts_of-divisor.ensures c.requires.nonzero (rw c.from.ensures at c.div_round-magnitude.ensures.nearest) c.number_of.ensures

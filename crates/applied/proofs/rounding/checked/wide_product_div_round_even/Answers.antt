@@ -1,5 +1,5 @@
-use Rattle.applied.proofs.Common.{answers_only, sym, IsQuotient, IsNearestEven}
-use Rattle.applied.proofs.NearestQuotients.{magnitude_nonzero, nearest_even_by_magnitudes, nearest_even_quotient_is_only}
+use Rattle.applied.proofs.NearestAnswers.{answer_by_magnitudes}
+use Rattle.applied.proofs.NearestQuotients.{magnitude_nonzero, nearest_even}
 use Rattle.applied.proofs.rounding.checked.wide_product_div_round_even.Goals as goal
 
 pub div_round_even-magnitude-requires-clause-nonzero : goal.div_round_even-magnitude-requires-clause-nonzero
@@ -7,7 +7,5 @@ div_round_even-magnitude-requires-clause-nonzero g c = rw c.from.ensures (magnit
 
 pub returns : goal.returns
 returns g c =
-    let own = rw (c.parts_of_product-product.ensures, c.parts_of-divisor.ensures) at
-    (nearest_even_by_magnitudes c.parts_of_product-product.result.0 c.parts_of-divisor.result.0 c.parts_of_product-product.result.1 c.parts_of-divisor.result.1 c.div_round_even-magnitude.result
-    (rw c.from.ensures at c.div_round_even-magnitude.ensures.nearest)) in
-    answers_only g.T.Number.fits (IsQuotient IsNearestEven _ _) g.T.Number.value c.number_of.result own (λ y h. sym (nearest_even_quotient_is_only _ _ _ own y h)) c.number_of.ensures
+    answer_by_magnitudes nearest_even g.T.Number.fits g.T.Number.value c.number_of.result c.parts_of_product-product.result c.parts_of-divisor.result
+    c.parts_of_product-product.ensures c.parts_of-divisor.ensures c.requires.nonzero (rw c.from.ensures at c.div_round_even-magnitude.ensures.nearest) c.number_of.ensures

@@ -1,0 +1,36 @@
+-- Calls that return a quotient rounded to the nearest integer, if it fits. Each fact is of both kinds.
+use Rattle.std.specs.Prelude.{◌≡◌, ◌≢◌, ◌↔◌, ◌≤ℤ◌, ◌<ℤ◌, ◌*ℤ◌, IsSome}
+use Rattle.std.proofs.Math.Bool.{beq}
+use Rattle.num_integer.proofs.FittingAnswers.{floored}
+use Rattle.applied.specs.Rounding.{AnswersQuotient}
+use Rattle.applied.proofs.Common.{Bool, not, signed, ℕ, ℤ, pos, Option, IsTrue, linear, arith, refl, answer_only, answers_as, answers_only, part_fits, some_in_domain, AnswersWhere, FitsWith, IsFloored, IsQuotient, EachFits, IsRange}
+use Rattle.applied.proofs.NearestQuotients.{IsRounding, quotient_by_magnitudes, same_fit}
+
+module _ {Kind : ℤ → ℤ → ℤ → ℤ → Type 0} (rounding : IsRounding Kind) where
+  -- the test whether the quotient rounded down fits is that whether the nearest one does
+  pub test_of_nearest : {fits : ℤ → Type 0} {low high n d : ℤ} {test : Bool} → IsRange fits low high → fits n → fits d → IsTrue test ↔ ((d ≢ pos 0) × EachFits fits (IsQuotient IsFloored n d))
+      → IsTrue test ↔ ((d ≢ pos 0) × EachFits fits (IsQuotient Kind n d))
+  test_of_nearest range n_fits d_fits test =
+      let same = same_fit range n_fits d_fits floored rounding.kind in
+      (λ t. let domain = test.0 t in (domain.0, same.0 domain.1), λ domain. test.1 (domain.0, same.1 domain.1))
+
+  -- a nearest quotient that fits is a result in the domain, also if the number n is given as m
+  pub nearest_answer : {fits : ℤ → Type 0} {n m d q : ℤ} → n ≡ m → d ≢ pos 0 → fits q → IsQuotient Kind n d q → ((d ≢ pos 0) × EachFits fits (IsQuotient Kind m d)) × (fits q × IsQuotient Kind m d q)
+  nearest_answer {fits} {n} {m} {d} {q} same nonzero q_fits h =
+      let own = rw same at h in
+      let answer = answer_only {P = IsQuotient Kind m d} {w = q} own (λ y k. (rounding.kind.only own.division k.division).0) q_fits refl in
+      ((nonzero, answer.0), answer.1)
+
+  module _ (fits : ℤ → Type 0) {X : Type 0} (value : X → ℤ) (result : Option X) where
+    -- the quotient of the magnitudes, with the sign of the quotient, is the answer if it fits
+    pub answer_by_magnitudes : (number divisor : Bool × ℕ) {q : ℕ} {n d : ℤ} → signed number.0 number.1 ≡ n → signed divisor.0 divisor.1 ≡ d → d ≢ pos 0 → IsQuotient Kind (pos number.1) (pos divisor.1) (pos q)
+        → AnswersWhere (fits (signed (not (beq number.0 divisor.0)) q)) (FitsWith fits value (λ z. z ≡ signed (not (beq number.0 divisor.0)) q)) result → AnswersQuotient Kind fits value n d result
+    answer_by_magnitudes number divisor {q} {n} {d} is by nonzero h answer =
+        let own = rw (is, by) at (quotient_by_magnitudes rounding number.0 divisor.0 number.1 divisor.1 q h) in
+        answers_as result (λ each. (nonzero, each), λ domain. domain.1) (λ x each. each)
+        (answers_only fits (IsQuotient Kind n d) value result own (λ y k. (rounding.kind.only own.division k.division).0) answer)
+
+    -- a part of a number fits, so there is a result
+    pub part_answered : {low high a b d : ℤ} → IsRange fits low high → fits a → AnswersQuotient Kind fits value (a *ℤ b) d result → pos 0 ≤ℤ a → pos 0 ≤ℤ b → b ≤ℤ d → pos 0 <ℤ d → IsSome result
+    part_answered range a_fits answer a_up b_up within up =
+        some_in_domain (FitsWith fits value (IsQuotient Kind _ _)) result answer (λ zero. omega (arith, linear), λ q h. part_fits range a_fits a_up b_up within up (rounding.kind.division h.division))
