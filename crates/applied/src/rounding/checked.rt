@@ -64,6 +64,7 @@ pub fn product_div_round<T: NativeInteger<Magnitude = u64>>(a: T, b: T, d: T) ->
 
 /// Returns the quotient of [`product_div_round`], computed in 128 bits, or `None` if it does not fit. That of the magnitudes has the
 /// magnitude of that of the numbers.
+#[tactic(auto, using(crate::proofs::NearestQuotients::magnitude_nonzero))]
 fn wide_product_div_round<T: NativeInteger<Magnitude = u64>>(a: T, b: T, d: T) -> Option<T>
     requires in_range { T.fits (T.value a) × T.fits (T.value b) × T.fits (T.value d) }
     requires nonzero { T.value d ≢ pos 0 }
@@ -95,6 +96,7 @@ pub fn product_div_round_even<T: NativeInteger<Magnitude = u64>>(a: T, b: T, d: 
 
 /// Returns the quotient of [`product_div_round_even`], computed in 128 bits, or `None` if it does not fit. That of the magnitudes has
 /// the magnitude of that of the numbers.
+#[tactic(auto, using(crate::proofs::NearestQuotients::magnitude_nonzero))]
 fn wide_product_div_round_even<T: NativeInteger<Magnitude = u64>>(a: T, b: T, d: T) -> Option<T>
     requires in_range { T.fits (T.value a) × T.fits (T.value b) × T.fits (T.value d) }
     requires nonzero { T.value d ≢ pos 0 }

@@ -1,9 +1,6 @@
 use Rattle.applied.proofs.NearestAnswers.{answer_by_magnitudes}
-use Rattle.applied.proofs.NearestQuotients.{magnitude_nonzero, nearest_even}
+use Rattle.applied.proofs.NearestQuotients.{nearest_even}
 use Rattle.applied.proofs.rounding.checked.wide_product_div_round_even.Goals as goal
-
-pub div_round_even-magnitude-requires-clause-nonzero : goal.div_round_even-magnitude-requires-clause-nonzero
-div_round_even-magnitude-requires-clause-nonzero g c = rw c.from.ensures (magnitude_nonzero c.parts_of-divisor.result.0 c.parts_of-divisor.result.1 (rw (← c.parts_of-divisor.ensures) at c.requires.nonzero))
 
 pub returns : goal.returns
 returns g c =
