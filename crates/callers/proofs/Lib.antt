@@ -1,1 +1,2 @@
 mod AffineCiphers
+mod Gears

@@ -30,7 +30,7 @@ pub use Rattle.num_integer.specs.Checked.{AnswersWhere}
 pub use Rattle.num_integer.specs.Division.{IsCeiled, IsDivision, IsFloored, IsQuotient, IsTruncated}
 pub use Rattle.num_integer.specs.Divisors.{Divides, IsEven, IsGreatestCommonDivisor}
 pub use Rattle.num_integer.specs.Only.{IsOnly}
-pub use Rattle.num_integer.specs.Range.{EachFits}
+pub use Rattle.num_integer.specs.Range.{EachFits, IsRange}
 pub use Rattle.ratio64.specs.Decimal.{SpellsDecimal, decimal_text, places_of, units_of}
 pub use Rattle.ratio64.specs.Fraction.{AreEqual, IsExact, IsFraction, IsOutsideI64, IsReduced, fraction_cmp}
 pub use Rattle.ratio64.specs.Laws.{AnswerIsOnly, DecimalIsSpelled, RatioOfPartsIsOnly, ReadingIsOnly, RoundedEvenIsOnly, RoundedIsOnly, SpelledDecimalIsOnly, TextIsReadBack}

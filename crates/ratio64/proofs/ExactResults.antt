@@ -1,5 +1,5 @@
 -- The exact result of a fraction: its parts by their gcd, with a positive denominator.
-use Rattle.ratio64.proofs.Common.{◌≡◌, ◌≢◌, ◌↔◌, ◌≤◌, ◌<ℤ◌, ◌≤ℤ◌, ◌*ℤ◌, ℤ, pos, negsuc, neg_ℤ, suc, int_div, unsigned_abs, arith, ap, le-mul_of_pos_right, refl, subst, sym, ◌∙◌, ints, unsigned_abs-mul, Divides-refl, cancel, comm, divided_by_gcd, divisor_at_most, exact_quotient, expand, factor_positive, gcd-divisor, gcd-nonzero, gcd-positive, linear, mul-one, one_divides, products, sizes, gcd_exists, Divides, IsGreatestCommonDivisor, AreEqual, IsExact, IsFraction, IsReduced, positive_is_nonzero, same_pair}
+use Rattle.ratio64.proofs.Common.{◌≡◌, ◌≢◌, ◌↔◌, ◌≤◌, ◌<ℤ◌, ◌≤ℤ◌, ◌*ℤ◌, ℤ, pos, negsuc, neg_ℤ, suc, int_div, unsigned_abs, arith, ap, le-mul_of_pos_right, refl, subst, sym, ◌∙◌, ints, unsigned_abs-mul, Divides-refl, cancel, comm, divided_by_gcd, divisor_at_most, exact_quotient, expand, factor_positive, gcd-divisor, gcd-nonzero, gcd-positive, linear, mul-one, one_divides, products, sizes, gcd_exists, Divides, IsGreatestCommonDivisor, AreEqual, IsExact, IsFraction, IsReduced, positive_is_nonzero, same_pair, le_refl, divisor_size}
 
 -- ---- there is only one
 
@@ -27,6 +27,9 @@ pub quotient_at_most : {n g : ℤ} → g ≢ pos 0 → Divides g n → unsigned_
 quotient_at_most {n} {g} nonzero h =
     let size = ap unsigned_abs (exact_quotient nonzero h) ∙ unsigned_abs-mul g (int_div n g) in
     omega (arith, le-mul_of_pos_right {m = unsigned_abs g} (unsigned_abs (int_div n g)) (omega (arith, sizes)))
+
+-- for `grind`: the gcd of both parts and the quotients by it are no larger than the parts
+pub ruleset quotient_steps = (le_refl, divisor_size, gcd-nonzero, positive_is_nonzero, quotient_at_most)
 
 -- if the denominator is positive, the quotients of both parts by the gcd are the exact result
 pub exact_quotients : {a b g : ℤ} → pos 0 <ℤ b → IsGreatestCommonDivisor a b g → IsExact a b (int_div a g) (int_div b g)

@@ -1,5 +1,5 @@
 -- Quotients by a positive number, and the nearest integer.
-use Rattle.ratio64.proofs.Common.{◌≡◌, ◌⊎◌, ◌<◌, ◌≤◌, ◌*◌, ◌^◌, ◌<ℤ◌, ◌≤ℤ◌, ◌+ℤ◌, ◌-ℤ◌, ◌*ℤ◌, ℤ, pos, negsuc, neg_ℤ, unsigned_abs, FitsSigned, MatchOption, Option, Some, None, Width, w64, ap, arith, inl, inr, subst, sym, by_lt_z, ints, LiesWithin, expand, floored_range, linear, multiples_apart, product_from_zero, products, sizes, zero_or_not, division_exists, AnswersWhere, IsDivision, IsFloored, IsQuotient, IsTruncated, IsEven, IsOnly, EachFits, RoundedEvenIsOnly, RoundedIsOnly, IsRounded, IsRoundedEven}
+use Rattle.ratio64.proofs.Common.{◌≡◌, ◌⊎◌, ◌<◌, ◌≤◌, ◌*◌, ◌^◌, ◌<ℤ◌, ◌≤ℤ◌, ◌+ℤ◌, ◌-ℤ◌, ◌*ℤ◌, ℤ, pos, negsuc, neg_ℤ, unsigned_abs, FitsSigned, MatchOption, Option, Some, None, Width, w64, w128, of_z, to_z, fits_signed_from_abs, to_z-of_z, ap, arith, inl, inr, subst, sym, by_lt_z, ints, LiesWithin, expand, floored_range, linear, multiples_apart, product_from_zero, products, sizes, zero_or_not, division_exists, AnswersWhere, IsDivision, IsFloored, IsQuotient, IsTruncated, IsEven, IsOnly, EachFits, IsRange, within_fits, RoundedEvenIsOnly, RoundedIsOnly, IsRounded, IsRoundedEven}
 
 -- ---- a quotient by a positive number fits if the dividend does
 
@@ -25,6 +25,9 @@ module _ {n d q r : ℤ} (up : pos 0 <ℤ d) (h : IsDivision n d q r) where
 
   pub quotient_fits : (w : Width) → FitsSigned w n → FitsSigned w q
   quotient_fits w fits = between_fits w n q fits quotient_within
+
+  pub quotient_in_range : {fits : ℤ → Type 0} {low high : ℤ} → IsRange fits low high → fits n → fits q
+  quotient_in_range range n_fits = within_fits range n_fits quotient_within
 
   pub quotient_size : unsigned_abs q ≤ unsigned_abs n
   quotient_size = omega (arith, sizes, quotient_within)
@@ -123,7 +126,9 @@ narrowed_answer (Some q) own only is = (λ y h. subst (FitsSigned w64) (sym (onl
 pub quotient_is_only : {Kind : ℤ → ℤ → ℤ → ℤ → Type 0} {n d q : ℤ} → ((n d q r : ℤ) → Kind n d q r → IsOnly (λ (p, s). Kind n d p s) (q, r)) → IsQuotient Kind n d q → IsOnly (IsQuotient Kind n d) q
 quotient_is_only only h p k = ap (λ (t : ℤ × ℤ). t.0) (only _ _ _ _ h.division (p, k.remainder) k.division)
 
--- and of the quotient of a kind
-pub narrowed_quotient : {Kind : ℤ → ℤ → ℤ → ℤ → Type 0} {n d q : ℤ} (r : Option ℤ) → ((n d q r : ℤ) → Kind n d q r → IsOnly (λ (p, s). Kind n d p s) (q, r)) → IsQuotient Kind n d q
-    → MatchOption r (¬ (FitsSigned w64 q)) (λ p. FitsSigned w64 q × (p ≡ q)) → AnswersWhere (EachFits (FitsSigned w64) (IsQuotient Kind n d)) (IsQuotient Kind n d) r
-narrowed_quotient r only own is = narrowed_answer r own (quotient_is_only only own) is
+-- of a number that is rounded of a product with n, both read from their bits
+pub narrowed_times : (P : ℤ → ℤ → Type 0) {n z : ℤ} (r : Option ℤ) → FitsSigned w64 n → P (to_z w64 (of_z w64 n)) z → unsigned_abs z < 2 ^ 127 → (P n z → IsOnly (P n) z)
+    → MatchOption r (¬ (FitsSigned w64 (to_z w128 (of_z w128 z)))) (λ q. FitsSigned w64 (to_z w128 (of_z w128 z)) × (q ≡ to_z w128 (of_z w128 z))) → AnswersWhere (EachFits (FitsSigned w64) (P n)) (P n) r
+narrowed_times P {n} {z} r n_fits own below only is =
+    let at_n : P n z = subst (λ (t : ℤ). P t z) (to_z-of_z w64 n n_fits) own in
+    narrowed_answer r at_n (only at_n) (rw (to_z-of_z w128 z (fits_signed_from_abs w128 z below)) at is)

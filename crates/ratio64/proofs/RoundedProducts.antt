@@ -25,3 +25,6 @@ module _ {num den t p q : ℤ} (h : AreTimes num den t p q) where
       let own = rw (read p h.num_below, den_read) at k in
       let product : to_z w128 (of_z w128 p) ≡ num *ℤ n = read p h.num_below ∙ rw (same, to_z-of_z w64 n n_fits) at h.num_is in
       rw (to_z-of_z w128 r fits) (rw (product, den_read) at k, quotient_below h.positive (divided p den h.positive own).1 h.num_below)
+
+-- for `grind`: the denominator of such a product
+pub ruleset of_times = (den_positive, den_nonzero)

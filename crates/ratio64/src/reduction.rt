@@ -18,6 +18,7 @@ pub(crate) fn product(a: i64, b: i64) -> i128
 }
 
 /// Returns the numerator of the sum of `a / b` and `c / d` over the product of their denominators.
+#[tactic(auto, using(crate::proofs::WideSums::numbers_read))]
 pub(crate) fn numerator_of_sum(a: i64, b: i64, c: i64, d: i64) -> i128
     requires b_positive { pos 0 <ℤ b }
     requires d_positive { pos 0 <ℤ d }
@@ -29,6 +30,7 @@ pub(crate) fn numerator_of_sum(a: i64, b: i64, c: i64, d: i64) -> i128
 
 /// Returns the numerator of the difference of `a / b` and `c / d` over the product of their
 /// denominators.
+#[tactic(auto, using(crate::proofs::WideSums::numbers_read))]
 pub(crate) fn numerator_of_difference(a: i64, b: i64, c: i64, d: i64) -> i128
     requires b_positive { pos 0 <ℤ b }
     requires d_positive { pos 0 <ℤ d }
@@ -62,6 +64,7 @@ pub(crate) fn lowest_terms(num: i128, den: i128) -> Result<(i64, i64), RatioErro
 /// fractions need no divisor: 0 over any number is 0/1, and a number over itself is 1/1.
 ///
 /// Each number of at most the magnitude of a part must fit.
+#[tactic(auto, using(crate::proofs::ExactResults::quotient_steps))]
 fn reduced_terms<T: Integer + Copy>(num: T, den: T) -> (T, T)
     requires num_sizes { (z : ℤ) → unsigned_abs z ≤ unsigned_abs (T.value num) → T.fits z }
     requires den_sizes { (z : ℤ) → unsigned_abs z ≤ unsigned_abs (T.value den) → T.fits z }
@@ -91,8 +94,9 @@ fn with_positive_denominator<T: Integer + Copy>(num: T, den: T) -> (T, T)
     requires num_sizes { (z : ℤ) → unsigned_abs z ≤ unsigned_abs (T.value num) → T.fits z }
     requires den_sizes { (z : ℤ) → unsigned_abs z ≤ unsigned_abs (T.value den) → T.fits z }
     requires fraction { IsFraction (T.value num) (T.value den) }
-    ensures sizes { (unsigned_abs (T.value result.0) ≡ unsigned_abs (T.value num))
-        × (unsigned_abs (T.value result.1) ≡ unsigned_abs (T.value den)) }
+    ensures in_range { T.fits (T.value result.0) × T.fits (T.value result.1) }
+    ensures num_sizes { (z : ℤ) → unsigned_abs z ≤ unsigned_abs (T.value result.0) → T.fits z }
+    ensures den_sizes { (z : ℤ) → unsigned_abs z ≤ unsigned_abs (T.value result.1) → T.fits z }
     ensures positive { pos 0 <ℤ T.value result.1 }
     ensures equal { AreEqual (T.value result.0) (T.value result.1) (T.value num) (T.value den) }
 {

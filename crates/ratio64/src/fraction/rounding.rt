@@ -1,7 +1,7 @@
 //! Rounding to integers.
 
-ghost use Rattle.std.specs.Prelude.{◌≡◌, ◌↔◌, ◌<ℤ◌, ℤ, pos, IsTrue};
-ghost use Rattle.num_integer.specs.Division.{IsDivision, IsQuotient, IsRemainder, IsTruncated};
+ghost use Rattle.std.specs.Prelude.{◌≡◌, ◌↔◌, ◌<ℤ◌, pos, IsTrue};
+ghost use Rattle.num_integer.specs.Division.{IsQuotient, IsRemainder, IsTruncated};
 ghost use Rattle.ratio64.specs.Ratio.{num_of, den_of};
 ghost use Rattle.ratio64.specs.Rounding.{IsRounded, IsRoundedEven};
 
@@ -64,7 +64,6 @@ impl Ratio {
 pub(crate) fn nearest<T: Integer + Copy>(num: T, den: T) -> T
     requires in_range { T.fits (T.value num) × T.fits (T.value den) }
     requires positive { pos 0 <ℤ T.value den }
-    requires quotients_fit { (q r : ℤ) → IsDivision (T.value num) (T.value den) q r → T.fits q }
     ensures in_range { T.fits (T.value result) }
     ensures rounded { IsRounded (T.value num) (T.value den) (T.value result) }
 {
@@ -86,7 +85,6 @@ pub(crate) fn nearest<T: Integer + Copy>(num: T, den: T) -> T
 pub(crate) fn nearest_even<T: Integer + Copy>(num: T, den: T) -> T
     requires in_range { T.fits (T.value num) × T.fits (T.value den) }
     requires positive { pos 0 <ℤ T.value den }
-    requires quotients_fit { (q r : ℤ) → IsDivision (T.value num) (T.value den) q r → T.fits q }
     ensures in_range { T.fits (T.value result) }
     ensures rounded { IsRoundedEven (T.value num) (T.value den) (T.value result) }
 {

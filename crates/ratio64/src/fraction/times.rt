@@ -156,6 +156,7 @@ impl Ratio {
     }
 
     /// Returns the fraction times `n`, rounded down, which may not fit an `i64`.
+    #[tactic(auto, using(crate::proofs::RoundedProducts::of_times))]
     fn wide_floor_times(&self, n: i64) -> i128
         ensures floored { IsQuotient IsFloored (num_of self.now *ℤ n) (den_of self.now) result }
         ensures below { unsigned_abs result < 2 ^ 127 }
@@ -165,6 +166,7 @@ impl Ratio {
     }
 
     /// Returns the fraction times `n`, rounded up, which may not fit an `i64`.
+    #[tactic(auto, using(crate::proofs::RoundedProducts::of_times))]
     fn wide_ceil_times(&self, n: i64) -> i128
         ensures ceiled { IsQuotient IsCeiled (num_of self.now *ℤ n) (den_of self.now) result }
         ensures below { unsigned_abs result < 2 ^ 127 }
@@ -175,6 +177,7 @@ impl Ratio {
 
     /// Returns the fraction times `n`, rounded to the nearest integer and a half away from 0, which may not
     /// fit an `i64`.
+    #[tactic(auto, using(crate::proofs::RoundedProducts::of_times))]
     fn wide_round_times(&self, n: i64) -> i128
         ensures rounded { IsRounded (num_of self.now *ℤ n) (den_of self.now) result }
         ensures below { unsigned_abs result < 2 ^ 127 }
@@ -185,6 +188,7 @@ impl Ratio {
 
     /// Returns the fraction times `n`, rounded to the nearest integer and a half to the even one, which may
     /// not fit an `i64`.
+    #[tactic(auto, using(crate::proofs::RoundedProducts::of_times))]
     pub(crate) fn wide_round_even_times(&self, n: i64) -> i128
         ensures rounded { IsRoundedEven (num_of self.now *ℤ n) (den_of self.now) result }
         ensures below { unsigned_abs result < 2 ^ 127 }

@@ -1,11 +1,5 @@
 use Rattle.ratio64.proofs.Common.{rules, w64, to_z-of_z, den_of, num_of}
-use Rattle.ratio64.proofs.NearestNumbers.{quotient_fits}
 use Rattle.ratio64.proofs.fraction.Ratio.round_even.Goals as goal
-
-pub nearest_even-requires-clause-quotients_fit : goal.nearest_even-requires-clause-quotients_fit
-nearest_even-requires-clause-quotients_fit c =
-    let x = c.args.self.now in
-    rw (to_z-of_z w64 (num_of x) (search rules), to_z-of_z w64 (den_of x) (search rules)) (λ q r h. quotient_fits x.reduced.positive h w64 (search rules))
 
 pub returns : goal.returns
 returns c =

@@ -1,9 +1,6 @@
 use Rattle.ratio64.proofs.Common.{refl, IsCeiled, IsQuotient}
-use Rattle.ratio64.proofs.RoundedProducts.{den_nonzero, wide_quotient_fits, wide_rounded}
+use Rattle.ratio64.proofs.RoundedProducts.{wide_quotient_fits, wide_rounded}
 use Rattle.ratio64.proofs.fraction.Ratio.wide_ceil_times.Goals as goal
-
-pub div_ceil-requires-clause-nonzero : goal.div_ceil-requires-clause-nonzero
-div_ceil-requires-clause-nonzero c = den_nonzero c.times-num.ensures
 
 pub div_ceil-requires-clause-quotient_fits : goal.div_ceil-requires-clause-quotient_fits
 div_ceil-requires-clause-quotient_fits c = λ q h. wide_quotient_fits c.times-num.ensures q _ h.division.division

@@ -1,5 +1,5 @@
 use Rattle.ratio64.proofs.Common.{◌≡◌, ◌+ℤ◌, ◌-ℤ◌, neg_ℤ, pos, true, false, arith, inl, from_test, linear, sizes, within_fits, positive_is_nonzero, IsRounded}
-use Rattle.ratio64.proofs.NearestNumbers.{rounded_above, rounded_below, rounded_division}
+use Rattle.ratio64.proofs.NearestNumbers.{quotient_in_range, rounded_above, rounded_below, rounded_division}
 use Rattle.ratio64.proofs.fraction.rounding.nearest.Given.{Over}
 use Rattle.ratio64.proofs.fraction.rounding.nearest.Goals as goal
 use Rattle.ratio64.proofs.fraction.rounding.nearest.Goals.{After-is_below, After-is_below-else-is_negative}
@@ -8,7 +8,7 @@ pub div_rem-whole-requires-clause-nonzero : goal.div_rem-whole-requires-clause-n
 div_rem-whole-requires-clause-nonzero g c = positive_is_nonzero c.requires.positive
 
 pub div_rem-whole-requires-clause-quotient_fits : goal.div_rem-whole-requires-clause-quotient_fits
-div_rem-whole-requires-clause-quotient_fits g c = λ q h. c.requires.quotients_fit q h.remainder h.division.division
+div_rem-whole-requires-clause-quotient_fits g c = λ q h. quotient_in_range c.requires.positive h.division.division g.met.T.Integer.range_law c.requires.in_range.0
 
 pub negated-requires-clause-negation_fits : goal.negated-requires-clause-negation_fits
 negated-requires-clause-negation_fits g c =
@@ -35,7 +35,8 @@ below g c far is =
 
 pub predecessor-requires-clause-difference_fits : goal.predecessor-requires-clause-difference_fits
 predecessor-requires-clause-difference_fits g c =
-    c.requires.quotients_fit _ _ (rounded_division c.requires.positive (below g (goal.at.predecessor-requires-clause-difference_fits g c).After-is_below c.if-is_below.false c.if-is_negative.true))
+    let is = below g (goal.at.predecessor-requires-clause-difference_fits g c).After-is_below c.if-is_below.false c.if-is_negative.true in
+    quotient_in_range c.requires.positive (rounded_division c.requires.positive is) g.met.T.Integer.range_law c.requires.in_range.0
 
 pub returns-else-is_below-clause-rounded : goal.returns-else-is_below-clause-rounded
 returns-else-is_below-clause-rounded g c = rw c.predecessor.ensures.value (below g (goal.at.returns-else-is_below-clause-rounded g c).After-is_below c.if-is_below.false c.if-is_negative.true)
@@ -47,7 +48,8 @@ above g c far is =
 
 pub successor-requires-clause-sum_fits : goal.successor-requires-clause-sum_fits
 successor-requires-clause-sum_fits g c =
-    c.requires.quotients_fit _ _ (rounded_division c.requires.positive (above g (goal.at.successor-requires-clause-sum_fits g c).After-is_below-else-is_negative c.if-is_below-2.false c.if-is_negative.false))
+    let is = above g (goal.at.successor-requires-clause-sum_fits g c).After-is_below-else-is_negative c.if-is_below-2.false c.if-is_negative.false in
+    quotient_in_range c.requires.positive (rounded_division c.requires.positive is) g.met.T.Integer.range_law c.requires.in_range.0
 
 pub returns-else-is_below-2-clause-rounded : goal.returns-else-is_below-2-clause-rounded
 returns-else-is_below-2-clause-rounded g c = rw c.successor.ensures.value (above g (goal.at.returns-else-is_below-2-clause-rounded g c).After-is_below-else-is_negative c.if-is_below-2.false c.if-is_negative.false)

@@ -1,8 +1,11 @@
 use Rattle.ratio64.proofs.Common.{◌+ℤ◌, pos, arith, inl, inr, sym, ◌∙◌, iff_false, from_test, linear, IsRoundedEven}
-use Rattle.ratio64.proofs.NearestNumbers.{rounded_even_above, rounded_even_below, rounded_even_division}
+use Rattle.ratio64.proofs.NearestNumbers.{quotient_in_range, rounded_even_above, rounded_even_below, rounded_even_division}
 use Rattle.ratio64.proofs.fraction.rounding.nearest_even.Given.{Over}
 use Rattle.ratio64.proofs.fraction.rounding.nearest_even.Goals as goal
 use Rattle.ratio64.proofs.fraction.rounding.nearest_even.Goals.{Else-is_even, else-is_below+else-is_equal, else-is_below+then-is_equal, then-is_below}
+
+pub div_mod_floor-below-requires-clause-quotient_fits : goal.div_mod_floor-below-requires-clause-quotient_fits
+div_mod_floor-below-requires-clause-quotient_fits g c = λ q h. quotient_in_range c.requires.positive h.division.division g.met.T.Integer.range_law c.requires.in_range.0
 
 pub returns-then-is_even-clause-rounded : goal.returns-then-is_even-clause-rounded
 returns-then-is_even-clause-rounded g c =
@@ -30,7 +33,9 @@ above g c =
     ]
 
 pub successor-requires-clause-sum_fits : goal.successor-requires-clause-sum_fits
-successor-requires-clause-sum_fits g c = c.requires.quotients_fit _ _ (rounded_even_division c.requires.positive (above g (goal.at.successor-requires-clause-sum_fits g c).Else-is_even))
+successor-requires-clause-sum_fits g c =
+    let is = above g (goal.at.successor-requires-clause-sum_fits g c).Else-is_even in
+    quotient_in_range c.requires.positive (rounded_even_division c.requires.positive is) g.met.T.Integer.range_law c.requires.in_range.0
 
 pub returns-else-is_even-clause-rounded : goal.returns-else-is_even-clause-rounded
 returns-else-is_even-clause-rounded g c = rw c.successor.ensures.value (above g (goal.at.returns-else-is_even-clause-rounded g c).Else-is_even)
