@@ -90,6 +90,7 @@ fn reduced_terms<T: Integer + Copy>(num: T, den: T) -> (T, T)
 /// Returns both parts, negated if the denominator is negative.
 ///
 /// The precondition is that of [`reduced_terms`].
+#[tactic(auto, using(num_integer::proofs::ForCallers::sizes))]
 fn with_positive_denominator<T: Integer + Copy>(num: T, den: T) -> (T, T)
     requires num_sizes { (z : ℤ) → unsigned_abs z ≤ unsigned_abs (T.value num) → T.fits z }
     requires den_sizes { (z : ℤ) → unsigned_abs z ≤ unsigned_abs (T.value den) → T.fits z }

@@ -11,9 +11,6 @@ returns-then-is_equal-clause-exact g c =
     let same = c.is_equal.ensures.0 c.if-is_equal.true in
     rw (c.one-then-is_equal.ensures.value, c.one-then-is_equal-2.ensures.value) (same_result c.requires.fraction (record { cross = omega (arith, products, same) }) (whole_is_exact (pos 1)))
 
-pub returns-then-is_zero-clause-in_range : goal.returns-then-is_zero-clause-in_range
-returns-then-is_zero-clause-in_range g c = (c.requires.num_sizes _ (le_refl _), c.one.ensures.in_range)
-
 pub returns-then-is_below-clause-exact : goal.returns-then-is_below-clause-exact
 returns-then-is_below-clause-exact g c =
     let turned = c.with_positive_denominator-num.ensures in
