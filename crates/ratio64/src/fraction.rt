@@ -137,6 +137,7 @@ impl Ratio {
     /// # Errors
     ///
     /// - [`RatioError::NotFitting`] if a part of the product does not fit an `i64`.
+    #[tactic(auto, using(crate::proofs::WideSums::numbers_read))]
     pub fn checked_mul(&self, other: &Self) -> Result<Self, RatioError>
         ensures product { AnswersFraction (num_of self.now *ℤ num_of other.now)
             (den_of self.now *ℤ den_of other.now) result }

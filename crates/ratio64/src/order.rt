@@ -19,6 +19,7 @@ impl Ord for Ratio {
 
     ghost matches_eq = { λ x y. ties_of_reduced x.reduced y.reduced };
 
+    #[tactic(auto, using(crate::proofs::WideSums::numbers_read))]
     fn cmp(&self, other: &Self) -> Ordering {
         product(self.num(), other.den()).cmp(&product(other.num(), self.den()))
     }
