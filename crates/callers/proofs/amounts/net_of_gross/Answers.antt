@@ -12,15 +12,17 @@ wide gross_fits rate_fits = (omega (arith, ints), omega (arith, ints), omega (ar
 
 pub returns-in_err-net : goal.returns-in_err-net
 returns-in_err-net c =
-    let (gross, rate, product, divisor) = wide c.ranges.gross c.ranges.rate_percent in
+    let gross_fits = c.ranges.gross in
+    let rate_fits = c.ranges.rate_percent in
+    let (gross, rate, product, divisor) = wide gross_fits rate_fits in
     let none = simp (c.from.ensures, c.from-2.ensures, to_z-of_z) at c.in_err-net.ensures.answer in
     rw c.from_residual.ensures (none_narrower _ (FitsSigned w128) _ (λ z fits. omega (arith, ints)) none)
 
 pub returns : goal.returns
 returns c =
-    let (gross, rate, product, divisor) = wide c.ranges.gross c.ranges.rate_percent in
-    let narrow_gross = c.ranges.gross in
-    let narrow_rate = c.ranges.rate_percent in
+    let gross_fits = c.ranges.gross in
+    let rate_fits = c.ranges.rate_percent in
+    let (gross, rate, product, divisor) = wide gross_fits rate_fits in
     let net = c.in_ok-net.ensures.answer.1.0 in
     let found = simp (c.from.ensures, c.from-2.ensures, to_z-of_z) at c.in_ok-net.ensures.answer in
     rw c.ok.ensures.value (narrowed (λ (z : ℤ). z) (FitsSigned w64) _ c.try_from.result found.0.0 found.1.1 (nearest_even_quotient_is_only _ _ _ found.1.1) (simp to_z-of_z at c.try_from.ensures))
