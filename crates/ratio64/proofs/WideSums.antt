@@ -14,6 +14,9 @@ read x h = to_z-of_z w128 x (fits_signed_from_abs w128 x h)
 -- for `grind`: sums, differences and sizes of numbers that are read back from their bits
 pub ruleset numbers_read = (sizes, to_z-of_z)
 
+-- for `grind`: numbers of 128 bits by their size
+pub ruleset wide_by_size = (numbers_read, fits_signed_from_abs)
+
 pub read_product : (x : ℤ) → unsigned_abs x < 2 ^ 126 → to_z w128 (of_z w128 x) ≡ x
 read_product x h = read x (omega arith)
 
@@ -36,13 +39,5 @@ product_by_positive a b a_fits b_fits up =
     let small : unsigned_abs b ≤ 2 ^ 63 - 1 = omega arith in
     rw (unsigned_abs-mul a b) (omega (arith, mul-le-mul (part_size a a_fits) small))
 
--- both are widened, multiplied and read
-pub wide_product : {a b x y : ℤ} → FitsSigned w64 a → FitsSigned w64 b → x ≡ to_z w64 (of_z w64 a) → y ≡ to_z w64 (of_z w64 b)
-    → to_z w128 (of_z w128 (to_z w128 (of_z w128 x) *ℤ to_z w128 (of_z w128 y))) ≡ a *ℤ b
-wide_product {a} {b} a_fits b_fits e f =
-    let left = part_size a a_fits in
-    let right = part_size b b_fits in
-    rw (e, f, to_z-of_z w64 a a_fits, to_z-of_z w64 b b_fits, read a (omega arith), read b (omega arith)) (read _ (product_below a b a_fits b_fits))
-
-pub read_value : {a b p : ℤ} → FitsSigned w64 a → FitsSigned w64 b → p ≡ to_z w64 (of_z w64 a) *ℤ to_z w64 (of_z w64 b) → unsigned_abs p < 2 ^ 127 → to_z w128 (of_z w128 p) ≡ a *ℤ b
-read_value {a} {b} {p} a_fits b_fits value below = rw (read p below) (rw (to_z-of_z w64 a a_fits, to_z-of_z w64 b b_fits) at value)
+-- for `grind`: products of two parts
+pub ruleset products_by_size = (wide_by_size, product_below, product_by_positive)

@@ -153,6 +153,7 @@ impl Ratio {
     ///
     /// - [`RatioError::ZeroDenominator`] if `other` is 0;
     /// - [`RatioError::NotFitting`] if a part of the quotient does not fit an `i64`.
+    #[tactic(auto, using(crate::proofs::WideSums::numbers_read))]
     pub fn checked_div(&self, other: &Self) -> Result<Self, RatioError>
         ensures quotient { AnswersFraction (num_of self.now *ℤ den_of other.now)
             (num_of other.now *ℤ den_of self.now) result }

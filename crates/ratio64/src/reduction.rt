@@ -9,6 +9,7 @@ use num_integer::operators::{is_below, is_equal, is_negative, is_zero, negated, 
 use num_integer::{Integer, gcd};
 
 /// Returns the product of two parts.
+#[tactic(auto, using(crate::proofs::WideSums::products_by_size))]
 pub(crate) fn product(a: i64, b: i64) -> i128
     ensures value { result ≡ a *ℤ b }
     ensures below { unsigned_abs result < 2 ^ 127 }
@@ -42,6 +43,7 @@ pub(crate) fn numerator_of_difference(a: i64, b: i64, c: i64, d: i64) -> i128
 
 /// Returns the lowest terms of `num / den`, or `NotFitting` if they do not fit. Parts that have 64 bits
 /// are divided in 64 bits.
+#[tactic(auto, using(crate::proofs::WideSums::wide_by_size))]
 pub(crate) fn lowest_terms(num: i128, den: i128) -> Result<(i64, i64), RatioError>
     requires num_below { unsigned_abs num < 2 ^ 127 }
     requires den_below { unsigned_abs den < 2 ^ 127 }

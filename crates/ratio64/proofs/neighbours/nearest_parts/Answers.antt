@@ -35,14 +35,8 @@ nearer-requires-else-num-den c =
     let made = (gaps_make c.neighbours-else-num-den.ensures.neighbours).1 in
     rw (c.reciprocal.ensures.gap, c.reciprocal.ensures.den, c.reciprocal-else-num-den.ensures.gap, c.reciprocal-else-num-den.ensures.den) (omega (arith, made, c.requires.half))
 
-pub returns-then-num-den-clause-nearest : goal.returns-then-num-den-clause-nearest
-returns-then-num-den-clause-nearest c = let h = near (goal.at.returns-then-num-den-clause-nearest c).After-nearer in parts_of_nearest h.part.proper h.nearest
+pub returns-then-num-den : goal.returns-then-num-den
+returns-then-num-den c = let h = near (goal.at.returns-then-num-den c).After-nearer in record { nearest = parts_of_nearest h.part.proper h.nearest; reduced = h.reduced }
 
-pub returns-then-num-den-clause-reduced : goal.returns-then-num-den-clause-reduced
-returns-then-num-den-clause-reduced c = (near (goal.at.returns-then-num-den-clause-reduced c).After-nearer).reduced
-
-pub returns-else-num-den-clause-nearest : goal.returns-else-num-den-clause-nearest
-returns-else-num-den-clause-nearest c = (over (goal.at.returns-else-num-den-clause-nearest c).After-nearer-else-num-den).nearest
-
-pub returns-else-num-den-clause-reduced : goal.returns-else-num-den-clause-reduced
-returns-else-num-den-clause-reduced c = (over (goal.at.returns-else-num-den-clause-reduced c).After-nearer-else-num-den).reduced
+pub returns-else-num-den : goal.returns-else-num-den
+returns-else-num-den c = let h = over (goal.at.returns-else-num-den c).After-nearer-else-num-den in record { nearest = h.nearest; reduced = h.reduced }

@@ -17,10 +17,3 @@ returns-in-Some-Some c =
     let num = narrowed_value {m = c.args.num} c.requires.num_below c.in-Some-Some.ensures in
     let den = narrowed_value {m = c.args.den} c.requires.den_below c.in-Some-Some.ensures' in
     rw (num.0, den.0) at c.reduced_terms.ensures.exact
-
-pub reduced_terms-num-requires : goal.reduced_terms-num-requires
-reduced_terms-num-requires c = record {
-  num_sizes = smaller_fits_wide c.args.num c.requires.num_below;
-  den_sizes = smaller_fits_wide c.args.den c.requires.den_below;
-  fraction = rw (read c.args.den c.requires.den_below) c.requires.fraction;
-}

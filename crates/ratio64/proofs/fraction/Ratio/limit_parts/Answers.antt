@@ -3,26 +3,19 @@ use Rattle.std.proofs.lemmas.Int.{ints, to_z-of_z, to_z_pos}
 use Rattle.num_integer.proofs.ForCallers.{sizes}
 use Rattle.ratio64.proofs.NearestParts.{own_parts_are_nearest, signed_parts, signed_reduced}
 use Rattle.ratio64.proofs.ReducedParts.{magnitude_reduced}
+use Rattle.ratio64.proofs.WideSums.{numbers_read}
 use Rattle.ratio64.specs.Ratio.{num_of, den_of}
 use Rattle.ratio64.proofs.fraction.Ratio.limit_parts.Goals as goal
 use Rattle.ratio64.proofs.fraction.Ratio.limit_parts.Goals.{After-nearest_parts-nearest, After-unsigned_abs-limit}
 
 num_is : (c : After-unsigned_abs-limit) → c.unsigned_abs-num.result ≡ unsigned_abs (num_of c.args.self.now)
-num_is c =
-    let num : FitsSigned w64 c.args.self.now.num = search rules in
-    simp to_z-of_z at c.unsigned_abs-num.ensures.value
+num_is c = grind (arith, numbers_read)
 
 den_is : (c : After-unsigned_abs-limit) → pos c.unsigned_abs-den.result ≡ den_of c.args.self.now
-den_is c =
-    let den : FitsSigned w64 c.args.self.now.den = search rules in
-    let size = simp to_z-of_z at c.unsigned_abs-den.ensures.value in
-    omega (arith, sizes, size, c.args.self.now.reduced.positive)
+den_is c = grind (arith, numbers_read, c.args.self.now.reduced.positive)
 
 limit_is : (c : After-unsigned_abs-limit) → pos c.unsigned_abs-limit.result ≡ c.args.max
-limit_is c =
-    let max = c.ranges.max in
-    let size = simp to_z-of_z at c.unsigned_abs-limit.ensures.value in
-    omega (arith, sizes, size, c.requires)
+limit_is c = grind (arith, numbers_read)
 
 small : (c : After-nearest_parts-nearest) → pos c.unsigned_abs-limit.result ≡ c.args.max → c.nearest_parts-nearest.result.den < 2 ^ 63
 small c same =
