@@ -1,5 +1,5 @@
 -- The strings of decimal numbers: what they spell.
-use Rattle.ratio64.proofs.Common.{⊤, ◌≡◌, ◌≢◌, ◌+◌, ◌*◌, ◌/◌, ◌%◌, ◌^◌, ◌<◌, ◌++◌, ◌==◌, ℕ, zero, suc, ℤ, pos, negsuc, List, [], ◌∷◌, false, true, length, unsigned_abs, digit_value, decimal, sign_text, is_negative, AllDigits, IsNumeral, digits_value, append_assoc, arith, ap, inl, inr, refl, subst, sym, ◌∙◌, cases_Bool, nat_tests, decimal_is_IsNumeral_wide, ints, digits_value_push, append-nil, length-append, digit_value_digit, digit_from_value, div-div-eq-div-mul, div-le_self, pow-succ', SpellsDecimal, places_of, units_of, DecimalIsSpelled, SpelledDecimalIsOnly, SpellsWhole, unsigned_part, whole_of}
+use Rattle.ratio64.proofs.Common.{⊤, ◌≡◌, ◌≢◌, ◌+◌, ◌/◌, ◌%◌, ◌^◌, ◌<◌, ◌++◌, ◌==◌, ℕ, zero, suc, ℤ, pos, negsuc, List, [], ◌∷◌, false, true, length, unsigned_abs, digit_value, decimal, sign_text, is_negative, AllDigits, IsNumeral, digits_value, append_assoc, arith, ap, inl, inr, refl, subst, sym, ◌∙◌, cases_Bool, nat_tests, decimal_is_IsNumeral_wide, ints, digits_value_push, append-nil, length-append, digit_value_digit, digit_from_value, div-div-eq-div-mul, div-le_self, pow-succ', SpellsDecimal, places_of, units_of, DecimalIsSpelled, SpelledDecimalIsOnly, SpellsWhole, unsigned_part}
 use Rattle.ratio64.specs.Decimal.{last_digits}
 use Rattle.ratio64.proofs.ReadTexts.{numeral_without_minus}
 

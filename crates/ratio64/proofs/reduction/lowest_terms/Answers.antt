@@ -1,5 +1,4 @@
-use Rattle.ratio64.proofs.FittingParts.{narrowed_value, smaller_fits, smaller_fits_wide}
-use Rattle.ratio64.proofs.WideSums.{read}
+use Rattle.ratio64.proofs.FittingParts.{narrowed_value, smaller_fits}
 use Rattle.ratio64.proofs.reduction.lowest_terms.Goals as goal
 
 pub reduced_terms-requires : goal.reduced_terms-requires

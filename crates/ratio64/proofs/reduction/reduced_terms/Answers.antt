@@ -1,4 +1,4 @@
-use Rattle.ratio64.proofs.Common.{pos, arith, le_refl, from_test, linear, products, positive_is_nonzero}
+use Rattle.ratio64.proofs.Common.{pos, arith, from_test, linear, products, positive_is_nonzero}
 use Rattle.ratio64.proofs.ExactResults.{coprime_is_exact, exact_quotients, same_result, whole_is_exact}
 use Rattle.ratio64.proofs.reduction.reduced_terms.Goals as goal
 

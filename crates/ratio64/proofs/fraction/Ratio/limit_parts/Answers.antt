@@ -1,6 +1,5 @@
 use Rattle.std.proofs.Common.{◌≡◌, ◌<◌, ◌^◌, FitsSigned, arith, pos, rules, unsigned_abs, w64}
 use Rattle.std.proofs.lemmas.Int.{ints, to_z-of_z, to_z_pos}
-use Rattle.num_integer.proofs.ForCallers.{sizes}
 use Rattle.ratio64.proofs.NearestParts.{own_parts_are_nearest, signed_parts, signed_reduced}
 use Rattle.ratio64.proofs.ReducedParts.{magnitude_reduced}
 use Rattle.ratio64.proofs.WideSums.{numbers_read}
