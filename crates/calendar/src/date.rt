@@ -30,7 +30,7 @@ pub struct Date {
 }
 
 impl Date {
-    ghost use Rattle.std.specs.Prelude.{◌≡◌, ◌↔◌, ◌+◌, ◌<◌, ◌≤◌, ◌^◌, ◌≤ℤ◌, ◌<ℤ◌, ◌+ℤ◌, ◌-ℤ◌, ◌*ℤ◌, ℤ, pos, unsigned_abs, FitsSigned, IfSome, IsTrue, MatchOption};
+    ghost use Rattle.std.specs.Prelude.{◌≡◌, ◌↔◌, ◌+◌, ◌<◌, ◌≤◌, ◌^◌, ◌≤ℤ◌, ◌<ℤ◌, ◌+ℤ◌, ◌-ℤ◌, ◌*ℤ◌, ℤ, pos, unsigned_abs, FitsSigned, IsTrue, MatchOption};
     ghost use Rattle.std.specs.Int.{w64};
     ghost use Rattle.std.specs.Option.{SomeIff};
     ghost use Rattle.integer_core.specs.Only.{IsOnly};
@@ -236,7 +236,9 @@ impl Date {
     /// Returns the day `days` days after this one, or `None` if one of the two does not fit.
     #[inline]
     fn day_later(&self, days: i64) -> Option<i64>
-        ensures { IfSome result (λ day. day ≡ number_of self.now +ℤ days) }
+        ensures { SomeIff result
+            (FitsSigned w64 (number_of self.now) × FitsSigned w64 (number_of self.now +ℤ days))
+            (number_of self.now +ℤ days) }
     {
         self.day_number()?.checked_add(days)
     }

@@ -53,6 +53,7 @@ fn signed_gcd_of<T: Fits>(numbers: &[T]) -> T
 
 /// Returns a number whose magnitude is the greatest common divisor of the divisor so far and of a number. Most numbers of
 /// a list are multiples of the divisor so far, which one division shows.
+#[tactic(auto, using(crate::proofs::ListDivisors::gcd_of_multiple))]
 fn divisor_of_both<T: Fits>(divisor: T, number: T) -> T
     requires in_range { T.fits (T.value divisor) × T.fits (T.value number) }
     ensures in_range { T.fits (T.value result) }
