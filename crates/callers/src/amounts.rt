@@ -19,6 +19,7 @@ pub fn share_with_host(cents: i64, guests: i64) -> i64
 }
 
 /// Returns the same share. The sum is an operator, so the proof file says that it fits.
+#[tactic(auto, using(std::proofs::lemmas::Int::wraps))]
 pub fn share_by_plus(cents: i64, guests: i64) -> i64
     requires { (pos 0 ≤ℤ guests) × (guests ≤ℤ pos 1000) }
     ensures { IsQuotient IsFloored cents (guests +ℤ pos 1) result }

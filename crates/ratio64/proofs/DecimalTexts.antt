@@ -120,3 +120,6 @@ few_places places fits = elim (cases_lt 18 places) [
   | inl more ↦ let least = ten_grows 19 places (omega arith) in let low = fits.sfits in absurd (omega (arith, ints))
   | inr few ↦ few
 ]
+
+-- what the goals about the text of a decimal need
+pub ruleset decimal_steps = (integer_text, places_text, same_written, ten_up)

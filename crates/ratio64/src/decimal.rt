@@ -78,6 +78,7 @@ impl Text for Decimal {
 
     ghost text = { λ x. decimal_text (units_of x) (places_of x) };
 
+    #[tactic(auto, using(crate::proofs::WideSums::numbers_read, crate::proofs::DecimalTexts::decimal_steps))]
     fn write_to<W: fmt::Write>(&self, f: &mut W) -> fmt::Result {
         let size = self.units.unsigned_abs();
         let scale = 10_u128.pow(self.places);
