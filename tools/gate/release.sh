@@ -210,7 +210,7 @@ slow_checks() {
     wait
     tried 'the tests of the crate, and each call for C, on the targets of docs/PLATFORMS.md' has_passed targets
     tried 'each guard of plain Rust that is taken out is missed by a test' has_passed guards
-    tried 'the first line of each mutant is true' has_passed wrong_lines
+    tried 'the first line of each mutant of a crate that plain Rust has is true' has_passed wrong_lines
     tried "the second suite of $(ls crates/*/must-fail-release/*.edit | wc -l) mutants is rejected" has_passed mutants
 }
 

@@ -39,5 +39,10 @@ product_by_positive a b a_fits b_fits up =
     let small : unsigned_abs b ≤ 2 ^ 63 - 1 = omega arith in
     rw (unsigned_abs-mul a b) (omega (arith, mul-le-mul (part_size a a_fits) small))
 
--- for `grind`: products of two parts
-pub ruleset products_by_size = (wide_by_size, product_below, product_by_positive)
+-- the product of two parts, as `i128` computes it
+pub wide_product : {a b x y : ℤ} → FitsSigned w64 a → FitsSigned w64 b → x ≡ to_z w64 (of_z w64 a) → y ≡ to_z w64 (of_z w64 b)
+    → to_z w128 (of_z w128 (to_z w128 (of_z w128 x) *ℤ to_z w128 (of_z w128 y))) ≡ a *ℤ b
+wide_product {a} {b} a_fits b_fits e f =
+    let left = part_size a a_fits in
+    let right = part_size b b_fits in
+    rw (e, f, to_z-of_z w64 a a_fits, to_z-of_z w64 b b_fits, read a (omega arith), read b (omega arith)) (read _ (product_below a b a_fits b_fits))

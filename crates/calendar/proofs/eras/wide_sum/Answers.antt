@@ -13,6 +13,16 @@ fitting size count more small size_fits count_fits more_fits =
     let product : unsigned_abs (size *ℤ count) ≤ 2 ^ 18 * 2 ^ 63 = omega (arith, unsigned_abs-mul size count, mul-le-mul bound most) in
     (size_fits, count_fits, more_fits, omega (arith, ints), omega (arith, ints), omega (arith, ints), fits_signed_from_abs w128 (size *ℤ count) (omega arith), omega (arith, ints))
 
+pub overflow_mul-result : goal.overflow_mul-result
+overflow_mul-result c =
+    let (size, count, more, wide_size, wide_count, wide_more, product, sum) = fitting c.args.size c.args.count c.args.more c.requires c.ranges.size c.ranges.count c.ranges.more in
+    simp (c.from.ensures, c.from-2.ensures, to_z-of_z) product
+
+pub overflow_add-result : goal.overflow_add-result
+overflow_add-result c =
+    let (size, count, more, wide_size, wide_count, wide_more, product, sum) = fitting c.args.size c.args.count c.args.more c.requires c.ranges.size c.ranges.count c.ranges.more in
+    simp (c.from.ensures, c.from-2.ensures, c.from-3.ensures, to_z-of_z) sum
+
 pub returns : goal.returns
 returns c =
     let (size, count, more, wide_size, wide_count, wide_more, product, sum) = fitting c.args.size c.args.count c.args.more c.requires c.ranges.size c.ranges.count c.ranges.more in
