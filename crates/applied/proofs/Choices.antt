@@ -1,5 +1,5 @@
 -- Choices, their ranks and order, the choice of a rank, and the choice of the next rank.
-use Rattle.std.specs.Prelude.{◌≡◌, ◌≢◌, ◌⊎◌, ◌↔◌, ◌<◌, ◌≤◌, ◌+◌, ◌-◌}
+use Rattle.std.specs.Prelude.{◌≡◌, ◌⊎◌, ◌↔◌, ◌<◌, ◌≤◌, ◌+◌, ◌-◌}
 use Rattle.applied.proofs.Common.{ℕ, zero, suc, List, length, slice_index, slice_set, take, sum_by, IsStrictlyIncreasing, enumerate_from, arith, ap, inl, inr, refl, subst, sym, ◌∙◌, add-one, one-add, cases_lt, ext_get_or, get_or-set_other, get_or-set_same, length-set, take_all, All-from_get_or, get_or-enumerate_from, length-enumerate_from, sum_by-take-le, sum_by_more, coefficient, coefficient-zero, coefficient_grows, pascal, ChoiceOfRankIsOnly, RankIsBelow, IsBefore, IsChoice, IsChoiceOfRank, slice_index_or, get_or_default, get_or_past, none_above, IsFirstToRise, IsLastChoice}
 use Rattle.applied.specs.Ranking.{rank_of}
 
@@ -87,24 +87,11 @@ no_first {xs} none = record { increasing = λ j h. absurd (omega arith); below =
 -- a number at place i that is below the bound and above the first i numbers
 first_with_next : {xs : List ℕ} {i c bound rest : ℕ} → i < length xs → slice_index xs i ≡ c → c < bound → coefficient c (i + 1) ≤ rest
     → IsFirst xs i c (rest - coefficient c (i + 1)) → IsFirst xs (i + 1) bound rest
-first_with_next {xs} {i} {c} {bound} {rest} within at below part h = record {
-  increasing = λ j k. grind (arith, h.increasing j, h.below j);
-  below = λ j k. grind (arith, h.below j);
-  rank = rw (next_rank xs i within, h.rank, at) (omega arith);
-}
+first_with_next {xs} {i} {c} {bound} {rest} within at below part h = grind (arith, next_rank)
 
 -- after a write at place i the same numbers stand behind it
 same_after_write : {xs ys : List ℕ} {i c : ℕ} → i < length ys → SameFrom i xs (slice_set ys i c) → SameFrom (i + 1) xs ys × (slice_index xs i ≡ c)
-same_after_write {xs} {ys} {i} {c} within h =
-    let size : length (slice_set ys i c) ≡ length ys = length-set ys i c in (
-      record {
-        size = h.size ∙ size;
-        same = λ j after below.
-            let other : j ≢ i = λ e. omega arith in
-            h.same j (omega arith) (omega arith) ∙ get_or-set_other ys i j c 0 other;
-      },
-      h.same i (omega arith) (omega arith) ∙ get_or-set_same ys i c 0 within,
-    )
+same_after_write {xs} {ys} {i} {c} within h = grind (arith, length, slice_set, length-set, get_or-set_other, get_or-set_same)
 
 -- what is left after the largest coefficient is below the one before it
 rest_below : (c i rest : ℕ) → coefficient c (i + 1) ≤ rest → rest < coefficient (c + 1) (i + 1) → rest - coefficient c (i + 1) < coefficient c i
@@ -133,12 +120,7 @@ last_differs : {xs ys : List ℕ} (i : ℕ) → slice_index xs i < slice_index y
 last_differs i lesser = record { place = i; within = omega arith; lesser = lesser; same_after = λ l h k. absurd (omega arith) }
 
 still_before : {xs ys : List ℕ} {i : ℕ} → slice_index xs i ≡ slice_index ys i → IsBefore i xs ys → IsBefore (suc i) xs ys
-still_before {xs} {ys} {i} same h = record {
-  place = h.place;
-  within = omega (arith, h.within);
-  lesser = h.lesser;
-  same_after = λ l after k. grind (arith, h.same_after l after);
-}
+still_before {xs} {ys} {i} same h = grind arith
 
 -- of two lists one is before the other, if they are not the same
 compare : (k : ℕ) (xs ys : List ℕ) → ((j : ℕ) → j < k → slice_index xs j ≡ slice_index ys j) ⊎ (IsBefore k xs ys ⊎ IsBefore k ys xs)
@@ -206,10 +188,6 @@ choice_of_rank_is_only = λ n k r xs x ys y. elim (compare k ys xs) [
 
 -- ---- numbers that follow one another
 
--- the number after a place, or n at the end, is above the one there
-pub next_above : {n : ℕ} {xs : List ℕ} → IsChoice n xs → (i : ℕ) → i < length xs → slice_index xs i + 1 ≤ slice_index_or xs (i + 1) n
-next_above {n} {xs} h i within = grind (arith, h.increasing i, h.below i 0 within, get_or_default xs (i + 1) n 0, get_or_past xs (i + 1) n)
-
 -- each number of a choice is below the one after it, or n at the end, and such numbers are a choice
 below_last : (n : ℕ) (xs : List ℕ) → ((j : ℕ) → j < length xs → slice_index xs j < slice_index_or xs (j + 1) n) → (more j : ℕ) → j + 1 + more ≡ length xs → slice_index xs j < n
 below_last n xs above zero j size = omega (arith, above j (omega arith), get_or_past xs (j + 1) n (omega arith))
@@ -244,14 +222,7 @@ pub record IsRaisedAt (i : ℕ) (xs ys : List ℕ) : Type 0 where
 
 pub raised_is : {i : ℕ} {xs ys : List ℕ} → i < length xs → length ys ≡ length (slice_set xs i (slice_index xs i + 1)) → ((j : ℕ) → j < i → slice_index ys j ≡ j)
     → ((j : ℕ) → i ≤ j → slice_index ys j ≡ slice_index (slice_set xs i (slice_index xs i + 1)) j) → IsRaisedAt i xs ys
-raised_is {i} {xs} within size before after = record {
-  size = size ∙ length-set xs i (slice_index xs i + 1);
-  before = before;
-  here = after i (omega arith) ∙ get_or-set_same xs i (slice_index xs i + 1) 0 within;
-  after = λ j later.
-      let other : j ≢ i = λ e. omega arith in
-      after j (omega arith) ∙ get_or-set_other xs i j (slice_index xs i + 1) 0 other;
-}
+raised_is {i} {xs} within size before after = grind (arith, length-set, slice_index, get_or-set_same, get_or-set_other)
 
 rank_from_zero : (ys : List ℕ) (i : ℕ) → i ≤ length ys → ((j : ℕ) → j < i → slice_index ys j ≡ j) → rank_of_first i ys ≡ 0
 rank_from_zero ys zero within h = rank_of_none ys
@@ -280,14 +251,10 @@ from_place xs up (suc i) within =
     omega (arith, from_place xs up i (omega arith))
 
 raised_increases : {n i : ℕ} {xs ys : List ℕ} → IsChoice n xs → IsFirstToRise n xs i → IsRaisedAt i xs ys → IsStrictlyIncreasing ys
-raised_increases {n} {i} {xs} {ys} choice first h = λ j within.
-    let least = from_place xs choice.increasing i first.within in
-    grind (arith, h.size, h.here, first.rises, h.before j, h.before (j + 1), h.after j, h.after (j + 1), choice.increasing j, get_or_default xs (i + 1) n 0)
+raised_increases {n} {i} {xs} {ys} choice first h = grind (arith, from_place, get_or_default)
 
 raised_below : {n i : ℕ} {xs ys : List ℕ} → IsChoice n xs → IsFirstToRise n xs i → IsRaisedAt i xs ys → (j : ℕ) → j < length ys → slice_index ys j < n
-raised_below {n} {i} {xs} {ys} choice first h j within =
-    let least = from_place xs choice.increasing i first.within in
-    grind (arith, h.size, h.here, first.rises, h.before j, h.after j, choice.below i 0 first.within, choice.below j 0, choice.below (i + 1) 0, get_or_default xs (i + 1) n 0, get_or_past xs (i + 1) n)
+raised_below {n} {i} {xs} {ys} choice first h j within = grind (arith, from_place, get_or_default, get_or_past)
 
 -- the number at the first place that can rise, one more, begins the choice of the next rank
 pub next_choice_is : {n i : ℕ} {xs ys : List ℕ} → IsChoice n xs → IsFirstToRise n xs i → IsRaisedAt i xs ys → IsChoiceOfRank n (length xs) (rank_of xs + 1) ys

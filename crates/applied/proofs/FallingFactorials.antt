@@ -1,6 +1,6 @@
 -- Falling factorials as products of the numbers above one number up to another.
 use Rattle.std.specs.Prelude.{◌≡◌, ◌<◌, ◌≤◌, ◌+◌, ◌-◌, ◌*◌, ◌≤ℤ◌, ◌<ℤ◌, ◌+ℤ◌, ◌-ℤ◌, ◌*ℤ◌}
-use Rattle.applied.proofs.Common.{fits_below, ℕ, ℤ, zero, suc, pos, unsigned_abs, arith, ap, inl, inr, refl, subst, sym, ◌∙◌, eq_of_mul-eq-mul_left, cases_lt, ints, IsRange, factorial-pos, linear, none_above, sizes, factorial_formula, factorial_of, falling_of, FallingByCoefficient, FallingFormula}
+use Rattle.applied.proofs.Common.{fits_below, ℕ, ℤ, zero, suc, pos, unsigned_abs, arith, ap, inl, inr, refl, subst, sym, eq_of_mul-eq-mul_left, cases_lt, ints, IsRange, factorial-pos, linear, none_above, sizes, factorial_formula, factorial_of, falling_of, FallingByCoefficient, FallingFormula}
 use Rattle.num_integer.specs.Coefficient.{factorial}
 use Rattle.applied.specs.Counting.{falling}
 
@@ -52,14 +52,10 @@ falling_by_coefficient n k = elim (cases_lt n k) [
 -- ---- over integers
 
 pub factorial_is : (n z : ℤ) → pos 0 ≤ℤ n → z ≡ pos 0 → falling_of n (n -ℤ z) ≡ factorial_of n
-factorial_is n z up e =
-    let all : unsigned_abs (n -ℤ z) ≡ unsigned_abs n = omega (arith, sizes) in
-    ap pos (ap (λ (t : ℕ). falling (unsigned_abs n) t) all ∙ falling_all (unsigned_abs n))
+factorial_is n z up e = grind (arith, unsigned_abs, sizes, falling, falling_all)
 
 pub falling_is : (n k low : ℤ) → low ≡ n -ℤ k → falling_of n (n -ℤ low) ≡ falling_of n k
-falling_is n k low e =
-    let same : n -ℤ low ≡ k = omega (arith, linear) in
-    ap (λ (t : ℤ). falling_of n t) same
+falling_is n k low e = grind arith
 
 pub falling_of_none : (n k : ℤ) → pos 0 ≤ℤ n → n <ℤ k → falling_of n k ≡ pos 0
 falling_of_none n k up less = ap pos (falling_none (unsigned_abs n) (unsigned_abs k) (omega (arith, sizes)))
@@ -81,14 +77,7 @@ pub record IsProductSoFar (fits : ℤ → Type 0) (low factor high product : ℤ
 module _ {fits : ℤ → Type 0} {low high : ℤ} where
   pub product_first : {one : ℤ} → fits low → fits one → one ≡ pos 1 → low ≤ℤ high → IsProductSoFar fits low low high one
   unfolding falling
-  product_first low_fits one_fits e ordered = record {
-    factor_in_range = low_fits;
-    product_in_range = one_fits;
-    count = 0;
-    at = omega (arith, linear);
-    to_high = ordered;
-    is = e;
-  }
+  product_first low_fits one_fits e ordered = grind arith
 
   module _ {factor product : ℤ} (h : IsProductSoFar fits low factor high product) (low_up : pos 0 ≤ℤ low) where
     next_is : product *ℤ (factor +ℤ pos 1) ≡ pos (falling (unsigned_abs low + suc h.count) (suc h.count))

@@ -1,5 +1,5 @@
 -- Items and their places, the items of a page, and items cut into parts whose sizes differ by at most 1.
-use Rattle.std.specs.Prelude.{◌≡◌, ◌≢◌, ◌≤ℤ◌, ◌<ℤ◌, ◌+ℤ◌, ◌-ℤ◌, ◌*ℤ◌}
+use Rattle.std.specs.Prelude.{◌≡◌, ◌≤ℤ◌, ◌<ℤ◌, ◌+ℤ◌, ◌-ℤ◌, ◌*ℤ◌}
 use Rattle.num_integer.proofs.ForCallers.{answers_only}
 use Rattle.applied.proofs.Common.{AnswersWhere, EachFits, FitsWith, IfSome, None, Option, Some, ℤ, pos, arith, inl, inr, refl, IsOnly, IsRange, expand, linear, product_from_zero, products, within_fits, IsPlace, by_lt_z, IsFloored, floored_range, multiples_apart, IsRangeOfPage, only_ceiled, ℕ, negsuc, zero, suc, ◌∙◌, ap, sym, clamps, ceiled_by_range, comm, fits_below, product_at_most, IsEvenCut, IsRangeOfPart, cut_at}
 
@@ -7,38 +7,24 @@ use Rattle.applied.proofs.Common.{AnswersWhere, EachFits, FitsWith, IfSome, None
 
 -- p is a page, s the size of a page, and q the place of an item on its page
 
--- a positive divisor is not 0
-pub positive_is_other : {d : ℤ} → pos 0 <ℤ d → d ≢ pos 0
-positive_is_other up none = omega (arith, linear)
-
 -- the end of a page, and how far the item is before it
 pub item_before : (p q s : ℤ) → (p +ℤ pos 1) *ℤ s +ℤ (q -ℤ s) ≡ p *ℤ s +ℤ q
 item_before p q s = simp expand (omega (arith, products))
-
--- the first item of a page, and how far the item is from it
-pub item_after : (p q s : ℤ) {first : ℤ} → first ≡ p *ℤ s → first +ℤ q ≡ p *ℤ s +ℤ q
-item_after p q s is = ap (λ (t : ℤ). t +ℤ q) is
 
 pub next_page_fits : {fits : ℤ → Type 0} {low high p : ℤ} → IsRange fits low high → fits p → p <ℤ pos 0 → fits (p +ℤ pos 1)
 next_page_fits range page_fits before = within_fits range page_fits (inr (omega (arith, linear), omega (arith, linear)))
 
 -- at a type that has a page before page 0, how far a place is before the end of its page fits
 pub rest_fits : {fits : ℤ → Type 0} {low high p q s : ℤ} → IsRange fits low high → fits p → fits s → p <ℤ pos 0 → pos 0 ≤ℤ q → q <ℤ s → fits (q -ℤ s)
-rest_fits {p = p} {q = q} {s = s} range page_fits size_fits before from_zero below =
-    let page = (range.between p).0 page_fits in
-    let size = (range.between s).0 size_fits in
-    (range.between (q -ℤ s)).1 (omega (arith, linear, range.low_end))
+rest_fits {p = p} {q = q} {s = s} range page_fits size_fits before from_zero below = grind (arith, page_fits, linear)
 
 -- if the item fits, so does the end of its page, before page 0
 pub end_fits : {fits : ℤ → Type 0} {low high p q s : ℤ} → IsRange fits low high → fits (p *ℤ s +ℤ q) → p <ℤ pos 0 → pos 0 ≤ℤ q → q <ℤ s → fits ((p +ℤ pos 1) *ℤ s)
-end_fits {p = p} {q = q} {s = s} range item_fits before from_zero below =
-    let pages = simp expand at (product_from_zero (pos 0 -ℤ (p +ℤ pos 1)) s (omega (arith, linear)) (omega (arith, linear))) in
-    within_fits range item_fits (inr (simp expand (omega (arith, products)), simp expand (omega (arith, products))))
+end_fits {p = p} {q = q} {s = s} range item_fits before from_zero below = grind (arith, expand, product_from_zero, linear, within_fits, products)
 
 -- from page 0 on the items before the page do
 pub page_fits : {fits : ℤ → Type 0} {low high p q s : ℤ} → IsRange fits low high → fits (p *ℤ s +ℤ q) → pos 0 ≤ℤ p → pos 0 ≤ℤ q → q <ℤ s → fits (p *ℤ s)
-page_fits {p = p} {s = s} range item_fits from_page_zero from_zero below =
-    within_fits range item_fits (inl (product_from_zero p s from_page_zero (omega (arith, linear)), omega (arith, linear)))
+page_fits {p = p} {s = s} range item_fits from_page_zero from_zero below = grind (arith, within_fits, product_from_zero)
 
 pub own_item : {p q s : ℤ} → pos 0 ≤ℤ q → q <ℤ s → IsPlace (p *ℤ s +ℤ q) s p q
 own_item from_zero below = record { equation = refl; from_zero = from_zero; below = below }
@@ -46,8 +32,7 @@ own_item from_zero below = record { equation = refl; from_zero = from_zero; belo
 -- a checked sum that is the item's number is the item
 pub item_answer : {A : Type 0} (fits : ℤ → Type 0) (value : A → ℤ) (p q s : ℤ) {total : ℤ} (r : Option A) → pos 0 ≤ℤ q → q <ℤ s → total ≡ p *ℤ s +ℤ q → AnswersWhere (fits total) (FitsWith fits value (λ z. z ≡ total)) r
     → AnswersWhere (EachFits fits (λ item. IsPlace item s p q)) (λ item. fits (value item) × IsPlace (value item) s p q) r
-item_answer fits value p q s r from_zero below is h =
-    answers_only fits (λ item. IsPlace item s p q) value r (record { equation = is; from_zero = from_zero; below = below }) (λ y k. is ∙ sym k.equation) h
+item_answer fits value p q s r from_zero below is h = grind arith
 
 pub item_is_only : {A : Type 0} (fits : ℤ → Type 0) (value : A → ℤ) (p q s : ℤ) (r : Option A) → AnswersWhere (EachFits fits (λ item. IsPlace item s p q)) (λ item. fits (value item) × IsPlace (value item) s p q) r
     → IfSome r (λ found. IsOnly (λ item. IsPlace item s p q) (value found))
@@ -78,9 +63,7 @@ page_range_is {page} {size} from_zero ordered to_items on back empty = record {
 
 -- before page 0 there is no item
 pub none_before : {page size items : ℤ} → pos 0 <ℤ size → pos 0 ≤ℤ items → page <ℤ pos 0 → IsRangeOfPage page size items items items
-none_before {page} {size} up from_zero before =
-    let under = multiples_apart page (pos 0) size up before in
-    page_range_is from_zero (omega (arith, linear)) (omega (arith, linear)) (λ item h k. absurd (omega (arith, linear))) (λ item h k l m. absurd (omega (arith, products))) (λ _. refl)
+none_before {page} {size} up from_zero before = grind arith
 
 -- nor on a page after that of the last item
 pub none_after : {page size items full rest : ℤ} → pos 0 <ℤ size → pos 0 ≤ℤ items → IsFloored items size full rest → full <ℤ page → IsRangeOfPage page size items items items
@@ -97,7 +80,6 @@ pub record BeginsIn (page size items : ℤ) : Type 0 where
 pub begins_in : {page size items full rest : ℤ} → pos 0 <ℤ size → IsFloored items size full rest → pos 0 ≤ℤ page → page ≤ℤ full
     → BeginsIn page size items
 begins_in {page} {size} {full = full} up division from_zero to_full =
-    let below = floored_range up division in
     let most = product_at_most {v = size} {y = size} from_zero to_full (omega (arith, linear)) (omega (arith, linear)) in
     record { from_zero = product_from_zero page size from_zero (omega (arith, linear)); to_items = omega (arith, linear, division.division.equation) }
 
@@ -128,10 +110,7 @@ whole_page {page} {size} {items} up within is left_is enough end_is =
 
 -- a range that is not empty lies within each other of the same page
 lies_within : {page size items first end f e : ℤ} → IsRangeOfPage page size items first end → IsRangeOfPage page size items f e → first <ℤ end → (f ≤ℤ first) × (end ≤ℤ e)
-lies_within {first = first} {end = end} h k some =
-    let lowest = (k.exactly first).1 ((h.exactly first).0 (omega (arith, linear), some)) in
-    let highest = (k.exactly (end -ℤ pos 1)).1 ((h.exactly (end -ℤ pos 1)).0 (omega (arith, linear), omega (arith, linear))) in
-    (lowest.0, omega (arith, linear, highest.1))
+lies_within {first = first} {end = end} h k some = grind (arith, linear)
 
 -- a page has one range
 pub only_page_range : {page size items first end : ℤ} → IsRangeOfPage page size items first end → IsOnly (λ (f, e). IsRangeOfPage page size items f e) (first, end)
@@ -168,8 +147,6 @@ even_cut {parts} {items} {size} {longer} equation up below = record {
 cut_within : {parts items size longer part : ℤ} → pos 0 <ℤ parts → pos 0 ≤ℤ items → IsFloored items parts size longer → pos 0 ≤ℤ part → part ≤ℤ parts
     → (pos 0 ≤ℤ (part *ℤ size)) × ((part *ℤ size) ≤ℤ cut_at size longer part) × (cut_at size longer part ≤ℤ items)
 cut_within {parts} {items} {size} {longer} {part} up from_zero division part_up within =
-    let range = floored_range up division in
-    let equation = division.division.equation in
     let size_up : pos 0 ≤ℤ size = grind (arith, products, multiples_apart size (pos 0) parts up) in
     let begins = product_from_zero part size part_up size_up in
     let most = product_at_most {u = part} {v = size} {x = parts} {y = size} part_up within size_up (omega (arith, linear)) in

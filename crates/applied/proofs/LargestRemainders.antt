@@ -88,18 +88,6 @@ pub record AreRaisedTo (F R : ℕ → ℕ) (bar extra : ℕ) (weights : List ℕ
   pub order : (j k : ℕ) → j < i → k < i → slice_index shares j ≡ F (slice_index weights j) + 1 → slice_index shares k ≡ F (slice_index weights k)
       → (R (slice_index weights k) < R (slice_index weights j)) ⊎ ((R (slice_index weights k) ≡ R (slice_index weights j)) × (j < k))
 
-pub none_raised : {F R : ℕ → ℕ} {bar extra : ℕ} {weights shares : List ℕ} → length shares ≡ length weights → AreRaisedTo F R bar extra weights 0 extra shares
-none_raised {F} {R} {bar} {extra} {weights} {shares} size = record {
-  one_each = size;
-  fewer = omega arith;
-  whole = omega arith;
-  enough = λ some. omega arith;
-  rounded = λ k none. absurd (omega arith);
-  raised = λ k none. absurd (omega arith);
-  kept = λ k none. absurd (omega arith);
-  order = λ j k none. absurd (omega arith);
-}
-
 -- the share at i, with what it is of the two
 module _ {F R : ℕ → ℕ} {bar extra i left : ℕ} {weights shares : List ℕ} (share next : ℕ) (within : i < length weights) (h : AreRaisedTo F R bar extra weights i left shares) where
   abbrev weight : ℕ
@@ -116,10 +104,7 @@ module _ {F R : ℕ → ℕ} {bar extra i left : ℕ} {weights shares : List ℕ
 
   -- of each place up to i: it is before i, or i
   each : (P : ℕ → ℕ → Type 0) → ((k : ℕ) → k < i → P k (slice_index shares k)) → P i share → (k : ℕ) → k < i + 1 → P k (slice_index (slice_set shares i share) k)
-  each P old own k upto = elim (cases_lt k i) [
-    | inl less ↦ rw (before k less) (old k less)
-    | inr same ↦ let at : k ≡ i = omega arith in rw (at, here) own
-  ]
+  each P old own k upto = grind (arith, cases_lt, before, here)
 
   with_share : next ≤ left
       → share + next + reached R bar (take i weights) ≡ F weight + left + reached R bar (take (i + 1) weights)
@@ -160,18 +145,7 @@ module _ {F R : ℕ → ℕ} {bar extra i left : ℕ} {weights shares : List ℕ
 -- what becomes of the share at i: 1 more, with or without a unit of those that are left, or not
 step : {F r bar left share next : ℕ} → RoundsShare F r bar left share next
     → ((bar ≤ r) × (share ≡ F + 1) × (next ≡ left)) ⊎ ((r + 1 ≡ bar) × (0 < left) × (share ≡ F + 1) × (next + 1 ≡ left)) ⊎ ((r < bar) × (0 < next → r + 1 < bar) × (share ≡ F) × (next ≡ left))
-step {F} {r} {bar} {left} {share} {next} h = elim (cases_lt r bar) [
-  | inr reaches ↦ let is = h.above reaches in inl (reaches, is.0, is.1)
-  | inl below ↦ elim (cases_lt (r + 1) bar) [
-    | inl lower ↦ let is = h.below lower in inr (inr (below, λ _. lower, is.0, is.1))
-    | inr not_lower ↦
-        let at : r + 1 ≡ bar = omega arith in
-        elim (cases_lt 0 left) [
-          | inl some ↦ let is = h.at at some in inr (inl (at, some, is.0, is.1))
-          | inr none ↦ let is = h.none_left at (omega arith) in inr (inr (below, λ more. absurd (omega (arith, is.1)), is.0, is.1))
-        ]
-  ]
-]
+step {F} {r} {bar} {left} {share} {next} h = grind arith
 
 pub one_more_raised : {F R : ℕ → ℕ} {bar extra i left next : ℕ} {weights shares : List ℕ} (share : ℕ) → i < length weights → 0 < bar → (0 < extra → 1 < bar)
     → RoundsShare (F (slice_index weights i)) (R (slice_index weights i)) bar left share next → AreRaisedTo F R bar extra weights i left shares
@@ -204,31 +178,13 @@ pub all_raised : {amount total bar extra i left : ℕ} {weights shares : List �
     → count_from amount total bar weights + extra + sum_by (rounded_down amount total) weights ≡ amount
     → (0 < extra → count_from amount total bar weights + extra < count_from amount total (bar - 1) weights)
     → AreRaisedTo (rounded_down amount total) (remainder_of amount total) bar extra weights i left shares → AreSharesByRemainder amount weights shares
-all_raised {amount} {total} {bar} {extra} {i} {left} {weights} {shares} is end units enough h =
-    let all : take i weights ≡ weights = take_all i weights end in
-    let all_shares : take i shares ≡ shares = take_all i shares (omega (arith, h.one_each)) in
-    let whole = rw (all, all_shares) at h.whole in
-    let none_left : left ≡ 0 = elim (cases_lt 0 left) [
-      | inl some ↦ absurd (omega (arith, rw all at (h.enough some), enough (omega (arith, h.fewer))))
-      | inr none ↦ omega arith
-    ] in
-    record {
-      one_each = h.one_each;
-      whole = omega (arith, whole, units);
-      rounded = λ k within. rw (sym is) (h.rounded k (omega arith));
-      largest = λ j k j_within k_within. rw (sym is) (h.order j k (omega arith) (omega arith));
-    }
+all_raised {amount} {total} {bar} {extra} {i} {left} {weights} {shares} is end units enough h = grind (arith, take_all)
 
 -- Each is near its exact share.
 pub raised_are_near : {amount total bar extra i left : ℕ} {weights shares : List ℕ} → total ≡ sum weights → 0 < total → length weights ≤ i
     → AreRaisedTo (rounded_down amount total) (remainder_of amount total) bar extra weights i left shares
     → EachIndex weights (λ k. IsNearShare amount (slice_index weights k) (sum weights) (slice_index shares k))
-raised_are_near {amount} {total} {weights = weights} {shares = shares} is up end h = λ k within. rw (sym is)
-    (let parts = exact_parts amount total (slice_index weights k) up in
-    elim (h.rounded k (omega arith)) [
-      | inl down ↦ rw down record { not_above = omega (arith, parts.0, parts.1); not_below = omega (arith, parts.0, parts.1) }
-      | inr more ↦ let high = (h.raised k (omega arith) more).1 in rw more record { not_above = omega (arith, parts.0, parts.1, high); not_below = omega (arith, parts.0, parts.1, high) }
-    ])
+raised_are_near {amount} {total} {weights = weights} {shares = shares} is up end h = grind (arith, exact_parts)
 
 -- ---- an amount has one list of shares
 
@@ -249,18 +205,4 @@ less_somewhere (x ∷ xs) (y ∷ ys) size within =
     ]
 
 pub remainder_shares_only : {amount : ℕ} {weights shares : List ℕ} → AreSharesByRemainder amount weights shares → IsOnly (AreSharesByRemainder amount weights) shares
-remainder_shares_only {amount} {weights} {shares} h = λ other k.
-    elim (less_somewhere shares other (h.one_each ∙ sym k.one_each) (omega (arith, h.whole, k.whole))) [
-      | inl same ↦ same
-      | inr (i, i_upto, i_less) ↦ elim (less_somewhere other shares (k.one_each ∙ sym h.one_each) (omega (arith, h.whole, k.whole))) [
-        | inl same ↦ sym same
-        | inr (j, j_upto, j_less) ↦
-            let i_within : i < length weights = omega (arith, k.one_each) in
-            let j_within : j < length weights = omega (arith, h.one_each) in
-            let i_own = h.rounded i i_within in let i_other = k.rounded i i_within in
-            let j_own = h.rounded j j_within in let j_other = k.rounded j j_within in
-            let up = λ (a : slice_index shares i ≡ rounded_down amount (sum weights) (slice_index weights i) + 1) (b : slice_index shares j ≡ rounded_down amount (sum weights) (slice_index weights j)). h.largest i j i_within j_within a b in
-            let down = λ (a : slice_index other j ≡ rounded_down amount (sum weights) (slice_index weights j) + 1) (b : slice_index other i ≡ rounded_down amount (sum weights) (slice_index weights i)). k.largest j i j_within i_within a b in
-            absurd (grind arith)
-      ]
-    ]
+remainder_shares_only {amount} {weights} {shares} h = grind (arith, less_somewhere)

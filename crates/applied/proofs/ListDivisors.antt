@@ -115,11 +115,7 @@ gcd_of_one value numbers i {d} one before =
 
 -- the least common multiple of no numbers is 1
 pub lcm_of_none : IsLeastCommonMultipleOf [] (pos 1)
-lcm_of_none = record {
-  from_zero = omega (arith, ints);
-  each_divides = All-nil (λ x. Divides x (pos 1));
-  least = λ m _. one_divides m;
-}
+lcm_of_none = grind (arith, ints, one_divides)
 
 -- the lcm of a list with one number more at its end is the lcm of the list's lcm and this number
 pub lcm_of_more : {numbers : List ℤ} {l x m : ℤ} → IsLeastCommonMultipleOf numbers l → IsLeastCommonMultiple l x m → IsLeastCommonMultipleOf (numbers ++ x ∷ []) m

@@ -1,15 +1,11 @@
 -- Meetings of schedules, from solutions of their congruences from a time on at which all have begun.
 use Rattle.std.specs.Prelude.{◌≡◌, ◌<◌, ◌+◌, ◌≤ℤ◌, ◌+ℤ◌, ◌∷◌}
-use Rattle.applied.proofs.Common.{ℕ, ℤ, pos, List, [], Option, Some, None, MatchOption, FitsWith, AreAllFrom, IsCongruentUpTo, IsCountOfCongruent, IsCountOfTimes, IsTimeTo, arith, cases_lt, get_or_read, inl, inr, length, slice_index_or, linear, SolvesBothCongruences, SolvesEach, IsLeastFrom, CommonSolution, At, Beyond, Never, HaveBegun, IsLeastTime, IsMeeting, IsMeetingOfEach}
+use Rattle.applied.proofs.Common.{ℕ, ℤ, pos, List, [], Option, Some, None, MatchOption, FitsWith, AreAllFrom, IsCongruentUpTo, IsCountOfCongruent, IsCountOfTimes, IsTimeTo, arith, cases_lt, get_or_read, length, slice_index_or, linear, SolvesBothCongruences, SolvesEach, IsLeastFrom, CommonSolution, At, Beyond, Never, HaveBegun, IsLeastTime, IsMeeting, IsMeetingOfEach}
 
 -- the next solution from the least time on at which all have begun is the next meeting
 module _ {now from : ℤ} {Begun Solves Meets : ℤ → Type 0} (begun : IsLeastFrom now Begun from) (meets : (t : ℤ) → from ≤ℤ t → Solves t → Meets t) (apart : (t : ℤ) → Meets t → Begun t × Solves t) where
   next_is : {t : ℤ} → IsLeastFrom from Solves t → IsLeastFrom now Meets t
-  next_is {t} next = record {
-    from_there = omega (arith, linear, begun.from_there, next.from_there);
-    holds = meets t next.from_there next.holds;
-    least = λ u above h. next.least u (begun.least u above (apart u h).0) (apart u h).1;
-  }
+  next_is {t} next = grind arith
 
   result_is : {X : Type 0} (value : X → ℤ) (fits : ℤ → Type 0) (m : CommonSolution X) → IsLeastTime value fits from Solves m → IsLeastTime value fits now Meets m
   result_is value fits Never h = λ t meeting. h t (apart t meeting).1
@@ -38,10 +34,7 @@ meeting_of_each value fits schedules m from = result_is {Solves = SolvesEach val
 -- with one more schedule the time is not before the first times so far
 pub begun_more : {X : Type 0} (value : X → ℤ) (schedules : List (X × X)) (k : ℕ) (schedule : X × X) {before after : ℤ} → k < length schedules → schedule ≡ slice_index_or schedules k schedule → before ≤ℤ after → value schedule.0 ≤ℤ after
     → ((i : ℕ) (d : X × X) → i < k → value (slice_index_or schedules i d).0 ≤ℤ before) → (i : ℕ) (d : X × X) → i < k + 1 → value (slice_index_or schedules i d).0 ≤ℤ after
-begun_more value schedules k schedule within is later own begun i d upto = elim (cases_lt i k) [
-  | inl lower ↦ omega (arith, linear, begun i d lower)
-  | inr same ↦ let at : i ≡ k = omega arith in rw (at, ← get_or_read schedules k schedule within is d) own
-]
+begun_more value schedules k schedule within is later own begun i d upto = grind (arith, cases_lt, linear, get_or_read)
 
 -- ---- the times of one schedule
 
@@ -60,14 +53,7 @@ times_since first period to start begun (t ∷ items) (next, rest) = (
 -- no time is before that
 times_from : {from first start : ℤ} (period to : ℤ) → IsLeastFrom from (λ z. first ≤ℤ z) start → (items : List ℤ) → AreAllFrom start (IsTimeTo first period to) items → AreAllFrom from (IsTimeTo first period to) items
 times_from period to start [] none = λ u above h. none u (start.least u above h.time.from_first) h
-times_from period to start (t ∷ items) (next, rest) = (
-  record {
-    from_there = omega (arith, linear, start.from_there, next.from_there);
-    holds = next.holds;
-    least = λ u above h. next.least u (start.least u above h.time.from_first) h;
-  },
-  rest,
-)
+times_from period to start (t ∷ items) (next, rest) = grind (arith, linear)
 
 count_of_times : {from first period to start n : ℤ} → IsLeastFrom from (λ z. first ≤ℤ z) start → IsCountOfCongruent start to first period n → IsCountOfTimes from to first period n
 count_of_times {from} {first} {period} {to} start h = record { items = h.items; all = times_from period to start h.items (times_since first period to _ start.holds h.items h.all); counted = h.counted }

@@ -2,7 +2,7 @@
 use Rattle.std.specs.Prelude.{◌≡◌, ◌≢◌, ◌⊎◌, ◌↔◌, ◌<◌, ◌≤◌, ◌≤ℤ◌, ◌+◌, ◌*◌, ◌<ℤ◌, ◌+ℤ◌, ◌-ℤ◌, ◌*ℤ◌}
 use Rattle.std.proofs.Math.Bool.{beq}
 use Rattle.num_integer.proofs.FittingAnswers.{IsKind, floored}
-use Rattle.applied.proofs.Common.{Bool, true, false, not, signed, ℕ, ℤ, pos, neg_ℤ, unsigned_abs, ap, arith, inl, inr, le_refl, refl, subst, cases_lt, by_lt_z, unsigned_abs-mul, mul-le, IsDivision, IsFloored, IsQuotient, IsEven, EachFits, IsRange, divides_or_not, expand, from_not_less, linear, other_quotient_fits, products, sizes, zero_or_not, division_exists, NearestEvenQuotientIsOnly, NearestQuotientExists, NearestQuotientFitsExactly, NearestQuotientIsOnly, NoIntegerIsNearer, IsDown, IsNearer, IsNearest, IsNearestEven, LiesWithin}
+use Rattle.applied.proofs.Common.{Bool, true, false, not, signed, ℕ, ℤ, pos, neg_ℤ, unsigned_abs, arith, inl, inr, le_refl, refl, subst, cases_lt, by_lt_z, unsigned_abs-mul, mul-le, IsDivision, IsFloored, IsQuotient, IsEven, EachFits, IsRange, divides_or_not, expand, from_not_less, linear, other_quotient_fits, products, sizes, zero_or_not, division_exists, NearestEvenQuotientIsOnly, NearestQuotientExists, NearestQuotientFitsExactly, NearestQuotientIsOnly, NoIntegerIsNearer, IsDown, IsNearer, IsNearest, IsNearestEven, LiesWithin}
 
 next_product : (q d : ℤ) → (q +ℤ pos 1) *ℤ d ≡ q *ℤ d +ℤ d
 next_product q d = simp expand (omega (arith, products))
@@ -11,29 +11,13 @@ next_product q d = simp expand (omega (arith, products))
 
 -- with the sign of the divisor, the product is farther from 0 than the number exactly if the quotient is negative
 half_up : {n d q r : ℤ} → IsDivision n d q r → d ≡ r +ℤ r → (unsigned_abs n < unsigned_abs (q *ℤ d)) ↔ (q <ℤ pos 0)
-half_up {n} {d} {q} {r} h half =
-    let number : n ≡ (q +ℤ q +ℤ pos 1) *ℤ r = rw (h.equation, half) (simp expand (omega (arith, products))) in
-    let product : q *ℤ d ≡ (q +ℤ q) *ℤ r = rw half (simp expand (omega (arith, products))) in
-    let some : 0 < unsigned_abs r = omega (arith, sizes, h.small) in
-    let size = rw (unsigned_abs-mul (q +ℤ q +ℤ pos 1) r) at (ap unsigned_abs number) in
-    let other = rw (unsigned_abs-mul (q +ℤ q) r) at (ap unsigned_abs product) in
-    by_lt_z q (pos 0)
-    (λ below.
-    let more : unsigned_abs (q +ℤ q) ≡ unsigned_abs (q +ℤ q +ℤ pos 1) + 1 = omega (arith, sizes) in
-    let longer = rw more at other in
-    (λ _. below, λ _. omega arith))
-    (λ up.
-    let more : unsigned_abs (q +ℤ q +ℤ pos 1) ≡ unsigned_abs (q +ℤ q) + 1 = omega (arith, sizes) in
-    let longer = rw more at size in
-    (λ less. absurd (omega arith), λ below. absurd (omega (arith, linear))))
+half_up {n} {d} {q} {r} h half = grind (arith, products)
 
 -- with the other sign, exactly if it is positive
 half_down : {n d q r : ℤ} → IsDivision n d q r → d ≡ neg_ℤ (r +ℤ r) → (unsigned_abs n < unsigned_abs (q *ℤ d)) ↔ (pos 0 <ℤ q)
 half_down {n} {d} {q} {r} h half =
     let same : neg_ℤ q *ℤ neg_ℤ d ≡ q *ℤ d = grind (arith, products) in
-    let turned : IsDivision n (neg_ℤ d) (neg_ℤ q) r = record { equation = rw same h.equation; small = omega (arith, sizes, h.small) } in
-    let tie = rw same at (half_up turned (omega (arith, linear))) in
-    (λ less. omega (arith, linear, tie.0 less), λ up. tie.1 (omega (arith, linear)))
+    grind arith
 
 not_both_even : {q p : ℤ} → p ≡ q +ℤ pos 1 → IsEven q → ¬ (IsEven p)
 not_both_even next even other = let half = even.product in let other_half = other.product in omega (arith, products)
@@ -77,9 +61,7 @@ module _ {n d q r : ℤ} (h : IsFloored n d q r) (A : Type 0) where
       → IsNearer A d q r z → (s : ℤ) × IsDivision n d z s × (2 * unsigned_abs s ≤ unsigned_abs d) × (2 * unsigned_abs s ≡ unsigned_abs d → P z)
   nearer_is P z down up (inl (inl less, is)) = rw is (r, h.division, omega arith, λ half. absurd (omega arith))
   nearer_is P z down up (inl (inr (same, a), is)) = rw is (r, h.division, omega arith, λ half. down (omega (arith, sizes)) a)
-  nearer_is P z down up (inr (none, is)) =
-      let next = next_near none in
-      rw is (r -ℤ d, next.0, next.1, λ half. let own = (next.2 half).0 in up next.0 (omega (arith, sizes)) (next.2 half).1)
+  nearer_is P z down up (inr (none, is)) = grind (arith, next_near)
 
   pub nearest_is : {z : ℤ} → A ↔ (q <ℤ pos 0) → IsNearer A d q r z → IsQuotient IsNearest n d z
   nearest_is {z} below nearer =
@@ -191,14 +173,10 @@ pub record IsRounding (Kind : ℤ → ℤ → ℤ → ℤ → Type 0) : Type 0 w
   pub divisor : (n d q r : ℤ) → Kind n d q r → Kind n (neg_ℤ d) (neg_ℤ q) r
 
 negated_number : {n d q r : ℤ} → IsDivision n d q r → IsDivision (neg_ℤ n) d (neg_ℤ q) (neg_ℤ r) × (neg_ℤ q *ℤ d ≡ neg_ℤ (q *ℤ d))
-negated_number {n} {d} {q} {r} h =
-    let product : neg_ℤ q *ℤ d ≡ neg_ℤ (q *ℤ d) = grind (arith, products) in
-    (record { equation = omega (arith, linear, product, h.equation); small = omega (arith, sizes, h.small) }, product)
+negated_number {n} {d} {q} {r} h = grind arith
 
 negated_divisor : {n d q r : ℤ} → IsDivision n d q r → IsDivision n (neg_ℤ d) (neg_ℤ q) r × (neg_ℤ q *ℤ neg_ℤ d ≡ q *ℤ d)
-negated_divisor {n} {d} {q} {r} h =
-    let product : neg_ℤ q *ℤ neg_ℤ d ≡ q *ℤ d = grind (arith, products) in
-    (record { equation = omega (arith, linear, product, h.equation); small = omega (arith, sizes, h.small) }, product)
+negated_divisor {n} {d} {q} {r} h = grind arith
 
 negated_even : {q : ℤ} → IsEven q → IsEven (neg_ℤ q)
 negated_even even = let half = even.product in record { factor = neg_ℤ even.factor; product = omega (arith, products) }
@@ -243,9 +221,7 @@ pub quotient_by_magnitudes : {Kind : ℤ → ℤ → ℤ → ℤ → Type 0} →
 quotient_by_magnitudes rounding false false m e q h = h
 quotient_by_magnitudes rounding true false m e q h = record { remainder = _; division = rounding.number _ _ _ _ h.division }
 quotient_by_magnitudes rounding false true m e q h = record { remainder = _; division = rounding.divisor _ _ _ _ h.division }
-quotient_by_magnitudes rounding true true m e q h =
-    let back : neg_ℤ (neg_ℤ (pos q)) ≡ pos q = omega (arith, products) in
-    record { remainder = _; division = rw back at (rounding.divisor _ _ _ _ (rounding.number _ _ _ _ h.division)) }
+quotient_by_magnitudes rounding true true m e q h = grind arith
 
 -- a divisor other than 0 has a magnitude other than 0
 pub magnitude_nonzero : (u : Bool) (e : ℕ) → signed u e ≢ pos 0 → pos e ≢ pos 0

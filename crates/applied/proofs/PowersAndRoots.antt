@@ -1,13 +1,6 @@
 -- Powers and their roots, the integer logarithm by division, and what is left of a square root.
 use Rattle.std.specs.Prelude.{◌≡◌, ◌≢◌, ◌⊎◌, ◌^◌, ◌≤◌, ◌<◌, ◌≤ℤ◌, ◌*ℤ◌, ◌+◌, ◌*◌, ◌/◌, ◌<ℤ◌, ◌+ℤ◌, ◌-ℤ◌}
-use Rattle.applied.proofs.Common.{ℕ, ℤ, pos, negsuc, neg_ℤ, suc, zero, unsigned_abs, int_pow, arith, ap, inl, inr, refl, subst, sym, pow_mono, ◌∙◌, pow-le-pow_left, by_lt_z, ints, IsFloorRoot, IsRoot, even_power, exact_power_root, linear, odd_power, power_of_one, power_of_zero, power_size, int_div, add-one, div-one, le_refl, le-div_iff_mul-le, div-lt_iff_lt-mul, pow-suc, div-div-eq-div-mul, one-le-pow, pow-le-pow_right, pow-succ', pow-zero, div_below, le-div, mul-le, IsRange, within_fits, few_bits, root_by_squares, sizes, LogarithmIsOnly, IsLogarithm}
-
-square_from_zero : (k : ℤ) → pos 0 ≤ℤ (k *ℤ k)
-square_from_zero (pos k) = omega (arith, ints)
-square_from_zero (negsuc k) = omega (arith, ints)
-
-pub no_negative_square : {n : ℤ} (k : ℤ) → n <ℤ pos 0 → ¬ (k *ℤ k ≡ n)
-no_negative_square k below is = let up = square_from_zero k in omega (arith, linear)
+use Rattle.applied.proofs.Common.{ℕ, ℤ, pos, negsuc, neg_ℤ, suc, zero, unsigned_abs, int_pow, arith, ap, inl, refl, subst, sym, pow_mono, ◌∙◌, pow-le-pow_left, by_lt_z, ints, IsFloorRoot, IsRoot, even_power, exact_power_root, linear, odd_power, power_of_one, power_of_zero, power_size, int_div, add-one, le_refl, le-div_iff_mul-le, div-lt_iff_lt-mul, pow-suc, div-div-eq-div-mul, one-le-pow, pow-le-pow_right, pow-succ', div_below, le-div, mul-le, IsRange, within_fits, few_bits, root_by_squares, sizes, LogarithmIsOnly, IsLogarithm}
 
 -- ---- roots of powers
 
@@ -17,13 +10,7 @@ power_of_floor_root {r = negsuc a} h = absurd (omega (arith, ints, h.from_zero))
 
 -- the power of a root lies between 0 and the number
 pub power_of_root_in_range : {x r : ℤ} {n : ℕ} → IsRoot x n r → ((pos 0 ≤ℤ int_pow r n) × (int_pow r n ≤ℤ x)) ⊎ ((x ≤ℤ int_pow r n) × (int_pow r n ≤ℤ pos 0))
-power_of_root_in_range {x} {r} {n} h = by_lt_z x (pos 0)
-    (λ below.
-    let odd = h.below_zero below in
-    let size = power_of_floor_root odd.1 in
-    let same = odd_power r n odd.0 in
-    inr (omega (arith, linear), omega (arith, linear)))
-    (λ up. inl (power_of_floor_root (h.from_zero up)))
+power_of_root_in_range {x} {r} {n} h = grind (arith, by_lt_z, power_of_floor_root, odd_power, linear)
 
 -- the power of the root of a power is the power
 pub root_of_power_is_exact : {x r : ℤ} {n : ℕ} (k : ℤ) → n ≢ 0 → int_pow k n ≡ x → IsRoot x n r → int_pow r n ≡ x
@@ -62,9 +49,6 @@ pub record IsDivided (base n rest : ℤ) (k : ℕ) : Type 0 where
   pub positive : pos 0 <ℤ rest
   pub is : unsigned_abs rest ≡ unsigned_abs n / unsigned_abs base ^ k
 
-pub divided_first : (base n : ℤ) → pos 0 <ℤ n → IsDivided base n n 0
-divided_first base n up = record { positive = up; is = rw (pow-zero (unsigned_abs base)) (sym (div-one (unsigned_abs n))) }
-
 -- the quotient of positive numbers is that of natural numbers
 natural_quotient : (a b : ℤ) → pos 0 <ℤ a → pos 1 <ℤ b → int_div a b ≡ pos (unsigned_abs a / unsigned_abs b)
 natural_quotient (pos a) (pos b) up base_up = refl
@@ -86,9 +70,6 @@ divided_smaller base rest base_up rest_up =
     let twice = mul-le (unsigned_abs rest) 2 (unsigned_abs rest) (unsigned_abs base) (le_refl (unsigned_abs rest)) (omega (arith, sizes)) in
     rw (natural_quotient rest base rest_up base_up)
     (div_below (unsigned_abs rest) (unsigned_abs base) (unsigned_abs rest) (omega (arith, sizes)) (omega (arith, sizes)))
-
-pub base_is_other : {base : ℤ} → pos 1 <ℤ base → base ≢ pos 0
-base_is_other base_up none = omega (arith, linear)
 
 power_at_most : {base n rest : ℤ} {k : ℕ} → pos 1 <ℤ base → IsDivided base n rest k → unsigned_abs base ^ k ≤ unsigned_abs n
 power_at_most {base} {n} {rest} {k} base_up h =
@@ -114,9 +95,7 @@ divided_last {base = negsuc b} base_up up less h = absurd (omega (arith, ints))
 -- ---- only one number is the logarithm
 
 not_below : {base n : ℤ} {k j : ℕ} → pos 1 <ℤ base → IsLogarithm base n k → IsLogarithm base n j → ¬ (k < j)
-not_below {base = pos b} {k = k} {j = j} up h other less =
-    let grows : b ^ (k + 1) ≤ b ^ j = pow-le-pow_right {n = b} (omega (arith, ints)) (omega arith) in
-    omega (arith, ints)
+not_below {base = pos b} {k = k} {j = j} up h other less = grind (arith, pow-le-pow_right, ints)
 not_below {base = negsuc b} up h other less = omega (arith, ints)
 
 pub logarithm_is_only : LogarithmIsOnly
@@ -133,8 +112,3 @@ pub rest_of_square_fits : {fits : ℤ → Type 0} {low high x r p : ℤ} → IsR
 rest_of_square_fits range x_fits up root is =
     let square = square_rest up root in
     within_fits range x_fits (inl (omega (arith, linear), omega (arith, linear)))
-
-pub rest_of_square : {x r p d : ℤ} → pos 0 ≤ℤ x → IsRoot x 2 r → p ≡ r *ℤ r → d ≡ x -ℤ p → (x ≡ r *ℤ r +ℤ d) × (pos 0 ≤ℤ d) × (d ≤ℤ (r +ℤ r))
-rest_of_square up root square_is is =
-    let square = square_rest up root in
-    (omega (arith, linear), omega (arith, linear), omega (arith, linear))

@@ -1,5 +1,5 @@
 -- Greatest common divisors up to their sign, and pairs of numbers divided by their greatest common divisor.
-use Rattle.std.specs.Prelude.{◌≡◌, ◌≢◌, ◌⊎◌, ◌≤ℤ◌, ◌<ℤ◌, ◌-ℤ◌, ◌*ℤ◌, ◌<◌, ◌*◌, ◌/◌}
+use Rattle.std.specs.Prelude.{◌≡◌, ◌≢◌, ◌≤ℤ◌, ◌<ℤ◌, ◌-ℤ◌, ◌*ℤ◌, ◌<◌, ◌*◌, ◌/◌}
 use Rattle.applied.proofs.Common.{ℤ, pos, negsuc, neg_ℤ, unsigned_abs, int_div, ◌∙◌, arith, inl, inr, refl, subst, sym, cases_lt, by_lt_z, Divides, IsGreatestCommonDivisor, EachFits, IsRange, Divides-trans, divides_magnitude, divisor_size, exact_quotient, expand, gcd-swap, gcd-zero, linear, magnitude_divides, one_fits, only_gcd, other_quotient_fits, product_from_zero, products, sizes, truncated_is, within_fits, gcd_exists, ℕ, ap, Divides-antisym, cancel, comm, coprime_divides, divided_by_gcd, factor_positive, mul-neg, natural_exact_quotient, natural_gcd_positive, natural_quotients_coprime, product_positive, zero_divides, zero_or_not, ReducedPairIsOnly, HasSignOf, IsReducedPair}
 
 -- ---- magnitudes
@@ -57,14 +57,10 @@ module _ {n d : ℤ} (nonzero : d ≢ pos 0) (divides : Divides (pos (unsigned_a
   exact = exact_quotient nonzero (Divides-trans (divides_magnitude d) divides)
 
   pub part_by_positive : pos 0 ≤ℤ d → n ≡ pos (unsigned_abs d) *ℤ int_div n d
-  part_by_positive up =
-      let same : pos (unsigned_abs d) ≡ d = omega (arith, sizes) in
-      rw same exact
+  part_by_positive up = grind (arith, sizes, exact)
 
   pub part_by_negative : d <ℤ pos 0 → n ≡ pos (unsigned_abs d) *ℤ neg_ℤ (int_div n d)
-  part_by_negative below =
-      let same : pos (unsigned_abs d) ≡ neg_ℤ d = omega (arith, sizes) in
-      rw same (exact ∙ simp expand (omega (arith, products)))
+  part_by_negative below = grind (arith, sizes, exact, expand, products)
 
   pub part_by_negative_fits : {fits : ℤ → Type 0} {low high : ℤ} → IsRange fits low high → fits n → d <ℤ pos 0 → fits (neg_ℤ (int_div n d))
   part_by_negative_fits range n_fits below = part_fits {g = pos (unsigned_abs d)} range n_fits (omega (arith, sizes)) (part_by_negative below)
@@ -76,25 +72,11 @@ module _ {n d : ℤ} (nonzero : d ≢ pos 0) (divides : Divides (pos (unsigned_a
 
 -- the pair of 0 and 0 stays
 pub reduced_zeros : {a b : ℤ} → a ≡ pos 0 → b ≡ pos 0 → IsReducedPair a b a b
-reduced_zeros {a} {b} a_zero b_zero =
-    let own : (z : ℤ) → HasSignOf z z = λ z. record { positive = (λ h. h, λ h. h); negative = (λ h. h, λ h. h) } in
-    let none : ¬ ((a ≢ pos 0) ⊎ (b ≢ pos 0)) = λ other. elim other [ inl some ↦ some a_zero | inr some ↦ some b_zero ] in
-    record { ratio = comm a b; first_sign = own a; second_sign = own b; coprime = λ other. absurd (none other) }
+reduced_zeros {a} {b} a_zero b_zero = grind arith
 
 -- a positive factor keeps the sign
 sign_of_part : {a g x : ℤ} → pos 0 <ℤ g → a ≡ g *ℤ x → HasSignOf a x
-sign_of_part {a} {g} {x} up is =
-    let opposite : neg_ℤ a ≡ g *ℤ neg_ℤ x = ap neg_ℤ is ∙ sym (mul-neg g x) in
-    record {
-      positive = (λ x_up. rw is (product_positive g x up x_up), λ a_up. factor_positive a_up up is);
-      negative = (λ x_down. omega (arith, linear, product_positive g (neg_ℤ x) up (omega (arith, linear))), λ a_down. omega (arith, linear, factor_positive {m = neg_ℤ a} (omega (arith, linear)) up opposite));
-    }
-
--- two numbers whose gcd is 0 are 0
-pub reduced_of_zero : {a b d : ℤ} → IsGreatestCommonDivisor a b (pos (unsigned_abs d)) → d ≡ pos 0 → IsReducedPair a b a b
-reduced_of_zero {d = d} h none =
-    let zero : pos (unsigned_abs d) ≡ pos 0 = omega (arith, sizes) in
-    reduced_zeros (zero_divides (rw zero at h.divides_left)) (zero_divides (rw zero at h.divides_right))
+sign_of_part {a} {g} {x} up is = grind (arith, neg_ℤ, mul-neg, product_positive, factor_positive, linear)
 
 -- the parts of two numbers by their positive gcd
 pub reduced_by_gcd : {a b g x y : ℤ} → pos 0 <ℤ g → IsGreatestCommonDivisor a b g → a ≡ g *ℤ x → b ≡ g *ℤ y → IsReducedPair a b x y

@@ -4,9 +4,7 @@ use Rattle.applied.proofs.Common.{ℕ, ℤ, pos, List, [], length, slice_index, 
 
 -- one more byte at the end moves each before it up by one power
 sum_with_last : (base : ℤ) (bytes : List ℕ) (last : ℕ) → weighted_sum base (bytes ++ last ∷ []) ≡ weighted_sum base bytes *ℤ base +ℤ pos last
-sum_with_last base [] last =
-    let unit : pos last *ℤ int_pow base 0 ≡ pos last *ℤ pos 1 = ap (λ (t : ℤ). pos last *ℤ t) (int_pow-zero base) in
-    omega (arith, products)
+sum_with_last base [] last = grind (arith, int_pow, int_pow-zero, products)
 sum_with_last base (byte ∷ bytes) last =
     let power : int_pow base (length (bytes ++ last ∷ [])) ≡ base *ℤ int_pow base (length bytes) = ap (λ (k : ℕ). int_pow base k) (length_push bytes last ∙ add-one (length bytes)) ∙ int_pow-suc base (length bytes) in
     let rest = sum_with_last base bytes last in

@@ -1,7 +1,7 @@
 -- Sums of signed numbers, and totals that no type has.
 use Rattle.std.specs.Prelude.{◌≡◌, ◌<◌, ◌≤◌, ◌^◌, ◌+◌, ◌+ℤ◌, ◌∷◌, ◌++◌}
 use Rattle.applied.specs.Totals.{wrapped}
-use Rattle.applied.proofs.Common.{ℕ, ℤ, pos, unsigned_abs, List, [], length, get_or, map, take, arith, inl, inr, refl, map_more, take_all, IsRange, linear, sizes, signed_sum}
+use Rattle.applied.proofs.Common.{ℕ, ℤ, pos, unsigned_abs, List, [], length, get_or, map, take, arith, refl, map_more, take_all, IsRange, linear, signed_sum}
 
 -- ---- sums of lists
 
@@ -45,14 +45,4 @@ module _ {X : Type 0} {value : X → ℤ} {items : List X} {i low over under : �
 
 -- a number whose magnitude has more than 128 bits is out of each range
 pub wide_out_of_range : {fits : ℤ → Type 0} {low high : ℤ} {z : ℤ} → IsRange fits low high → 2 ^ 128 ≤ unsigned_abs z → ¬ (fits z)
-wide_out_of_range {z = z} range large z_fits =
-    let between = (range.between z).0 z_fits in
-    let positive = range.positive in
-    let most = range.bounded in
-    elim range.low_end [
-      | inl none ↦ omega (arith, sizes, between, most, none)
-      | inr negative ↦ elim range.bounded_below [
-        | inl up ↦ omega (arith, sizes, between, most, up)
-        | inr small ↦ elim negative [ inl same ↦ omega (arith, sizes, between, small, same) | inr next ↦ omega (arith, sizes, between, small, next) ]
-      ]
-    ]
+wide_out_of_range {z = z} range large z_fits = grind arith

@@ -12,12 +12,7 @@ pub record AreSharedTo (amount : ℕ) (weights : List ℕ) (total i ahead : ℕ)
   pub near : (k : ℕ) → k ≤ i → (amount * sum (take k weights) ≤ sum (take k shares) * total) × (sum (take k shares) * total < amount * sum (take k weights) + total)
 
 pub none_shared : {amount total : ℕ} {weights shares : List ℕ} → length shares ≡ length weights → 0 < total → AreSharedTo amount weights total 0 0 shares
-none_shared {amount} {total} {weights} {shares} size up = record {
-  one_each = size;
-  below = up;
-  place = omega arith;
-  near = λ k none. let e : k ≡ 0 = omega arith in rw e (omega arith, omega arith);
-}
+none_shared {amount} {total} {weights} {shares} size up = grind arith
 
 pub one_more_shared : {amount total i ahead next : ℕ} {weights shares : List ℕ} (share : ℕ) → i < length weights → share * total + ahead ≡ amount * slice_index weights i + next → next < total
     → AreSharedTo amount weights total i ahead shares → AreSharedTo amount weights total (i + 1) next (slice_set shares i share)
@@ -35,11 +30,7 @@ one_more_shared {amount} {total} {i} {ahead} {next} {weights} {shares} share wit
     }
 
 pub all_shared : {amount total i ahead : ℕ} {weights shares : List ℕ} → total ≡ sum weights → length weights ≤ i → AreSharedTo amount weights total i ahead shares → AreShares amount weights shares
-all_shared is end h = record {
-  one_each = h.one_each;
-  enough = λ k within. rw (sym is) (h.near k (omega arith)).0;
-  fewest = λ k within. rw (sym is) (h.near k (omega arith)).1;
-}
+all_shared is end h = grind arith
 
 -- ---- what shares have
 
@@ -49,12 +40,7 @@ same_quotient n d p q enough fewest other_enough other_fewest = grind (arith, mu
 
 -- Together they are the amount.
 pub shares_are_whole : {amount : ℕ} {weights shares : List ℕ} → 0 < sum weights → AreShares amount weights shares → sum shares ≡ amount
-shares_are_whole {amount} {weights} {shares} some h =
-    let all_weights : take (length weights) weights ≡ weights = take_all (length weights) weights (le_refl (length weights)) in
-    let all_shares : take (length weights) shares ≡ shares = take_all (length weights) shares (omega (arith, h.one_each)) in
-    let enough = rw (all_weights, all_shares) at (h.enough (length weights) (le_refl (length weights))) in
-    let fewest = rw (all_weights, all_shares) at (h.fewest (length weights) (le_refl (length weights))) in
-    same_quotient (amount * sum weights) (sum weights) amount (sum shares) (omega arith) (omega arith) enough fewest
+shares_are_whole {amount} {weights} {shares} some h = grind (arith, take, length, take_all, le_refl, same_quotient, sum)
 
 -- Each is near its exact share.
 pub shares_are_near : {amount : ℕ} {weights shares : List ℕ} → AreShares amount weights shares → EachIndex weights (λ i. IsNearShare amount (slice_index weights i) (sum weights) (slice_index shares i))
@@ -62,8 +48,7 @@ shares_are_near {amount} {weights} {shares} h = λ i within.
     let weight = sum_by_more (λ (x : ℕ). x) weights i 0 within in
     let share = sum_by_more (λ (x : ℕ). x) shares i 0 (omega (arith, h.one_each)) in
     let enough = rw (weight, share) at (h.enough (i + 1) (omega arith)) in
-    let fewest = rw (weight, share) at (h.fewest (i + 1) (omega arith)) in
-    record { not_above = omega (arith, fewest, h.enough i (omega arith)); not_below = omega (arith, enough, h.fewest i (omega arith)) }
+    grind arith
 
 -- An amount has one list of shares.
 pub shares_are_only : {amount : ℕ} {weights shares : List ℕ} → AreShares amount weights shares → IsOnly (AreShares amount weights) shares
@@ -83,10 +68,7 @@ pub record AreSignedTo (amount : ℤ) (weights : List ℕ) (total i ahead : ℕ)
   pub signs : (k : ℕ) (d : ℤ) → k < i → (pos 0 ≤ℤ amount → pos 0 ≤ℤ get_or shares k d) × (amount ≤ℤ pos 0 → get_or shares k d ≤ℤ pos 0)
 
 pub none_signed : {amount : ℤ} {total : ℕ} {weights : List ℕ} {shares : List ℤ} → length shares ≡ length weights → 0 < total → AreSignedTo amount weights total 0 0 shares
-none_signed {shares = shares} size up = record {
-  magnitudes = none_shared (length-map shares unsigned_abs ∙ size) up;
-  signs = λ k d none. absurd (omega arith);
-}
+none_signed {shares = shares} size up = grind (arith, none_shared, length-map, unsigned_abs)
 
 -- what both loops begin with
 pub ruleset nothing_written = (none_shared, none_signed)
@@ -100,15 +82,6 @@ one_more_signed {amount} {total} {i} {ahead} {next} {weights} {shares} share wit
     record {
       magnitudes = rw (map-set unsigned_abs shares i share) (one_more_shared (unsigned_abs share) within is below h.magnitudes);
       signs = λ k d upto. grind (arith, get_or-set_other shares i k share d, get_or-set_same shares i share d room, h.signs k d, up, down);
-    }
-
-pub all_signed : {amount : ℤ} {total i ahead : ℕ} {weights : List ℕ} {shares : List ℤ} → total ≡ sum weights → length weights ≤ i → AreSignedTo amount weights total i ahead shares → AreSignedShares amount weights shares
-all_signed {shares = shares} is end h =
-    let size = length-map shares unsigned_abs in
-    record {
-      magnitudes = all_shared is end h.magnitudes;
-      from_zero = λ sign k d within. (h.signs k d (omega (arith, size, h.magnitudes.one_each))).0 sign;
-      to_zero = λ sign k d within. (h.signs k d (omega (arith, size, h.magnitudes.one_each))).1 sign;
     }
 
 -- the sum of numbers of one sign, by their magnitudes

@@ -1,12 +1,5 @@
 -- The integers of a range, held by 64 bits.
-use Rattle.std.specs.Prelude.{◌≡◌, ℤ, FitsSigned}
-use Rattle.std.specs.Int.{w64}
-use Rattle.std.proofs.Common.{arith, of_z, to_z}
-use Rattle.std.proofs.Props.{props}
-use Rattle.std.proofs.lemmas.Int.{ints, to_z-of_z}
-use Rattle.num_integer.specs.Between.{Between}
-use Rattle.num_integer.specs.Range.{EachFits}
-use Rattle.bounded_integers.specs.Ranges.{IsBoundedRange}
+use Rattle.bounded_integers.proofs.Common.{◌≡◌, ℤ, FitsSigned, w64, arith, of_z, to_z, props, ints, to_z-of_z, Between, EachFits, IsBoundedRange}
 
 -- 64 bits hold a number of the range
 pub fits_word : {low high z : ℤ} → IsBoundedRange low high → Between low high z → FitsSigned w64 z

@@ -14,9 +14,7 @@ month_end ms i j before within =
 -- The day of a date in its year is from 1 to the length of the year.
 pub year_day_range : {year : ℤ} {month day : ℕ} → IsDate year month day → (1 ≤ days_before_month year month + day) × (days_before_month year month + day ≤ days_in_year year)
 unfolding days_in_year
-year_day_range {year} {month} {day} h =
-    let end = month_end (months_of year) (month - 1) 12 (omega (arith, h.month_from_one, h.month_to_twelve)) (le_refl 12) in
-    (omega (arith, h.day_from_one), omega (arith, h.day_to_last))
+year_day_range {year} {month} {day} h = grind arith
 
 -- the first day of the next month, and that of the next year, come after the last day of a month
 pub next_month : (year : ℤ) (month : ℕ) → 1 ≤ month → month < 12 → day_number year (month + 1) 1 ≡ day_number year month (days_in_month year month) +ℤ pos 1
@@ -34,11 +32,7 @@ next_year year = omega (arith, ints, next_first_day year, sum_by_more {X = ℕ} 
 
 -- the last day of a year is 31 December
 pub last_of_year : {year : ℤ} {month day : ℕ} → IsDate year month day → 12 ≤ month → days_in_month year month ≤ day → (month ≡ 12) × (day ≡ 31)
-last_of_year {year} {month} h from last =
-    let december : month ≡ 12 = omega (arith, h.month_to_twelve) in
-    let part = rw december at h.day_to_last in
-    let rest = rw december at last in
-    (december, omega arith)
+last_of_year {year} {month} h from last = grind arith
 
 -- ---- the order
 

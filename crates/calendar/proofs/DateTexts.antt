@@ -1,8 +1,7 @@
 -- Dates as they are written, and as they are read.
-use Rattle.calendar.proofs.Common.{cond, ◌≡◌, ◌≢◌, ◌↔◌, ◌⊎◌, ◌+◌, ◌-◌, ◌*◌, ◌/◌, ◌%◌, ◌<◌, ◌≤◌, ◌++◌, ◌≤ℤ◌, ◌<ℤ◌, ℕ, suc, ℤ, pos, negsuc, List, [], ◌∷◌, drop, take, length, get_or, Bool, true, false, Option, Some, None, MatchOption, arith, ap, append_assoc, inl, inr, refl, sym, ◌∙◌, ints, append-nil, get_or-drop, length-append, take-append-drop, decimal, format_spec, styled_signed_decimal, IsCharBoundary, drop-append_seam, take-append_seam, lt_z, HasParts, TextIsOnly, IsDate, Date, IsoWeek, padded, text_of, week_text, with_number, year_text}
+use Rattle.calendar.proofs.Common.{cond, ◌≡◌, ◌≢◌, ◌↔◌, ◌⊎◌, ◌+◌, ◌-◌, ◌*◌, ◌/◌, ◌%◌, ◌<◌, ◌≤◌, ◌++◌, ◌≤ℤ◌, ◌<ℤ◌, ℕ, suc, ℤ, pos, negsuc, List, [], ◌∷◌, drop, take, length, get_or, Bool, true, false, Option, Some, None, MatchOption, arith, ap, append_assoc, inl, inr, refl, sym, ◌∙◌, ints, append-nil, get_or-drop, length-append, take-append-drop, decimal, format_spec, styled_signed_decimal, IsCharBoundary, drop-append_seam, take-append_seam, HasParts, TextIsOnly, IsDate, Date, IsoWeek, padded, text_of, week_text, with_number, year_text}
 use Rattle.std.specs.Fmt.{char_count, padded_integral}
 use Rattle.calendar.proofs.DateOrder.{of_parts}
-use Rattle.calendar.proofs.MonthLengths.{month_length_range}
 use Rattle.calendar.proofs.PaddedNumbers.{two_places}
 use Rattle.calendar.proofs.YearTexts.{above, before, below, only_year}
 
@@ -51,10 +50,7 @@ number_text text k tens ones t o e =
 -- ---- months and days are of two digits
 
 pub small_parts : (date : Date) → (date.month < 100) × (date.day_of_month < 100)
-small_parts date = (
-  omega (arith, date.valid.month_to_twelve),
-  omega (arith, date.valid.day_to_last, month_length_range date.year date.month date.valid.month_from_one date.valid.month_to_twelve),
-)
+small_parts date = grind arith
 
 -- each text is that of one date at most
 pub only_text : TextIsOnly
@@ -79,9 +75,7 @@ no_date none other = (λ e. absurd cc, λ e. absurd (other e))
 
 pub zero_padded : (places n : ℕ) → padded_integral (format_spec 32 0 4 places 18446744073709551615) false [] (decimal n) ≡ padded places n
 unfolding padded_integral char_count
-zero_padded places n =
-    let same : places - length (decimal n) - 0 - 0 ≡ places - length (decimal n) = omega arith in
-    rw (append-nil, same) refl
+zero_padded places n = grind (arith, append-nil)
 
 -- a year of four digits needs no sign
 pub short_text : (date : Date) (year : ℕ) → date.year ≡ pos year → year < 10000 → with_number (with_number (padded 4 year) date.month) date.day_of_month ≡ text_of date
@@ -93,16 +87,12 @@ sign_padded true n = let same : 5 - length (decimal n) - 1 - 0 ≡ 4 - length (d
 sign_padded false n = let same : 5 - length (decimal n) - 1 - 0 ≡ 4 - length (decimal n) = omega arith in rw (append-nil, same) refl
 
 pub plain_year : (year : ℤ) → pos 0 ≤ℤ year → year ≤ℤ pos 9999 → styled_signed_decimal (format_spec 32 0 4 4 18446744073709551615) year ≡ year_text year
-plain_year (pos n) low high =
-    let sign : lt_z (pos n) (pos 0) ≡ false = grind (arith, ints) in
-    rw sign (zero_padded 4 n ∙ sym (below n (omega (arith, ints))))
+plain_year (pos n) low high = grind (arith, zero_padded, below)
 plain_year (negsuc n) low high = absurd (omega (arith, ints))
 
 pub signed_year : (year : ℤ) → (year <ℤ pos 0) ⊎ (pos 9999 <ℤ year) → styled_signed_decimal (format_spec 32 0 5 5 18446744073709551615) year ≡ year_text year
 signed_year (pos n) (inl under) = absurd (omega (arith, ints))
-signed_year (pos n) (inr over) =
-    let sign : lt_z (pos n) (pos 0) ≡ false = grind (arith, ints) in
-    rw sign (sign_padded false n ∙ sym (above n (omega (arith, ints))))
+signed_year (pos n) (inr over) = grind (arith, sign_padded, above)
 signed_year (negsuc n) h = sign_padded true (suc n) ∙ sym (before n)
 
 pub joined : (date : Date) (month day : List ℕ) → month ≡ padded 2 date.month → day ≡ padded 2 date.day_of_month

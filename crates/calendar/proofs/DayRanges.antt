@@ -6,9 +6,7 @@ use Rattle.calendar.proofs.MonthLengths.{month_length_range}
 
 pub none_left : (first end : ℤ) → end ≤ℤ first → day_numbers first end ≡ []
 unfolding numbers_from
-none_left first end past =
-    let none : unsigned_abs (int_max (pos 0) (end -ℤ first)) ≡ 0 = omega (arith, sizes, clamps) in
-    rw none refl
+none_left first end past = grind arith
 
 pub next_left : (first end : ℤ) → first <ℤ end → day_numbers first end ≡ first ∷ day_numbers (first +ℤ pos 1) end
 unfolding numbers_from

@@ -9,9 +9,7 @@ next_sunday {days = days} h is small place = first_within Sunday (days_later day
 -- the remainder of the sum is the epact
 pub is_epact : {century solar lunar sum rest : ℤ} (golden : ℕ) → IsSolarCorrection century solar → IsLunarCorrection century lunar → sum ≡ pos 11 *ℤ pos golden +ℤ pos 8 -ℤ solar +ℤ lunar
     → IsRemainder IsFloored sum (pos 30) rest → IsEpact century golden (unsigned_abs rest)
-is_epact {solar = solar} {lunar = lunar} {rest = rest} golden solar_is lunar_is sum_is h =
-    let same : pos (unsigned_abs rest) ≡ rest = omega (arith, ints, floored_remainder_range (omega (arith, ints)) h) in
-    record { solar = solar; lunar = lunar; solar_is = solar_is; lunar_is = lunar_is; epact_is = rw same (rw sum_is at h) }
+is_epact {solar = solar} {lunar = lunar} {rest = rest} golden solar_is lunar_is sum_is h = grind arith
 
 -- the days from 1 March on follow each other
 pub march_days_later : (year : ℤ) (day : ℕ) {more days : ℕ} → more ≡ days → day_number year 3 (day + more) ≡ day_number year 3 day +ℤ pos days
@@ -107,7 +105,6 @@ next_epact century golden epact h = another_epact (pos 0 -ℤ pos ((epact + 11) 
 
 pub next_solar : SolarCorrectionOfTheNextCentury
 next_solar century days h =
-    let range = floored_quotient_range h.leap_centuries_is in
     let is = h.days_is in (
       λ leap.
           let product = leap.product in

@@ -20,8 +20,3 @@ found_or_beyond P (Some x) fits h = subst P (sym fits.1) h
 pub some_from_ok : {A E : Type 0} (P : Type 0) (x : A) (r : Result A E) {o : Option A} → OkIff r P x → o ≡ result_ok r → SomeIff o P x
 some_from_ok P x (Ok n) h e = rw e h
 some_from_ok P x (Err d) h e = rw e h
-
--- the value of `narrowed`, if it fits
-pub some_narrowed : (P : Type 0) (n : ℤ) (o : Option ℤ) → MatchOption o (¬ P) (λ x. P × (x ≡ n)) → SomeIff o P n
-some_narrowed P n None h = h
-some_narrowed P n (Some x) h = h

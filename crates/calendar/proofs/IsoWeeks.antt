@@ -56,13 +56,7 @@ one_year day y z h k = grind (arith, linear, later_year y z, later_year z y)
 
 -- the number of the week that has this Thursday
 pub week_of : {day year thursday : ℤ} {days week : ℕ} → IsThursdayOfWeek day thursday → days < days_in_year year → first_day year +ℤ pos days ≡ thursday → week ≡ days / 7 + 1 → IsInIsoWeek day year week
-week_of {year = year} {thursday = thursday} h within place number = record {
-  thursday = thursday;
-  of_week = h;
-  of_year = record { from = omega (arith, ints); before = omega (arith, ints, next_first_day year) };
-  from = omega (arith, ints);
-  before = omega (arith, ints);
-}
+week_of {year = year} {thursday = thursday} h within place number = grind (arith, ints, next_first_day)
 
 -- of which there is only one
 pub one_week : IsoWeekIsOnly
@@ -119,8 +113,7 @@ pub one_day : IsoDayIsOnly
 one_day a b year week weekday h k =
     let first = h.in_week in
     let second = k.in_week in
-    let thursday = same_day Thursday first.of_week.has_weekday second.of_week.has_weekday (omega (arith, ints, first.from, first.before, second.from, second.before)) (omega (arith, ints, first.from, first.before, second.from, second.before)) in
-    same_day weekday h.has_weekday k.has_weekday (omega (arith, ints, thursday, first.of_week.to, second.of_week.from)) (omega (arith, ints, thursday, first.of_week.from, second.of_week.to))
+    same_day weekday h.has_weekday k.has_weekday (omega (arith, ints, first.of_week.to, second.of_week.from)) (omega (arith, ints, first.of_week.from, second.of_week.to))
 
 -- a day of the week by the days to the Thursday, and its date
 by_thursday : {year days : ℤ} {week : ℕ} (place : ℕ) (weekday : Weekday) → IsDayOfIsoWeek (first_day year +ℤ pos place) year week Thursday → days ≡ pos place -ℤ pos 3 +ℤ pos ((weekday_number weekday + 6) % 7) → IsDayOfIsoWeek (first_day year +ℤ days) year week weekday
@@ -141,22 +134,12 @@ later_thursday year weeks h = is_thursday (pos weeks -ℤ h.quotient) (omega (ar
 
 -- the Thursday of a week, if it is in the year
 pub thursday_in_year : {year : ℤ} {week : ℕ} (place : ℕ) → HasWeekday (first_day year +ℤ pos place) Thursday → 7 * week ≤ place + 7 → place < 7 * week → place < days_in_year year → IsDayOfIsoWeek (first_day year +ℤ pos place) year week Thursday
-thursday_in_year {year} place h from before inside = record {
-  in_week = record {
-    thursday = first_day year +ℤ pos place;
-    of_week = record { has_weekday = h; from = omega (arith, ints); to = omega (arith, ints) };
-    of_year = record { from = omega (arith, ints); before = omega (arith, ints, next_first_day year) };
-    from = omega (arith, ints);
-    before = omega (arith, ints);
-  };
-  has_weekday = h;
-}
+thursday_in_year {year} place h from before inside = grind (arith, ints, next_first_day)
 
 -- and if some day is in the week, it is
 pub within_year : {day year : ℤ} {week : ℕ} (place : ℕ) → HasWeekday (first_day year +ℤ pos place) Thursday → 7 * week ≤ place + 7 → place < 7 * week → IsInIsoWeek day year week → place < days_in_year year
 within_year {year = year} place own from before h =
-    let same = same_day Thursday h.of_week.has_weekday own (omega (arith, ints, h.from, h.before)) (omega (arith, ints, h.from, h.before)) in
-    omega (arith, ints, h.of_year.before, next_first_day year)
+    omega (arith, ints, next_first_day year)
 
 -- ---- the number of weeks of a year
 

@@ -39,18 +39,12 @@ first_day_later (negsuc n) eras = from_place (negsuc n) eras (negsuc (n / 400) -
 -- days and eras that are added or subtracted fit
 pub days_and_eras : (day rest : ℕ) (era eras : ℤ) → day < 2 ^ 30 → rest < 146097 → unsigned_abs era < 2 ^ 55 → unsigned_abs eras < 2 ^ 47
     → FitsSigned w64 (pos day) × FitsSigned w64 (pos rest) × FitsSigned w64 (pos (day + rest)) × FitsSigned w64 (pos day -ℤ pos rest) × FitsSigned w64 era × FitsSigned w64 eras × FitsSigned w64 (era +ℤ eras) × FitsSigned w64 (era -ℤ eras)
-days_and_eras day rest era eras day_below rest_below small more_small =
-    (omega (arith, ints), omega (arith, ints), omega (arith, ints), omega (arith, ints), omega (arith, ints), omega (arith, ints), omega (arith, ints), omega (arith, ints))
+days_and_eras day rest era eras day_below rest_below small more_small = grind (arith, ints)
 
 -- ---- dates
 
 pub date_later : {year : ℤ} {month day : ℕ} (eras : ℤ) → IsDate year month day → IsDate (year +ℤ pos 400 *ℤ eras) month day
-date_later {year} {month} {day} eras h = record {
-  month_from_one = h.month_from_one;
-  month_to_twelve = h.month_to_twelve;
-  day_from_one = h.day_from_one;
-  day_to_last = rw (leap_later year eras) h.day_to_last;
-}
+date_later {year} {month} {day} eras h = grind (arith, leap_later)
 
 abbrev pub later : Date → ℤ → Date
 later date eras = record { year = date.year +ℤ pos 400 *ℤ eras; month = date.month; day_of_month = date.day_of_month; valid = date_later eras date.valid }

@@ -54,10 +54,7 @@ module _ (month after months : ℕ) (before : month ≤ 2 → after ≡ 0) (same
     (late : 2 < month → (year : ℤ) → days_before_month year month ≡ days_before_month year 3 + months) where
   -- the days before the month
   pub days_before : (year : ℤ) → months + after * days_in_year year ≡ days_before_month year month + 306
-  days_before year = elim (cases_lt 2 month) [
-    | inl later ↦ rw (same later) (omega (arith, late later year, third_month year))
-    | inr sooner ↦ rw (before sooner) (omega (arith, early sooner year))
-  ]
+  days_before year = search (rules, third_month)
 
   -- the first of the month, by the days to 1 March
   pub month_of_march : (era : ℤ) (year years : ℕ) → ((e : ℤ) → day_number (pos 400 *ℤ e +ℤ pos (year + 399 + after)) 3 1 ≡ pos 146097 *ℤ e +ℤ pos years -ℤ pos 719468)

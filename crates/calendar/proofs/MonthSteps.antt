@@ -1,5 +1,5 @@
 -- Dates some months apart.
-use Rattle.calendar.proofs.Common.{◌≡◌, ◌<◌, ◌≤◌, ◌+◌, ◌-◌, ◌/◌, ◌%◌, ◌≤ℤ◌, ◌<ℤ◌, ◌+ℤ◌, ◌-ℤ◌, ◌*ℤ◌, ℕ, ℤ, pos, negsuc, min, unsigned_abs, ◌∙◌, arith, inl, inr, refl, sym, cases_lt, by_lt_z, ints, floored_quotient_range, floored_remainder_range, linear, IsFloored, IsQuotient, IsMonthsAfter, IsMonthsBetween, IsYearsBetween, number_of, MonthsAfterExists, MonthsAfterIsOnly, MonthsBetweenIsOnly, YearsBetweenIsOnly, days_in_month, month_number, Date}
+use Rattle.calendar.proofs.Common.{◌≡◌, ◌<◌, ◌≤◌, ◌+◌, ◌-◌, ◌/◌, ◌%◌, ◌≤ℤ◌, ◌<ℤ◌, ◌+ℤ◌, ◌-ℤ◌, ◌*ℤ◌, ℕ, ℤ, pos, negsuc, min, unsigned_abs, ◌∙◌, arith, inl, inr, refl, sym, cases_lt, by_lt_z, ints, floored_quotient_range, linear, IsFloored, IsQuotient, IsMonthsAfter, IsMonthsBetween, IsYearsBetween, number_of, MonthsAfterExists, MonthsAfterIsOnly, MonthsBetweenIsOnly, YearsBetweenIsOnly, days_in_month, month_number, Date}
 use Rattle.calendar.proofs.DateOrder.{of_parts, order}
 use Rattle.calendar.proofs.MonthLengths.{date_of, month_length_range}
 
@@ -8,8 +8,7 @@ use Rattle.calendar.proofs.MonthLengths.{date_of, month_length_range}
 -- Dates of one month number are of one year and month.
 pub same_month : (a b : Date) → month_number a.year a.month ≡ month_number b.year b.month → (a.year ≡ b.year) × (a.month ≡ b.month)
 same_month a b same =
-    let year : a.year ≡ b.year = omega (arith, ints, a.valid.month_from_one, a.valid.month_to_twelve, b.valid.month_from_one, b.valid.month_to_twelve) in
-    (year, omega (arith, ints))
+    omega (arith, ints)
 
 -- A date of a later month is later.
 pub later_month : (a b : Date) → month_number a.year a.month <ℤ month_number b.year b.month → number_of a <ℤ number_of b
@@ -25,7 +24,7 @@ month_of (negsuc n) = (negsuc (n / 12), 12 - n % 12, omega arith, omega arith, o
 -- the quotient of a number by 12 is its year, and the remainder tells the month
 module _ {number year rest : ℤ} (h : IsFloored number (pos 12) year rest) where
   rest_range : (pos 0 ≤ℤ rest) × (rest <ℤ pos 12)
-  rest_range = floored_remainder_range (omega (arith, ints)) (record { quotient = year; division = h })
+  rest_range = grind arith
 
   pub month_found : (1 ≤ unsigned_abs rest + 1) × (unsigned_abs rest + 1 ≤ 12) × (month_number year (unsigned_abs rest + 1) ≡ number)
   month_found = (omega arith, omega (arith, ints, rest_range), omega (arith, ints, rest_range, h.division.equation))

@@ -15,7 +15,6 @@ pub nth_weekday : (o : Option Date) {year : ℤ} {month : ℕ} {weekday : Weekda
     → MatchOption o ((date : Date) → ¬ (IsNthWeekday year month weekday n date)) (λ date. IsNthWeekday year month weekday n date)
 nth_weekday None {weekday = weekday} {n = n} {day = day} first parts h small from place none = λ date k.
     let apart = in_month date first (record { year_is = k.year_is; month_is = k.month_is; day_is = refl }) parts in
-    let own = same_day weekday k.has_weekday (weeks_apart (pos (n - 1)) refl h) (omega (arith, ints)) (omega (arith, ints)) in
     let same : date.day_of_month ≡ day = omega (arith, ints) in
     none (rw (k.year_is, k.month_is, same) at date.valid)
 nth_weekday (Some date) {n = n} first parts h small from place found =

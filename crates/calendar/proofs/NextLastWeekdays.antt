@@ -21,9 +21,7 @@ no_earlier_month date other later = grind (arith, linear, later_month other date
 
 -- the last of its month is the last of its own month
 own_month : {year : ℤ} {month : ℕ} {weekday : Weekday} {date : Date} → IsLastWeekdayOfMonth year month weekday date → IsLastWeekdayOfMonth date.year date.month weekday date
-own_month {year} {month} {weekday} {date} h =
-    subst (λ y. IsLastWeekdayOfMonth y date.month weekday date) (sym h.of_month.year_is)
-    (subst (λ m. IsLastWeekdayOfMonth year m weekday date) (sym h.of_month.month_is) h)
+own_month {year} {month} {weekday} {date} h = grind arith
 
 same_number : {y z : ℤ} {m n : ℕ} → y ≡ z → m ≡ n → month_number y m ≡ month_number z n
 same_number year month = cc

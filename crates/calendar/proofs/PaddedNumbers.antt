@@ -1,5 +1,5 @@
 -- Numbers with zeros in front.
-use Rattle.calendar.proofs.Common.{◌≡◌, ◌≢◌, ◌↔◌, ◌≤◌, ◌+◌, ◌-◌, ◌*◌, ◌/◌, ◌%◌, ◌^◌, ◌<◌, ◌++◌, ℕ, zero, suc, List, [], ◌∷◌, length, replicate, get_or, Option, Some, None, Result, Ok, arith, ap, inl, inr, refl, subst, sym, ◌∙◌, cases_lt, length-append, length-replicate, decimal, digit_value, AllDigits, ParsesUnsigned, digits_value, digits_value_after, decimal-digits_value, decimal_digit, decimal_is_IsNumeral, decimal_step, first_decimal, length-decimal-le, length-decimal-le_succ, digit_value_digit, IsNumeralModel, digit_at, digit_from_value, digits_value_short, numerals_by_value, parse_gives, parse_plain, tells_digits, IsShortest, padded}
+use Rattle.calendar.proofs.Common.{◌≡◌, ◌≢◌, ◌↔◌, ◌≤◌, ◌+◌, ◌-◌, ◌*◌, ◌/◌, ◌%◌, ◌^◌, ◌<◌, ◌++◌, ℕ, zero, suc, List, [], ◌∷◌, length, replicate, get_or, Option, Some, None, Result, Ok, arith, ap, inl, inr, refl, subst, sym, ◌∙◌, cases_lt, length-append, length-replicate, decimal, digit_value, AllDigits, ParsesUnsigned, digits_value, digits_value_after, decimal-digits_value, decimal_digit, decimal_is_IsNumeral, decimal_step, first_decimal, length-decimal-le, length-decimal-le_succ, digit_value_digit, IsNumeralModel, digit_at, digit_from_value, digits_value_short, numerals_by_value, parse_gives, tells_digits, IsShortest, padded}
 
 pub decimal_numerals : IsNumeralModel (AllDigits 10) (digits_value 10)
 decimal_numerals = numerals_by_value (AllDigits 10) tells_digits
@@ -24,51 +24,15 @@ padded_value places n small = zeros_value (places - length (decimal n)) (decimal
 
 -- numbers of two digits
 pub two_places : (n : ℕ) → n < 100 → padded 2 n ≡ (48 + n / 10) ∷ (48 + n % 10) ∷ []
-two_places n small = elim (cases_lt n 10) [
-  | inl one ↦
-      let tens : 48 ≡ 48 + n / 10 = omega arith in
-      let ones : 48 + n ≡ 48 + n % 10 = omega arith in
-      rw (decimal_digit n one) (ap (λ (a : ℕ). a ∷ (48 + n) ∷ []) tens ∙ ap (λ (b : ℕ). (48 + n / 10) ∷ b ∷ []) ones)
-  | inr two ↦ rw (decimal_step n two (omega arith), decimal_digit (n / 10) (omega arith)) refl
-]
-
--- and of four
-four_bytes : {a b c d w x y z : ℕ} → a ≡ w → b ≡ x → c ≡ y → d ≡ z → a ∷ b ∷ c ∷ d ∷ [] ≡ w ∷ x ∷ y ∷ z ∷ []
-four_bytes first second third fourth = λ i. first i ∷ second i ∷ third i ∷ fourth i ∷ []
+two_places n small = grind (arith, decimal_digit, decimal_step)
 
 pub four_places : (n : ℕ) → n < 10000 → padded 4 n ≡ (48 + n / 100 / 10) ∷ (48 + n / 100 % 10) ∷ (48 + n % 100 / 10) ∷ (48 + n % 100 % 10) ∷ []
-four_places n small = elim (cases_lt n 10) [
-  | inl one ↦ rw (decimal_digit n one) (four_bytes (omega arith) (omega arith) (omega arith) (omega arith))
-  | inr two ↦
-      elim (cases_lt n 100) [
-        | inl below ↦ rw (decimal_step n two (omega arith), decimal_digit (n / 10) (omega arith)) (four_bytes (omega arith) (omega arith) (omega arith) (omega arith))
-        | inr three ↦
-            elim (cases_lt n 1000) [
-              | inl below ↦
-                  rw (decimal_step n two (omega arith), decimal_step (n / 10) (omega arith) (omega arith), decimal_digit (n / 10 / 10) (omega arith))
-                  (four_bytes (omega arith) (omega arith) (omega arith) (omega arith))
-              | inr four ↦
-                  rw (decimal_step n two (omega arith), decimal_step (n / 10) (omega arith) (omega arith), decimal_step (n / 10 / 10) (omega arith) (omega arith), decimal_digit (n / 10 / 10 / 10) (omega arith))
-                  (four_bytes (omega arith) (omega arith) (omega arith) (omega arith))
-            ]
-      ]
-]
+four_places n small = grind (arith, decimal_digit, decimal_step)
 
 -- ---- four places or more
 
 pub padded_shortest : (n : ℕ) → n < 2 ^ 64 → IsShortest (padded 4 n)
-padded_shortest n small =
-    let lengths = length_padded 4 n in (
-      omega arith,
-      digit_at (padded 4 n) 0 (padded_digits 4 n small) (omega arith),
-      λ first_zero. elim (cases_lt 4 (length (decimal n))) [
-        | inl long ↦
-            let none : 4 - length (decimal n) ≡ 0 = omega arith in
-            let first = first_decimal n (omega (arith, length-decimal-le_succ n small)) small in
-            absurd (omega (arith, rw none at first_zero, first))
-        | inr short ↦ omega arith
-      ],
-    )
+padded_shortest n small = grind (arith, length_padded, digit_at, padded_digits, first_decimal, length-decimal-le_succ)
 
 -- digits of one length and one value are the same
 same_digits : (a b : ℕ) (ds es : List ℕ) → AllDigits 10 ds → AllDigits 10 es → length ds ≡ length es → digits_value_after 10 a ds ≡ digits_value_after 10 b es → (a ≡ b) × (ds ≡ es)
@@ -85,7 +49,6 @@ padded_is ds h so small =
     let lengths = length_padded 4 (digits_value 10 ds) in
     let same : length ds ≡ length (padded 4 (digits_value 10 ds)) = elim (cases_lt (get_or ds 0 0) 49) [
       | inl low ↦
-          let four = so.2 (omega arith) in
           omega (arith, length-decimal-le 4 (digits_value 10 ds) (omega arith) (digits_value_short decimal_numerals ds 4 h (omega arith)) small)
       | inr high ↦ omega (arith, ap (λ (x : List ℕ). length x) (decimal-digits_value decimal_numerals ds h (omega arith) (λ e. absurd (omega arith)) small))
     ] in
@@ -99,9 +62,7 @@ number_read n ds r small e h =
     rw value at (parse_gives decimal_numerals 64 (padded 4 n) r (rw e at h) (padded_digits 4 n small) (omega (arith, so.0)) (rw value small))
 
 pub number_text : {E : Type 0} (n : ℕ) (ds : List ℕ) (r : Result ℕ E) → IsShortest ds → r ≡ Ok n → ParsesUnsigned 64 10 ds r → ds ≡ padded 4 n
-number_text n ds r so e h =
-    let all = rw e at (parse_plain decimal_numerals 64 ds r h (λ plus. absurd (omega (arith, so.1.0)))) in
-    padded_is ds all.0.0 so (omega (arith, all.0.2)) ∙ ap (padded 4) (sym all.1)
+number_text n ds r so e h = grind (arith, padded_is)
 
 -- ---- what is read of a string: no number, or the one from the least to the most that is written so
 
@@ -115,12 +76,7 @@ pub no_number_read : {E : Type 0} {least most : ℕ} {ds : List ℕ} (r : Result
 no_number_read {ds = ds} r small h none n = (λ e. absurd cc, λ k. absurd (none n (number_read n ds r (omega arith) k.2 h)))
 
 pub outside_read : {E : Type 0} {least most : ℕ} {ds : List ℕ} (m : ℕ) (r : Result ℕ E) → most < 2 ^ 64 → ParsesUnsigned 64 10 ds r → r ≡ Ok m → ¬ ((least ≤ m) × (m ≤ most)) → Reads None least most ds
-outside_read {least = least} {most = most} {ds = ds} m r small h is outside n = (
-  λ e. absurd cc,
-  λ k.
-      let same : n ≡ m = cc (number_read n ds r (omega arith) k.2 h) in
-      absurd (outside (subst (λ (t : ℕ). (least ≤ t) × (t ≤ most)) same (k.0, k.1))),
-)
+outside_read {least = least} {most = most} {ds = ds} m r small h is outside n = grind (arith, number_read)
 
 pub number_inside_read : {E : Type 0} {least most : ℕ} {ds : List ℕ} (m : ℕ) (r : Result ℕ E) → most < 2 ^ 64 → ParsesUnsigned 64 10 ds r → r ≡ Ok m → IsShortest ds → (least ≤ m) × (m ≤ most) → Reads (Some m) least most ds
 number_inside_read {least = least} {most = most} {ds = ds} m r small h is so within n = (

@@ -3,9 +3,7 @@ use Rattle.calendar.proofs.Common.{◌≡◌, ◌↔◌, ◌<◌, ◌%◌, ◌�
 
 pub euclidean : (n d : ℤ) → pos 0 <ℤ d → (n ≡ d *ℤ int_div_euclid n d +ℤ int_rem_euclid n d) × (pos 0 ≤ℤ int_rem_euclid n d) × (int_rem_euclid n d <ℤ d)
 euclidean (pos a) (pos d) up = (omega (arith, ints, products, div-add-mod a d), omega (arith, ints), omega (arith, ints, mod_below a d (omega (arith, ints))))
-euclidean (negsuc a) (pos d) up =
-    let below = mod_below a d (omega (arith, ints)) in
-    (omega (arith, ints, products, div-add-mod a d, below), omega (arith, ints, below), omega (arith, ints))
+euclidean (negsuc a) (pos d) up = grind (arith, ints, products, div-add-mod)
 euclidean (pos a) (negsuc d) up = absurd (omega (arith, ints))
 euclidean (negsuc a) (negsuc d) up = absurd (omega (arith, ints))
 
@@ -14,14 +12,4 @@ pub ruleset division_steps = (ints, to_z-of_z, euclidean)
 
 -- `%` returns 0 exactly if the remainder of the magnitude is 0
 pub rem_zero : (z : ℤ) (d : ℕ) → 0 < d → (int_rem z (pos d) ≡ pos 0) ↔ (unsigned_abs z % d ≡ 0)
-rem_zero z d up =
-    let by = divides_by_magnitude z d up in
-    let split = quot-rem z (pos d) in (
-      λ none. by.0 (record { factor = int_div z (pos d); product = omega (arith, products, split, none) }),
-      λ e.
-          let h = by.1 e in
-          let apart : int_rem z (pos d) ≡ (h.factor -ℤ int_div z (pos d)) *ℤ pos d = simp expand (omega (arith, products, split, h.product)) in
-          let small = small_multiple (h.factor -ℤ int_div z (pos d)) (pos d) (rw apart at (rem_below z (pos d) (omega (arith, sizes, up)))) in
-          let none : int_rem z (pos d) ≡ pos 0 *ℤ pos d = rw small at apart in
-          omega (arith, ints, products, none),
-    )
+rem_zero z d up = grind arith

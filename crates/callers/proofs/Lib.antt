@@ -1,2 +1,2 @@
 mod AffineCiphers
-mod Gears
+mod UnwrappedFractions

@@ -1,5 +1,5 @@
 -- The text of a date is ASCII.
-use Rattle.cellarcove_c.proofs.Common.{◌<◌, ◌-◌, ◌^◌, ◌++◌, ℕ, ℤ, zero, suc, pos, negsuc, List, [], ◌∷◌, length, nat_lt, replicate, FitsSigned, decimal, w64, IsAscii, IsUtf8, arith, inl, inr, cases_Bool, IsAscii-decimal, ints, IsAscii-append, IsUtf8-from_ascii, IsAscii-cons, IsAscii-nil, month_length_range, padded, text_of, with_number, Date}
+use Rattle.cellarcove_c.proofs.Common.{◌<◌, ◌-◌, ◌^◌, ◌++◌, ℕ, ℤ, zero, suc, pos, negsuc, List, [], ◌∷◌, length, replicate, FitsSigned, decimal, w64, IsAscii, IsUtf8, arith, IsAscii-decimal, ints, IsAscii-append, IsUtf8-from_ascii, IsAscii-cons, IsAscii-nil, month_length_range, padded, text_of, with_number, Date}
 use Rattle.calendar.specs.Text.{year_text}
 
 zeros_ascii : (k : ℕ) → IsAscii (replicate k 48)
@@ -13,15 +13,8 @@ padded_ascii places n small =
 
 year_ascii : (year : ℤ) → FitsSigned w64 year → IsAscii (year_text year)
 unfolding year_text
-year_ascii (pos n) fits =
-    let low = fits.sfits in
-    let digits = padded_ascii 4 n (omega (arith, ints)) in
-    elim (cases_Bool (nat_lt 9999 n)) [
-      | inl more ↦ rw more (IsAscii-cons 43 (padded 4 n) (omega arith) digits)
-      | inr few ↦ rw few digits
-    ]
+year_ascii (pos n) fits = grind (arith, padded_ascii)
 year_ascii (negsuc n) fits =
-    let low = fits.sfits in
     IsAscii-cons 45 (padded 4 (suc n)) (omega arith) (padded_ascii 4 (suc n) (omega (arith, ints)))
 
 with_ascii : (front : List ℕ) (n : ℕ) → n < 2 ^ 64 → IsAscii front → IsAscii (with_number front n)
@@ -33,7 +26,6 @@ pub date_is_utf8 : (date : Date) → FitsSigned w64 date.year → IsUtf8 (text_o
 date_is_utf8 date fits =
     let valid = date.valid in
     let to_twelve = valid.month_to_twelve in
-    let to_last = valid.day_to_last in
     let most = month_length_range date.year date.month valid.month_from_one to_twelve in
     let year = year_ascii date.year fits in
     let month = with_ascii (year_text date.year) date.month (omega arith) year in

@@ -1,5 +1,5 @@
 -- Congruences, copied one by one.
-use Rattle.cellarcove_c.proofs.Common.{◌≡◌, ◌<◌, ◌≤◌, ◌<ℤ◌, ◌+◌, ℕ, ℤ, pos, List, [], ◌∷◌, ◌++◌, length, map, All, ◌∙◌, ap, arith, get_or, refl, set, subst, sym, take, get_or-map, length-map, map_more, take_all, take_more_set, All-get_or, All-nil, All-push}
+use Rattle.cellarcove_c.proofs.Common.{◌≡◌, ◌<◌, ◌≤◌, ◌<ℤ◌, ◌+◌, ℕ, ℤ, pos, List, [], ◌∷◌, ◌++◌, length, map, All, ◌∙◌, ap, arith, get_or, set, subst, sym, take, get_or-map, length-map, map_more, take_all, take_more_set, All-get_or, All-push}
 
 -- the first i pairs are those of the first i congruences, and have a property
 pub record AreCopied {C P : Type 0} (pair : C → P) (FitsWith : P → Type 0) (congruences : List C) (pairs : List P) (i : ℕ) : Type 0 where
@@ -11,9 +11,6 @@ abbrev pub IsPair : {X : Type 0} → (X → ℤ) → (ℤ → Type 0) → X × X
 IsPair value fits p = fits (value p.0) × fits (value p.1) × (pos 0 <ℤ value p.1)
 
 module _ {C P : Type 0} (pair : C → P) (FitsWith : P → Type 0) (congruences : List C) where
-  pub none_copied : (pairs : List P) → AreCopied pair FitsWith congruences pairs 0
-  none_copied pairs = record { copied = refl; each = All-nil FitsWith }
-
   -- with one more
   pub one_copied : (pairs : List P) (i : ℕ) {c : C} {p : P} → c ≡ get_or congruences i c → p ≡ pair c → i < length congruences → i < length pairs
       → AreCopied pair FitsWith congruences pairs i → FitsWith p → AreCopied pair FitsWith congruences (set pairs i p) (i + 1)

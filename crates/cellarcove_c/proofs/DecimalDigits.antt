@@ -1,5 +1,5 @@
 -- The digits of decimal numbers.
-use Rattle.cellarcove_c.proofs.Common.{◌≡◌, ◌↔◌, ◌<◌, ◌≤◌, ◌*◌, ◌/◌, ◌%◌, ◌^◌, ◌<ℤ◌, ◌*ℤ◌, ℕ, ℤ, Bool, pos, unsigned_abs, FitsSigned, IsTrue, w64, Fits, arith, div-lt_iff_lt-mul, mul-le-mul_right, unsigned_abs-mul, div-add-mod, mod-lt, ten_grows, ten_up, quotient_size, rounded_even_division, part_size, IsRoundedEven, HasDigits}
+use Rattle.cellarcove_c.proofs.Common.{◌≡◌, ◌↔◌, ◌<◌, ◌≤◌, ◌*◌, ◌/◌, ◌%◌, ◌^◌, ◌<ℤ◌, ◌*ℤ◌, ℕ, ℤ, Bool, pos, unsigned_abs, FitsSigned, IsTrue, w64, Fits, arith, div-lt_iff_lt-mul, mul-le-mul_right, unsigned_abs-mul, ten_grows, ten_up, quotient_size, rounded_even_division, part_size, IsRoundedEven, HasDigits}
 
 -- the integer part is at most the magnitude of the numerator
 pub whole_below : {num d units : ℤ} (places : ℕ) → FitsSigned w64 num → pos 0 <ℤ d → IsRoundedEven (num *ℤ pos (10 ^ places)) d units → unsigned_abs units / 10 ^ places < 2 ^ 64
@@ -12,9 +12,7 @@ whole_below {num} {d} {units} places fits up h =
 
 -- a number is its quotient and its remainder by a power of ten
 digits_of : {units : ℤ} {negative : Bool} (places : ℕ) → IsTrue negative ↔ (units <ℤ pos 0) → HasDigits units places negative (unsigned_abs units / 10 ^ places) (unsigned_abs units % 10 ^ places)
-digits_of {units} places sign =
-    let some = ten_up places in
-    record { sign = sign; size = omega (arith, div-add-mod (unsigned_abs units) (10 ^ places)); below = mod-lt (unsigned_abs units) some }
+digits_of {units} places sign = grind (arith, ten_up)
 
 pub digits_made : {units : ℤ} {negative : Bool} {p places whole part : ℕ} → p ≡ places → IsTrue negative ↔ (units <ℤ pos 0) → whole ≡ unsigned_abs units / 10 ^ p → part ≡ unsigned_abs units % 10 ^ p
     → HasDigits units places negative whole part
@@ -22,7 +20,4 @@ digits_made {places = places} same sign whole part = rw (rw same at whole, rw sa
 
 -- the digits after the point fit
 pub part_fits : (n places : ℕ) → places ≤ 18 → Fits w64 (n % 10 ^ places)
-part_fits n places few =
-    let small = mod-lt n (ten_up places) in
-    let most = ten_grows places 18 few in
-    record { fits = omega (arith, small, most) }
+part_fits n places few = grind (arith, ten_up, ten_grows)

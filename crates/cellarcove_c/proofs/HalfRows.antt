@@ -1,5 +1,5 @@
 -- Rows of Pascal's triangle one after the other, each up to its middle.
-use Rattle.cellarcove_c.proofs.Common.{◌≡◌, ◌+◌, ◌-◌, ◌*◌, ◌/◌, ◌<◌, ◌≤◌, ℕ, zero, suc, min, List, [], ◌∷◌, ◌++◌, length, take, get_or, ◌∙◌, ap, arith, inl, inr, le_refl, refl, sym, cases_lt, get_or-append_right, get_or-take, get_or_append_left, length-take-le, coefficient, coefficient-zero, none_above, pascal, coefficient_mirror}
+use Rattle.cellarcove_c.proofs.Common.{◌≡◌, ◌+◌, ◌-◌, ◌*◌, ◌/◌, ◌<◌, ◌≤◌, ℕ, zero, suc, min, List, [], ◌∷◌, ◌++◌, length, take, get_or, ◌∙◌, ap, arith, inl, inr, le_refl, refl, cases_lt, get_or-append_right, get_or-take, get_or_append_left, length-take-le, coefficient, coefficient-zero, none_above, pascal, coefficient_mirror}
 
 -- the sums of each two neighbours of a row, whose first number follows `before`
 unfoldable pub sums : ℕ → List ℕ → List ℕ
@@ -19,10 +19,7 @@ record IsRow (n : ℕ) (row : List ℕ) : Type 0 where
   items : (k : ℕ) → get_or row k 0 ≡ coefficient n k
 
 first_row : IsRow 0 (1 ∷ [])
-first_row = record { size = refl; items = items } where
-  items : (k : ℕ) → get_or (1 ∷ []) k 0 ≡ coefficient 0 k
-  items zero = sym (coefficient-zero 0)
-  items (suc k) = sym (none_above 0 (suc k) (omega arith))
+first_row = grind (arith, coefficient-zero, none_above)
 
 length-sums : (before : ℕ) (row : List ℕ) → length (sums before row) ≡ suc (length row)
 unfolding sums
@@ -51,17 +48,7 @@ abbrev pub start : ℕ → ℕ
 start n = (n / 2 + 1) * (n - n / 2)
 
 start-suc : (n : ℕ) → start (suc n) ≡ start n + (n / 2 + 1)
-start-suc n = elim (cases_lt (n / 2) (suc n / 2)) [
-  | inl odd ↦
-      let half : suc n / 2 ≡ n / 2 + 1 = omega arith in
-      let rest : n - n / 2 ≡ n / 2 + 1 = omega arith in
-      let next : suc n - (n / 2 + 1) ≡ n / 2 + 1 = omega arith in
-      rw (half, next, rest) (omega arith)
-  | inr even ↦
-      let half : suc n / 2 ≡ n / 2 = omega arith in
-      let next : suc n - n / 2 ≡ suc (n - n / 2) = omega arith in
-      rw (half, next) (omega arith)
-]
+start-suc n = grind arith
 
 start-rises : (n m : ℕ) → n ≤ m → start n ≤ start m
 start-rises n zero h = let same : n ≡ 0 = omega arith in rw same (le_refl _)
@@ -96,9 +83,4 @@ item_at (suc count) n m k i row is from below near at =
 -- The rows of the numbers below 68 have the coefficient of n and k. It stands at the place of k, or at that of n - k if it is smaller.
 pub item_of : (rows : List ℕ) (n k near : ℕ) → rows ≡ half_rows 0 68 (1 ∷ []) → n < 68 → k ≤ n → near ≡ min k (n - k)
     → get_or rows (start n + near) 0 ≡ coefficient n k
-item_of rows n k near same small within is =
-    let found = item_at 68 0 n near (start n + near) (1 ∷ []) first_row (omega arith) small (omega arith) (omega arith) in
-    rw same (found ∙ elim (cases_lt (n - k) k) [
-      | inl far ↦ let mirrored : near ≡ n - k = omega arith in rw mirrored (sym (coefficient_mirror n k within))
-      | inr near_first ↦ let itself : near ≡ k = omega arith in rw itself refl
-    ])
+item_of rows n k near same small within is = grind (arith, item_at, first_row, coefficient_mirror)

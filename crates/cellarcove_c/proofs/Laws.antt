@@ -1,5 +1,5 @@
 -- The laws of specs/Laws.antt, a lemma each.
-use Rattle.cellarcove_c.proofs.Common.{◌≡◌, ◌≢◌, ◌⊎◌, ◌↔◌, ◌<◌, ◌≤◌, ◌+◌, ◌*◌, ◌<ℤ◌, ◌≤ℤ◌, ◌+ℤ◌, ◌-ℤ◌, ℕ, ℤ, zero, suc, pos, negsuc, Bool, List, true, false, length, FitsSigned, IfSome, IsTrue, MatchOption, MatchResult, Option, Some, None, Ok, Err, Result, w64, Equal, Greater, Less, ◌∙◌, ap, arith, inl, inr, mul-le-mul_right, refl, subst, sym, cases_lt, iff_false, by_lt_z, ints, Divides-difference, least_is_only, linear, sizes, small_multiple_is_zero, zero_or_not, remainder_is_only, root_is_only, IsRemainder, IsTruncated, Divides, IsLeastCommonMultiple, IsLeastFrom, residue_class_is_only, MatchCommonSolution, IsResidueClass, SolvesBothCongruences, SolvesEach, HasParts, IsMonthsBetween, IsYearsBetween, Date, Weekday, same_month, date_of_parts_is_only, iso_number_is_only, text_is_only, IsBeyond, IsClassOfBoth, IsNever, IsNextOfSeveral, IsReasonOfCongruences, IsReasonOfSeveral, HasText, ReadsDate, HasDigits, StatusIsOneOf, bad_modulus, common_solution_of, no_solution, not_fitting, outside, FractionAnswer, AnswersIsOnly, AnswersModuloIsOnly, ClassOfBothIsOnly, DayOfIsoNumberIsOnly, FewestPagesIsOnly, FractIsOnly, InDigitsIsOnly, InPartsIsOnly, MonthsBetweenIsOnly, MonthsLaterIsOnly, NextOfSeveralIsOnly, OfIsoNumberIsOnly, OnBothIsOnly, OrderNumberIsOnly, PaddingIsOnly, PowerIsOnly, ReadDateIsOnly, ReasonIsOnly, RootWithRestIsOnly, StandsForIsOnly, StandsForNumberIsOnly, StandsForReadIsOnly, YearsBetweenIsOnly, answer_is_only, rounded_even_is_only, den_of, num_of, RatioError, Ratio}
+use Rattle.cellarcove_c.proofs.Common.{◌≡◌, ◌≢◌, ◌⊎◌, ◌↔◌, ◌<◌, ◌≤◌, ◌+◌, ◌*◌, ◌<ℤ◌, ◌≤ℤ◌, ◌+ℤ◌, ◌-ℤ◌, ℕ, ℤ, zero, suc, pos, negsuc, Bool, List, true, false, FitsSigned, IfSome, IsTrue, MatchOption, MatchResult, Option, Some, None, Ok, Err, Result, w64, Equal, Greater, Less, ◌∙◌, ap, arith, inl, inr, mul-le-mul_right, refl, subst, sym, cases_lt, iff_false, by_lt_z, ints, Divides-difference, least_is_only, linear, sizes, small_multiple_is_zero, remainder_is_only, root_is_only, IsRemainder, IsTruncated, Divides, IsLeastCommonMultiple, IsLeastFrom, residue_class_is_only, MatchCommonSolution, IsResidueClass, SolvesBothCongruences, SolvesEach, HasParts, IsMonthsBetween, IsYearsBetween, Date, Weekday, same_month, date_of_parts_is_only, iso_number_is_only, text_is_only, IsBeyond, IsClassOfBoth, IsNever, IsNextOfSeveral, IsReasonOfCongruences, IsReasonOfSeveral, HasText, ReadsDate, HasDigits, StatusIsOneOf, bad_modulus, common_solution_of, no_solution, not_fitting, outside, FractionAnswer, AnswersIsOnly, AnswersModuloIsOnly, ClassOfBothIsOnly, DayOfIsoNumberIsOnly, FewestPagesIsOnly, FractIsOnly, InDigitsIsOnly, InPartsIsOnly, MonthsBetweenIsOnly, MonthsLaterIsOnly, NextOfSeveralIsOnly, OfIsoNumberIsOnly, OnBothIsOnly, OrderNumberIsOnly, PaddingIsOnly, PowerIsOnly, ReadDateIsOnly, ReasonIsOnly, RootWithRestIsOnly, StandsForIsOnly, StandsForNumberIsOnly, StandsForReadIsOnly, YearsBetweenIsOnly, answer_is_only, rounded_even_is_only, den_of, num_of, RatioError, Ratio}
 use Rattle.calendar.proofs.Laws.{months_between_is_only as whole_months_are_only, years_between_is_only as whole_years_are_only}
 use Rattle.cellarcove_c.specs.declared.dates.Date.{Date as Parts}
 use Rattle.ratio64.specs.RatioError.{number_of}
@@ -7,19 +7,13 @@ use Rattle.ratio64.specs.RatioError.{number_of}
 -- ---- statuses
 
 pub reason_is_only : ReasonIsOnly
-reason_is_only divisor s t h k = elim (zero_or_not divisor) [
-  | inl none ↦ h.0.1 none ∙ sym (k.0.1 none)
-  | inr other ↦ h.1.1 other ∙ sym (k.1.1 other)
-]
+reason_is_only divisor s t h k = grind arith
 
 pub answers_is_only : {A : Type 0} (domain : Type 0) (Is : A → Type 0) (Reason : ℕ → Type 0) → AnswersIsOnly domain Is Reason
 answers_is_only domain Is Reason zeros zero zero a b only one h k = (refl, only a b h.answer.1 k.answer.1)
 answers_is_only domain Is Reason zeros zero (suc t) a b only one h k = absurd (k.answer h.answer.0)
 answers_is_only domain Is Reason zeros (suc s) zero a b only one h k = absurd (h.answer k.answer.0)
-answers_is_only domain Is Reason zeros (suc s) (suc t) a b only one h k =
-    let first = h.refusal (λ same. absurd (omega (arith, same))) in
-    let second = k.refusal (λ same. absurd (omega (arith, same))) in
-    (one (suc s) (suc t) first.1 second.1, first.0 ∙ sym second.0)
+answers_is_only domain Is Reason zeros (suc s) (suc t) a b only one h k = grind arith
 
 -- what is not at most 0 is positive
 positive_of : (m : ℤ) → ¬ (m ≤ℤ pos 0) → pos 0 <ℤ m
@@ -35,19 +29,10 @@ same_reason h k (inr p) (inl q) = h.1 (k.0 q) ∙ sym q
 same_reason h k (inr p) (inr q) = p ∙ sym q
 
 pub answers_modulo_is_only : {A : Type 0} (modulus : ℤ) (reason : ℕ) (without : Type 0) (Is : A → Type 0) → AnswersModuloIsOnly modulus reason without Is
-answers_modulo_is_only modulus reason without Is zeros zero zero a b only never h k =
-    let positive = positive_of modulus (λ low. absurd (omega (arith, h.modulus_is_bad.1 low))) in
-    (refl, only a b (h.answer positive) (k.answer positive))
-answers_modulo_is_only modulus reason without Is zeros zero (suc t) a b only never h k =
-    let positive = positive_of modulus (λ low. absurd (omega (arith, h.modulus_is_bad.1 low))) in
-    absurd (never (k.answer positive) a (h.answer positive))
-answers_modulo_is_only modulus reason without Is zeros (suc s) zero a b only never h k =
-    let positive = positive_of modulus (λ low. absurd (omega (arith, k.modulus_is_bad.1 low))) in
-    absurd (never (h.answer positive) b (k.answer positive))
-answers_modulo_is_only modulus reason without Is zeros (suc s) (suc t) a b only never h k =
-    let first = h.refusal (λ same. absurd (omega (arith, same))) in
-    let second = k.refusal (λ same. absurd (omega (arith, same))) in
-    (same_reason {modulus = modulus} {reason = reason} h.modulus_is_bad k.modulus_is_bad first.1 second.1, first.0 ∙ sym second.0)
+answers_modulo_is_only modulus reason without Is zeros zero zero a b only never h k = grind arith
+answers_modulo_is_only modulus reason without Is zeros zero (suc t) a b only never h k = grind arith
+answers_modulo_is_only modulus reason without Is zeros (suc s) zero a b only never h k = grind arith
+answers_modulo_is_only modulus reason without Is zeros (suc s) (suc t) a b only never h k = grind arith
 
 -- ---- congruences
 
@@ -82,21 +67,13 @@ class_of_both_is_only value fits a m b n zeros zero (suc t) c d injective decide
     absurd (omega (arith, reason_of_both value fits h k (k.refusal (λ same. absurd (omega (arith, same)))).1))
 class_of_both_is_only value fits a m b n zeros (suc s) zero c d injective decided h k =
     absurd (omega (arith, reason_of_both value fits k h (h.refusal (λ same. absurd (omega (arith, same)))).1))
-class_of_both_is_only value fits a m b n zeros (suc s) (suc t) c d injective decided h k =
-    let first = h.refusal (λ same. absurd (omega (arith, same))) in
-    let second = k.refusal (λ same. absurd (omega (arith, same))) in
-    (reason_of_both value fits h k second.1, first.0 ∙ sym second.0)
+class_of_both_is_only value fits a m b n zeros (suc s) (suc t) c d injective decided h k = grind arith
 
 module _ {X : Type 0} (value : X → ℤ) (fits : ℤ → Type 0) {from : ℤ} {pairs : List (X × X)} {zero_value : X} where
   -- a status that says neither that there are too many congruences nor that a modulus is not positive
   solved : {s : ℕ} {x : X} → IsNextOfSeveral value fits from pairs zero_value s x → s ≢ outside → s ≢ bad_modulus
       → MatchCommonSolution (common_solution_of s x) (IsNever (SolvesEach value pairs)) (IsBeyond fits (IsLeastFrom from (SolvesEach value pairs))) (λ t. IsLeastFrom from (SolvesEach value pairs) (value t))
-  solved h other another =
-      let few : length pairs ≤ 64 = elim (cases_lt 64 (length pairs)) [
-        | inl more ↦ absurd (other (h.too_many.1 more))
-        | inr few ↦ few
-      ] in
-      h.answer few (λ i d within. positive_of _ (λ low. another (h.modulus_is_bad.1 (few, λ all. absurd (omega (arith, linear, all i d within, low))))))
+  solved h other another = grind arith
 
   least_of : {x : X} → IsNextOfSeveral value fits from pairs zero_value 0 x → IsLeastFrom from (SolvesEach value pairs) (value x)
   least_of h = solved h (λ same. absurd (omega (arith, same))) (λ same. absurd (omega (arith, same)))
@@ -133,10 +110,7 @@ next_of_several_is_only value fits from pairs zero_value zero (suc t) x y inject
     absurd (no_reason value fits p h k (k.refusal (λ same. absurd (omega (arith, same)))).1)
 next_of_several_is_only value fits from pairs zero_value (suc s) zero x y injective p q h k =
     absurd (no_reason value fits q k h (h.refusal (λ same. absurd (omega (arith, same)))).1)
-next_of_several_is_only value fits from pairs zero_value (suc s) (suc t) x y injective p q h k =
-    let first = h.refusal (λ same. absurd (omega (arith, same))) in
-    let second = k.refusal (λ same. absurd (omega (arith, same))) in
-    (same_reason_of_several value fits h k first.1 second.1, first.0 ∙ sym second.0)
+next_of_several_is_only value fits from pairs zero_value (suc s) (suc t) x y injective p q h k = grind arith
 
 -- ---- numbers
 
@@ -150,11 +124,7 @@ padding_is_only offset alignment a b h k =
     grind (arith, linear)
 
 pub root_with_rest_is_only : RootWithRestIsOnly
-root_with_rest_is_only x root other rest left h k =
-    let same = root_is_only x 2 root h.is_root other k.is_root in
-    let first = h.equation in
-    let second = rw same at k.equation in
-    (sym same, grind (arith, linear))
+root_with_rest_is_only x root other rest left h k = grind (arith, root_is_only)
 
 -- ---- fractions
 
@@ -218,9 +188,7 @@ MatchFract p answer = MatchResult p (λ x. (answer.status ≡ 0) × IsRemainder 
 same_fract : (p : Result Ratio RatioError) (x y : FractionAnswer) → MatchFract p x → MatchFract p y
     → (x.status ≡ y.status) × (x.value.num ≡ y.value.num) × (x.value.den ≡ y.value.den)
 same_fract (Ok r) x y h k = (h.0 ∙ sym k.0, remainder_is_only.0 _ _ _ k.1 _ h.1, h.2 ∙ sym k.2)
-same_fract (Err e) x y h k =
-    let same = h ∙ sym k in
-    (ap (λ (r : FractionAnswer). r.status) same, ap (λ (r : FractionAnswer). r.value.num) same, ap (λ (r : FractionAnswer). r.value.den) same)
+same_fract (Err e) x y h k = grind arith
 
 pub fract_is_only : FractIsOnly
 fract_is_only a x y (p, made, h) (q, other, k) = same_fract q x y (subst (λ (r : Result Ratio RatioError). MatchFract r x) (answer_is_only _ _ p q made other) h) k
@@ -278,11 +246,7 @@ pub years_between_is_only : YearsBetweenIsOnly
 years_between_is_only year to_year month day to_month to_day a b p q h k = same_between IsYearsBetween whole_years_are_only a b p q h k
 
 pub of_iso_number_is_only : (Is : Weekday → Date → Type 0) → OfIsoNumberIsOnly Is
-of_iso_number_is_only Is weekday year other month day other_month other_day only h k =
-    let weekdays = iso_number_is_only k.day_of_week h.day_of_week (k.number ∙ sym h.number) in
-    let dates = only h.day_of_week h.date k.date h.holds (subst (λ (w : Weekday). Is w k.date) weekdays k.holds) in
-    let parts = subst (λ (x : Date). HasParts x year month day) dates h.parts in
-    (sym parts.year_is ∙ k.parts.year_is, sym parts.month_is ∙ k.parts.month_is, sym parts.day_is ∙ k.parts.day_is)
+of_iso_number_is_only Is weekday year other month day other_month other_day only h k = grind arith
 
 pub day_of_iso_number_is_only : (Is : Weekday → ℤ → Type 0) → DayOfIsoNumberIsOnly Is
 day_of_iso_number_is_only Is weekday a b only (v, first, h) (w, second, k) =
@@ -306,8 +270,4 @@ read_date_is_only text zero zero a b p q h k =
     (refl, year, month, day)
 read_date_is_only text zero (suc t) a b p q h k = absurd (not_refused p (h.found refl) k)
 read_date_is_only text (suc s) zero a b p q h k = absurd (not_refused q (k.found refl) h)
-read_date_is_only text (suc s) (suc t) a b p q h k =
-    let first = h.refusal (λ same. absurd (omega (arith, same))) in
-    let second = k.refusal (λ same. absurd (omega (arith, same))) in
-    let parts = first.0 ∙ sym second.0 in
-    (first.1 ∙ sym second.1, ap (λ (x : Parts). x.year) parts, ap (λ (x : Parts). x.month) parts, ap (λ (x : Parts). x.day_of_month) parts)
+read_date_is_only text (suc s) (suc t) a b p q h k = grind arith

@@ -1,5 +1,5 @@
 -- What a call for several congruences returns.
-use Rattle.cellarcove_c.proofs.Common.{◌≡◌, ◌<◌, ◌≤◌, ℕ, ℤ, List, length, map, arith, inl, inr, refl, length-map, IsLeastFrom, MatchCommonSolution, SolvesEach, CommonSolution, Never, Beyond, At, Refuses, HavePositiveModuli, IsBeyond, IsNever, IsNextOfSeveral, StatusIsOneOf, bad_modulus, common_solution_of, no_solution, not_fitting, outside}
+use Rattle.cellarcove_c.proofs.Common.{◌≡◌, ◌≤◌, ℕ, ℤ, List, length, map, arith, inl, inr, refl, length-map, IsLeastFrom, MatchCommonSolution, SolvesEach, CommonSolution, Never, Beyond, At, Refuses, HavePositiveModuli, IsBeyond, IsNever, IsNextOfSeveral, StatusIsOneOf, bad_modulus, common_solution_of, no_solution, not_fitting}
 use Rattle.cellarcove_c.proofs.CommonSolutions.{no_third}
 
 module _ {X C : Type 0} (value : X → ℤ) (fits : ℤ → Type 0) (from : ℤ) (pair : C → X × X) (congruences : List C) (zero_value : X) (within : length congruences ≤ 64) where
@@ -27,18 +27,6 @@ module _ {X C : Type 0} (value : X → ℤ) (fits : ℤ → Type 0) (from : ℤ)
     modulus_is_bad = (λ same. absurd (no_third (refuses (λ zero. absurd (omega (arith, same, zero)))).1 (λ e. absurd (omega (arith, e))) (λ e. absurd (omega (arith, e))) same), λ (_, bad). absurd (bad positive));
     refusal = λ refused. let (zeros, why) = refuses refused in (zeros, inr (inr why));
   }
-
--- more than 64 congruences are too many
-pub too_many_are : {X C : Type 0} (value : X → ℤ) (fits : ℤ → Type 0) (from : ℤ) (pair : C → X × X) (congruences : List C) (zero_value : X) → 64 < length congruences
-    → IsNextOfSeveral value fits from (map pair congruences) zero_value outside zero_value
-too_many_are value fits from pair congruences zero_value many =
-    let same = length-map congruences pair in
-    record {
-      answer = λ few _. absurd (omega (arith, few, same, many));
-      too_many = (λ _. rw same many, λ _. refl);
-      modulus_is_bad = (λ e. absurd (omega (arith, e)), λ (few, _). absurd (omega (arith, few, same, many)));
-      refusal = λ _. (refl, inl refl);
-    }
 
 -- what a solution has beside being in range
 pub without_range : {X : Type 0} (value : X → ℤ) (fits : ℤ → Type 0) (from : ℤ) (Solves : ℤ → Type 0) (found : CommonSolution X)

@@ -1,8 +1,5 @@
 -- The digits of a number, from the last.
-use Rattle.std.proofs.Common.{◌≡◌, ℕ, zero, suc, ◌+◌, ◌-◌, ◌%◌, ◌^◌, ◌<◌, ◌≤◌, List, [], ◌∷◌, ◌++◌, length, drop, set, sym, ap, ◌∙◌, append_assoc, length-append, arith}
-use Rattle.std.specs.Fmt.{decimal}
-use Rattle.std.proofs.lemmas.Fmt.{decimal_by_steps_wide, length-decimal-le_wide}
-use Rattle.std.proofs.lemmas.List.{drop-set}
+use Rattle.intcalc_core.proofs.Common.{◌≡◌, ℕ, zero, suc, ◌+◌, ◌-◌, ◌%◌, ◌^◌, ◌<◌, ◌≤◌, List, [], ◌∷◌, ◌++◌, length, drop, set, ap, append_assoc, length-append, arith, decimal, decimal_by_steps_wide, length-decimal-le_wide, drop-set}
 
 -- if digits are left, there is room in front of those that are written
 pub room : (text : List ℕ) (n rest at : ℕ) → length text ≡ 39 → n < 2 ^ 128 → rest < 2 ^ 128 → decimal rest ++ drop at text ≡ decimal n → 0 < at
@@ -14,7 +11,4 @@ room text n rest (suc at) size n_fits rest_fits e = omega arith
 
 -- a digit is written between those that are left and those that are written
 pub one_digit_more : (left ds text : List ℕ) (at d : ℕ) → 0 < at → at ≤ length text → (left ++ (d ∷ [])) ++ drop at text ≡ ds → left ++ drop (at - 1) (set text (at - 1) d) ≡ ds
-one_digit_more left ds text at d pos within e =
-    let same : at - 1 + 1 ≡ at = omega arith in
-    let written : drop (at - 1) (set text (at - 1) d) ≡ d ∷ drop at text = drop-set text (at - 1) d (omega arith) ∙ ap (λ n. d ∷ drop n text) same in
-    rw written (sym (append_assoc left (d ∷ []) (drop at text)) ∙ e)
+one_digit_more left ds text at d pos within e = grind (arith, drop, set, drop-set, append_assoc)

@@ -1,21 +1,5 @@
 -- The result of a call on two fractions, by their exact results.
-use Rattle.std.specs.Prelude.{◌≡◌, ◌≢◌, ◌+ℤ◌, ◌*ℤ◌, ℤ, pos, Result, Ok, Err, IsErrAnd, MatchResult, FitsSigned}
-use Rattle.std.specs.Int.{w64, w128}
-use Rattle.std.proofs.Common.{ap, inl, inr, refl, to_z, of_z, ◌∙◌}
-use Rattle.std.proofs.lemmas.Int.{to_z-of_z}
-use Rattle.std.proofs.lemmas.Result.{err_from_is_err_and}
-use Rattle.ratio64.proofs.ForCallers.{err_is_outside, nonzero_product, ok_is_inside, product_of_exact_results, sum_of_exact_results}
-use Rattle.ratio64.specs.Fraction.{IsFraction, IsOutsideI64}
-use Rattle.ratio64.specs.Ratio.{AnswersFraction, num_of, den_of}
-use Rattle.ratio64.specs.declared.fraction.Ratio.{Ratio}
-use Rattle.ratio64.specs.declared.error.RatioError.{RatioError}
-use Rattle.intcalc_core.specs.Fractions.{IsRatioOf}
-use Rattle.intcalc_core.specs.Outcome.{AnswersExact, OutcomeOfFitting, NeedsFractions, NeedsParts, OutcomeIn, PartsFit}
-use Rattle.intcalc_core.specs.declared.calls.Answer.{Answer}
-use Rattle.intcalc_core.specs.declared.calls.Answer.TheVariants.{Two}
-use Rattle.intcalc_core.specs.declared.calls.Call.TheVariants.{RatioAdd, RatioMul}
-use Rattle.intcalc_core.specs.declared.calls.Refusal.{Refusal}
-use Rattle.intcalc_core.specs.declared.calls.Refusal.TheVariants.{NotFitting}
+use Rattle.intcalc_core.proofs.Common.{◌≡◌, ◌≢◌, ◌+ℤ◌, ◌*ℤ◌, ℤ, pos, Result, Ok, Err, IsErrAnd, MatchResult, FitsSigned, w64, w128, ap, inl, inr, refl, to_z, of_z, ◌∙◌, to_z-of_z, err_from_is_err_and, err_is_outside, nonzero_product, ok_is_inside, product_of_exact_results, sum_of_exact_results, IsFraction, IsOutsideI64, AnswersFraction, num_of, den_of, Ratio, RatioError, IsRatioOf, AnswersExact, OutcomeOfFitting, NeedsFractions, NeedsParts, OutcomeIn, PartsFit, Answer, Two, RatioAdd, RatioMul, Refusal, NotFitting}
 
 -- ---- the fractions that are given
 

@@ -1,3 +1,4 @@
+pub mod Common
 pub mod OnlyOutcome
 pub mod FractionLemmas
 mod OperandLemmas

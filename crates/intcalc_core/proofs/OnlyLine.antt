@@ -1,15 +1,6 @@
 -- A list of words has at most one line and one status.
-use Rattle.std.specs.Prelude.{◌≡◌, ◌∷◌, ℕ, List, Option, Some, None, map}
-use Rattle.std.proofs.Common.{◌+◌, ◌*◌, [], ap, subst, arith, refl}
+use Rattle.intcalc_core.proofs.Common.{◌≡◌, ◌∷◌, ℕ, List, Option, Some, None, map, ◌+◌, ◌*◌, [], ap, arith, refl, Kind, I8, U8, I64, U64, Call, DivRem, DivModFloor, DivFloor, DivCeil, ModFloor, NextMultipleOf, PrevMultipleOf, IsMultipleOf, Gcd, Lcm, GcdLcm, ExtendedGcd, AverageFloor, AverageCeil, Sqrt, Cbrt, NthRoot, Binomial, RatioAdd, RatioMul, operands_of, word_of_kind, word_of_call, AskFor, IsRequest, IsReply, IsLine, text_of, status_of, spelled_number}
 use Rattle.intcalc_core.specs.Only.{IsOnly}
-use Rattle.intcalc_core.specs.declared.calls.Kind.{Kind}
-use Rattle.intcalc_core.specs.declared.calls.Kind.TheVariants.{I8, U8, I64, U64}
-use Rattle.intcalc_core.specs.declared.calls.Call.{Call}
-use Rattle.intcalc_core.specs.declared.calls.Call.TheVariants.{DivRem, DivModFloor, DivFloor, DivCeil, ModFloor, NextMultipleOf, PrevMultipleOf, IsMultipleOf, Gcd, Lcm, GcdLcm, ExtendedGcd, AverageFloor, AverageCeil, Sqrt, Cbrt, NthRoot, Binomial, RatioAdd, RatioMul}
-use Rattle.intcalc_core.specs.Operands.{operands_of}
-use Rattle.intcalc_core.specs.Words.{word_of_kind, word_of_call, AskFor, IsRequest}
-use Rattle.intcalc_core.specs.Line.{IsReply, IsLine, text_of, status_of}
-use Rattle.intcalc_core.specs.Number.{spelled_number}
 use Rattle.intcalc_core.proofs.WordsLemmas.{map_Some_same}
 use Rattle.intcalc_core.proofs.OnlyOutcome.{only_outcome}
 
@@ -52,14 +43,7 @@ same_call _ _ e f = absurd (omega (arith, ap code_of e))
 
 -- words ask for at most one kind and call
 only_asked : {words : List (List ℕ)} {k l : Kind} {c d : Call} → AskFor words k c → AskFor words l d → (k ≡ l) × (c ≡ d)
-only_asked {words} {k} {l} {c} {d} a b =
-    let word : a.word ≡ b.word = cc (a.parts, b.parts) in
-    let numbers : a.numbers ≡ b.numbers = cc (a.parts, b.parts) in
-    let kind : word_of_kind k ≡ word_of_kind l = cc (a.parts, b.parts) in
-    let call : word_of_call c ≡ word_of_call d = cc (word, a.spelled.name, b.spelled.name) in
-    let spelled = ap (λ (ns : List (List ℕ)). map spelled_number ns) numbers in
-    let operands : map Some (operands_of c) ≡ map Some (operands_of d) = cc (spelled, a.spelled.operands, b.spelled.operands) in
-    (same_kind k l kind, same_call c d call (map_Some_same (operands_of c) (operands_of d) operands))
+only_asked {words} {k} {l} {c} {d} a b = grind (arith, word_of_kind, word_of_call, map, spelled_number, operands_of, same_kind, same_call, map_Some_same)
 
 pub only_request : (words : List (List ℕ)) (p q : Option (Kind × Call)) → IsRequest words p → IsRequest words q → p ≡ q
 only_request words None None a b = refl
@@ -76,7 +60,4 @@ only_reply (Some asked) s t m n a b =
     (cc, cc)
 
 pub only_line : {words : List (List ℕ)} {line : List ℕ} {status : ℕ} → IsLine words line status → IsOnly (λ (other, n). IsLine words other n) (line, status)
-only_line {words} {line} {status} a (other, n) b =
-    let same = only_request words a.request b.request a.asked b.asked in
-    let reply = only_reply b.request a.text b.text status n (subst (λ (r : Option (Kind × Call)). IsReply r a.text status) same a.reply) b.reply in
-    cc
+only_line {words} {line} {status} a (other, n) b = grind (arith, only_request, only_reply)

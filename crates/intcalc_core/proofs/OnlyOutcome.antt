@@ -1,24 +1,6 @@
 -- A kind and a call have at most one outcome.
-use Rattle.std.specs.Prelude.{◌≡◌, ◌⊎◌, ◌↔◌, ◌+ℤ◌, ◌*ℤ◌, ℤ, unsigned_abs, Bool, true, false, IsTrue, Result, Ok, Err}
-use Rattle.std.proofs.Common.{inl, inr, refl, sym, ap, ◌∙◌}
-use Rattle.std.proofs.lemmas.Bool.{true≢false}
-use Rattle.num_integer.specs.Averages.{IsAverageFloor, IsAverageCeil}
-use Rattle.num_integer.specs.Bezout.{IsBezoutAnswer}
-use Rattle.num_integer.specs.Coefficient.{coefficient_of}
-use Rattle.num_integer.specs.Division.{IsCeiled, IsFloored, IsMultiple, IsQuotient, IsRemainder, IsTruncated}
-use Rattle.num_integer.specs.Divisors.{IsGreatestCommonDivisor, IsLeastCommonMultiple}
+use Rattle.intcalc_core.proofs.Common.{◌≡◌, ◌⊎◌, ◌↔◌, ◌+ℤ◌, ◌*ℤ◌, ℤ, unsigned_abs, Bool, true, false, IsTrue, Result, Ok, Err, inl, inr, refl, sym, ap, ◌∙◌, true≢false, IsAverageFloor, IsAverageCeil, IsBezoutAnswer, coefficient_of, IsCeiled, IsFloored, IsMultiple, IsQuotient, IsRemainder, IsTruncated, IsGreatestCommonDivisor, IsLeastCommonMultiple, IsRoot, average_ceil_is_only, average_floor_is_only, bezout_answer_is_only, division_is_only, gcd_is_only, lcm_is_only, multiple_is_only, quotient_is_only, remainder_is_only, root_is_only, Answer, Two, Three, Call, DivRem, DivModFloor, DivFloor, DivCeil, ModFloor, NextMultipleOf, PrevMultipleOf, IsMultipleOf, Gcd, Lcm, GcdLcm, ExtendedGcd, AverageFloor, AverageCeil, Sqrt, Cbrt, NthRoot, Binomial, RatioAdd, RatioMul, Kind, Refusal, AnswersOne, AnswersTwo, AnswersThree, AnswersWhether, AreGcdAndLcm, FitsKind, OutcomeOfFitting, NeedsFractions, AnswersExact, Outcome, IsExact, exact_result_is_only}
 use Rattle.num_integer.specs.Only.{IsOnly}
-use Rattle.num_integer.specs.RootOf.{IsRoot}
-use Rattle.num_integer.proofs.Laws.{average_ceil_is_only, average_floor_is_only, bezout_answer_is_only, division_is_only, gcd_is_only, lcm_is_only, multiple_is_only, quotient_is_only, remainder_is_only, root_is_only}
-use Rattle.intcalc_core.specs.declared.calls.Answer.{Answer}
-use Rattle.intcalc_core.specs.declared.calls.Answer.TheVariants.{Two, Three}
-use Rattle.intcalc_core.specs.declared.calls.Call.{Call}
-use Rattle.intcalc_core.specs.declared.calls.Call.TheVariants.{DivRem, DivModFloor, DivFloor, DivCeil, ModFloor, NextMultipleOf, PrevMultipleOf, IsMultipleOf, Gcd, Lcm, GcdLcm, ExtendedGcd, AverageFloor, AverageCeil, Sqrt, Cbrt, NthRoot, Binomial, RatioAdd, RatioMul}
-use Rattle.intcalc_core.specs.declared.calls.Kind.{Kind}
-use Rattle.intcalc_core.specs.declared.calls.Refusal.{Refusal}
-use Rattle.intcalc_core.specs.Outcome.{AnswersOne, AnswersTwo, AnswersThree, AnswersWhether, AreGcdAndLcm, FitsKind, OutcomeOfFitting, NeedsFractions, AnswersExact, Outcome}
-use Rattle.ratio64.specs.Fraction.{IsExact}
-use Rattle.ratio64.proofs.Laws.{exact_result_is_only}
 
 -- if the rest of a condition leaves one result, so does the condition
 only_needs : {P R S : Type 0} {refusal : Refusal} {r s : Result Answer Refusal} → (R → S → s ≡ r) → (¬ P × (r ≡ Err refusal)) ⊎ (P × R) → (¬ P × (s ≡ Err refusal)) ⊎ (P × S) → s ≡ r

@@ -1,9 +1,5 @@
 -- The magnitudes of numbers of at most 64 bits.
-use Rattle.std.specs.Prelude.{◌<◌, ◌^◌, ℤ, pos, negsuc, unsigned_abs}
-use Rattle.std.proofs.Common.{arith}
-use Rattle.std.proofs.lemmas.Int.{ints}
-use Rattle.num_integer.specs.Range.{IsRange}
-use Rattle.num_integer.specs.RootOf.{IsWithin64Bits}
+use Rattle.intcalc_core.proofs.Common.{◌<◌, ◌^◌, ℤ, pos, negsuc, unsigned_abs, arith, ints, IsRange, IsWithin64Bits}
 
 pub magnitude_below : {fits : ℤ → Type 0} {low high : ℤ} (n : ℤ) → IsRange fits low high → IsWithin64Bits low high → fits n → unsigned_abs n < 2 ^ 65
 magnitude_below (pos n) range within n_fits = omega (arith, ints, (range.between (pos n)).0 n_fits, within.0)

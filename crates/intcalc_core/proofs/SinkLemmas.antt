@@ -1,7 +1,5 @@
 -- One addition after another.
-use Rattle.std.proofs.Common.{◌≡◌, ℕ, List, ◌++◌, Option, Some, None, take, drop, length, arith, ◌≤◌, ◌-◌}
-use Rattle.std.specs.Io.KnownBytes.{Appends}
-use Rattle.std.proofs.lemmas.Grind.{common_steps}
+use Rattle.intcalc_core.proofs.Common.{◌≡◌, ℕ, List, ◌++◌, Option, Some, None, take, drop, length, arith, ◌≤◌, ◌-◌, Appends, common_steps}
 
 -- x is added, and then y
 pub Appends-trans : (a b c : Option (List ℕ)) (x y : List ℕ) → Appends a b x → Appends b c y → Appends a c (x ++ y)

@@ -1,8 +1,5 @@
 -- What words are.
-use Rattle.std.proofs.Common.{◌≡◌, ℕ, ◌+◌, ◌≤◌, ◌<◌, List, [], ◌∷◌, length, get_or, map, Some, Bor, ℤ, ◌∙◌, arith}
-use Rattle.std.specs.List.{range_with_len}
-use Rattle.std.proofs.lemmas.List.{get_or-map, length-map}
-use Rattle.std.proofs.lemmas.List.FromFn.{fill_by_all}
+use Rattle.intcalc_core.proofs.Common.{◌≡◌, ℕ, ◌+◌, ◌≤◌, ◌<◌, List, [], ◌∷◌, length, get_or, map, Some, Bor, ℤ, ◌∙◌, arith, range_with_len, get_or-map, length-map, fill_by_all}
 
 -- equal in `Some`, and so equal
 pub map_Some_same : (xs ys : List ℤ) → map Some xs ≡ map Some ys → xs ≡ ys

@@ -69,11 +69,7 @@ sign_keeps (pos n) z = omega (arith, products, abs_is)
 sign_keeps (negsuc n) z = omega (arith, products, abs_is)
 
 small_signed : {a b r x y : ℤ} → IsSmallPair a b r x y → IsSmallPair a b (sign r *ℤ r) (sign r *ℤ x) (sign r *ℤ y)
-small_signed {r = r} {x = x} {y = y} h = record {
-  equation = rw (← h.equation) (simp expand (omega (arith, linear)));
-  x_small = rw (sign_keeps r x, sign_keeps r r) h.x_small;
-  y_small = rw (sign_keeps r y, sign_keeps r r) h.y_small;
-}
+small_signed {r = r} {x = x} {y = y} h = grind (arith, expand, linear, sign_keeps)
 
 -- a small pair leaves out the operand that the other divides
 small_alone : {a b g x y : ℤ} → IsGreatestCommonDivisor a b g → Divides a b → a ≢ pos 0 → IsSmallPair a b g x y → (x ≡ sign a) × (y ≡ pos 0)

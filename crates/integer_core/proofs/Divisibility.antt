@@ -1,5 +1,5 @@
 -- Divisors of integers, and the greatest common one.
-use Rattle.integer_core.proofs.Common.{mod-eq_of_lt, mul-div_cancel', quot-rem, ◌<ℤ◌, IsGreatestCommonDivisor, ◌≡◌, ◌≢◌, ◌/◌, ◌≤ℤ◌, ◌+ℤ◌, ◌-ℤ◌, ◌*ℤ◌, ◌⊎◌, ◌≤◌, ℤ, pos, negsuc, neg_ℤ, unsigned_abs, int_div, arith, sym, ◌∙◌, ap, ints, unsigned_abs-mul, dvd_antisymm, mod-eq-zero_of_dvd, ◌∣◌, linear, sizes, products, expand, assoc, IsDivision, Divides, abs_is, inl, inr, le_of_dvd}
+use Rattle.integer_core.proofs.Common.{mod-eq_of_lt, mul-div_cancel', quot-rem, ◌<ℤ◌, IsGreatestCommonDivisor, ◌≡◌, ◌≢◌, ◌/◌, ◌≤ℤ◌, ◌+ℤ◌, ◌-ℤ◌, ◌*ℤ◌, ◌⊎◌, ◌≤◌, ℤ, pos, negsuc, neg_ℤ, unsigned_abs, int_div, arith, sym, ◌∙◌, ap, ints, unsigned_abs-mul, dvd_antisymm, mod-eq-zero_of_dvd, ◌∣◌, linear, sizes, products, expand, assoc, IsDivision, Divides, abs_is, le_of_dvd}
 use Rattle.std.proofs.Math.Decide.{dec_dvd}
 use Rattle.integer_core.proofs.Whole.{mul-one}
 use Rattle.integer_core.proofs.Quotients.{small_multiple, truncated_is}
@@ -93,10 +93,7 @@ one_divides n = record { factor = n; product = omega (arith, products) }
 
 -- any number divides another or not
 pub divides_decided : (d n : ℤ) → Divides d n ⊎ (¬ (Divides d n))
-divides_decided d n = elim (dec_dvd (unsigned_abs d) (unsigned_abs n)) [
-  | yes divides ↦ inl (from_natural divides)
-  | no other ↦ inr (λ divides. other (to_natural divides))
-]
+divides_decided d n = grind (arith, dec_dvd, unsigned_abs, from_natural, to_natural)
 
 -- a number other than 0 divides another or not
 pub divides_or_not : (d n : ℤ) → d ≢ pos 0 → Divides d n ⊎ (¬ (Divides d n))

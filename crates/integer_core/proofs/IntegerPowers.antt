@@ -1,5 +1,5 @@
 -- Powers of integers: of 0 and 1, their signs, one degree more, and the double degree.
-use Rattle.integer_core.proofs.Common.{◌≡◌, ◌⊎◌, ◌+◌, ◌%◌, ◌^◌, ◌<◌, ◌*ℤ◌, ℤ, ℕ, pos, negsuc, neg_ℤ, zero, suc, unsigned_abs, int_pow, arith, ap, ◌∙◌, inl, inr, refl, sym, negsuc-*ℤ-pos, pow-zero, pow-succ', pow-lt-pow_left, cases_lt, ints, expand, products}
+use Rattle.integer_core.proofs.Common.{◌≡◌, ◌⊎◌, ◌+◌, ◌%◌, ◌^◌, ◌<◌, ◌*ℤ◌, ℤ, ℕ, pos, negsuc, neg_ℤ, zero, suc, unsigned_abs, int_pow, arith, ap, ◌∙◌, inl, inr, refl, sym, pow-zero, pow-succ', pow-lt-pow_left, cases_lt, ints, expand}
 
 -- the powers of 1
 pub power_of_one : (n : ℕ) → 1 ^ n ≡ 1
@@ -24,10 +24,7 @@ even_or_odd n = elim (cases_lt (n % 2) 1) [ inl even ↦ inl (omega arith) | inr
 
 pub power_size : (k : ℤ) (n : ℕ) → unsigned_abs (int_pow k n) ≡ unsigned_abs k ^ n
 power_size (pos a) n = refl
-power_size (negsuc a) n = elim (even_or_odd n) [
-  | inl even ↦ rw even refl
-  | inr odd ↦ rw odd (omega (arith, ints))
-]
+power_size (negsuc a) n = grind arith
 
 pub int_pow-zero : (x : ℤ) → int_pow x 0 ≡ pos 1
 int_pow-zero (pos a) = ap pos (pow-zero a)
@@ -35,10 +32,7 @@ int_pow-zero (negsuc a) = ap pos (pow-zero (suc a))
 
 pub int_pow-suc : (x : ℤ) (n : ℕ) → int_pow x (suc n) ≡ x *ℤ int_pow x n
 int_pow-suc (pos a) n = ap pos (pow-succ' a n)
-int_pow-suc (negsuc a) n = elim (even_or_odd n) [
-  | inl even ↦ let odd : suc n % 2 ≡ 1 = omega arith in rw (even, odd, pow-succ') (sym (negsuc-*ℤ-pos a (suc a ^ n)))
-  | inr odd ↦ let even : suc n % 2 ≡ 0 = omega arith in rw (odd, even, pow-succ') (grind (arith, products))
-]
+int_pow-suc (negsuc a) n = grind (arith, pow-succ')
 
 -- the power of degree 2h is that of the square
 pub power_of_square : (x : ℤ) (h : ℕ) → int_pow x (h + h) ≡ int_pow (x *ℤ x) h

@@ -5,12 +5,7 @@ use Rattle.integer_core.proofs.Divisibility.{from_natural, to_natural}
 
 -- the gcd of integers is that of their magnitudes
 pub gcd_of_sizes : (a b : ℤ) {g : ℕ} → IsGcd (unsigned_abs a) (unsigned_abs b) g → IsGreatestCommonDivisor a b (pos g)
-gcd_of_sizes a b h = record {
-  from_zero = omega (arith, ints);
-  divides_left = from_natural h.0;
-  divides_right = from_natural h.1;
-  greatest = λ d p q. from_natural (h.2 (unsigned_abs d) (to_natural p) (to_natural q));
-}
+gcd_of_sizes a b h = grind (arith, ints, from_natural, unsigned_abs, to_natural)
 
 sizes_of_gcd : {m n g : ℕ} → IsGreatestCommonDivisor (pos m) (pos n) (pos g) → IsGcd m n g
 sizes_of_gcd h = (to_natural h.divides_left, to_natural h.divides_right, λ d p q. to_natural (h.greatest (pos d) (from_natural p) (from_natural q)))
@@ -30,10 +25,7 @@ odd_divides e a zero odd h = subst (λ (n : ℕ). e ∣ n) (mul-one a) h
 odd_divides e a (suc k) odd h = odd_divides e a k odd (odd_half e (a * 2 ^ k) odd (subst (λ (n : ℕ). e ∣ n) (ap (λ (n : ℕ). a * n) (pow-suc 2 k) ∙ sym (mul_assoc a (2 ^ k) 2)) h))
 
 pub odd_divisor : (d n : ℕ) → d ∣ n → n % 2 ≡ 1 → d % 2 ≡ 1
-odd_divisor d n h odd = elim (cases_lt 0 (d % 2)) [
-  | inl some ↦ omega arith
-  | inr none ↦ absurd (omega (arith, mod-eq-zero_of_dvd 2 (dvd_trans 2 (dvd_of_mod-eq-zero 2 (omega arith)) h)))
-]
+odd_divisor d n h odd = grind (arith, cases_lt, mod-eq-zero_of_dvd, dvd_trans, dvd_of_mod-eq-zero)
 
 -- factors of two on one side do not matter if the other is odd
 pub gcd_strip : {m n g : ℕ} (k : ℕ) → n % 2 ≡ 1 → IsGcd m n g → IsGcd (m * 2 ^ k) n g

@@ -109,8 +109,7 @@ difference_by {m} {n} {p} positive less same odd =
     let below : n / p ≤ m / p = (le-div_iff_mul-le positive).1 (omega (arith, div-mul-le_self n p)) in
     let split : m / p ≡ n / p + (m / p - n / p) = omega arith in
     let times : m - n ≡ (m / p - n / p) * p = omega (arith, same, div-add-mod' m p, div-add-mod' n p, ap (λ (x : ℕ). x * p) split) in
-    let quotient : (m - n) / p ≡ m / p - n / p = rw times (mul-div_cancel _ positive) in
-    (rw quotient (omega arith), rw quotient times)
+    grind (arith, mul-div_cancel)
 
 -- so a shift by the number of the last bits that m and n share leaves the odd part of their difference
 pub difference_by_shift : (w : Width) {m n k : ℕ} → m < 2 ^ bit_len w → n < 2 ^ bit_len w → n < m → k ≡ trailing_zeros w (bit_xor m n)

@@ -1,12 +1,12 @@
 -- Texts and numbers under the options of a format.
-use Rattle.std.proofs.Common.{◌≡◌, ◌≢◌, ◌∙◌, ◌-◌, ◌++◌, ◌+◌, ℕ, zero, suc, Bool, true, false, List, [], ◌∷◌, Option, Some, None, Result, arith, length, refl, sym, ap, subst, add-one}
+use Rattle.std.proofs.Common.{◌≡◌, ◌≢◌, ◌∙◌, ◌-◌, ◌++◌, ◌+◌, ℕ, zero, suc, Bool, false, List, [], ◌∷◌, Option, Some, None, Result, arith, length, refl, sym, ap, subst, add-one}
 use Rattle.std.proofs.Math.Bool.{cond}
 use Rattle.std.proofs.Output.{has_written_styled_append, has_written_styled_of_eq}
 use Rattle.std.proofs.Math.Dec.{eqb}
-use Rattle.std.proofs.lemmas.Bool.{eqb-true, ne_eqb}
+use Rattle.std.proofs.lemmas.Bool.{eqb-true}
 use Rattle.std.proofs.lemmas.Fmt.{contents_after_writes}
 use Rattle.std.proofs.lemmas.List.{append-nil, append_assoc}
-use Rattle.std.specs.Fmt.{HasWrittenStyled, IsDefaultSpec, IsPlainFormatter, WritesInCalls, WritesOnOk, WritesStyledOnOk, char_count, fill_text, padded_integral, sign_text, spec_align, spec_width}
+use Rattle.std.specs.Fmt.{HasWrittenStyled, IsDefaultSpec, IsPlainFormatter, WritesInCalls, WritesOnOk, WritesStyledOnOk, fill_text, padded_integral, sign_text, spec_align, spec_width}
 use Rattle.std.specs.List.{repeat}
 use Rattle.std.specs.Option.{unwrap_or}
 use Rattle.std.specs.declared.fmt.Alignment.{Alignment}
@@ -25,11 +25,7 @@ repeat_more n xs = rw add-one (by n)
 
 -- a width of 0 is no width
 pub width_or_zero : (s : FormatOptions) → unwrap_or (spec_width s) 0 ≡ s.width
-width_or_zero s = by s.width
-  where
-    by : (n : ℕ) → unwrap_or (cond (eqb n 0) None (Some n)) 0 ≡ n
-    by zero = refl
-    by (suc n) = ap (λ (t : Bool). unwrap_or (cond t None (Some (suc n))) 0) (ne_eqb (suc n) 0 (λ e. absurd (omega arith)))
+width_or_zero s = grind arith
 
 -- nothing stands before a text without padding
 none_before : (side : Option Alignment) → fill_before side 0 ≡ 0
@@ -41,36 +37,22 @@ none_before (Some Center) = refl
 -- without a width a text is written as it is
 pub padded_text_plain : (s : FormatOptions) (text : List ℕ) → IsDefaultSpec s → padded_text s text ≡ text
 unfolding padded_text
-padded_text_plain s text plain =
-    let none : s.width - length text ≡ 0 = omega (arith, plain.width) in
-    rw (none, none_before (spec_align s)) (append-nil text)
-
-cond_same : {A : Type 0} (t : Bool) (x : A) → cond t x x ≡ x
-cond_same true x = refl
-cond_same false x = refl
+padded_text_plain s text plain = grind (arith, append-nil)
 
 -- without a width and a `+` a number is its sign and its digits
 padded_integral_plain : (s : FormatOptions) (negative : Bool) (digits : List ℕ) → IsDefaultSpec s → padded_integral s negative [] digits ≡ sign_text negative ++ digits
 unfolding padded_integral
-padded_integral_plain s negative digits plain =
-    let none : s.width - length digits - length (sign_text negative) - char_count [] ≡ 0 = omega (arith, plain.width) in
-    rw (plain.plus, plain.alternate, none) (simp (cond_same, append-nil))
+padded_integral_plain s negative digits plain = grind (arith, append-nil)
 
 -- without options a number is written as it is
 pub padded_number_plain : (s : FormatOptions) (text : List ℕ) → IsDefaultSpec s → padded_number s text ≡ text
 padded_number_plain s [] plain = padded_integral_plain s false [] plain
-padded_number_plain s (first ∷ rest) plain = by (eqb first 45) refl
-  where
-    by : (t : Bool) → eqb first 45 ≡ t → cond t (padded_integral s true [] rest) (padded_integral s false [] (first ∷ rest)) ≡ first ∷ rest
-    by true e = padded_integral_plain s true rest plain ∙ ap (λ (n : ℕ). n ∷ rest) (sym (eqb-true first 45 e))
-    by false e = padded_integral_plain s false (first ∷ rest) plain
+padded_number_plain s (first ∷ rest) plain = grind (arith, eqb, cond, padded_integral, padded_integral_plain, eqb-true)
 
 -- a number without `-` at its front
 pub number_without_minus : (s : FormatOptions) (text : List ℕ) → ((rest : List ℕ) → text ≢ 45 ∷ rest) → padded_integral s false [] text ≡ padded_number s text
 number_without_minus s [] other = refl
-number_without_minus s (first ∷ rest) other =
-    ap (λ (t : Bool). cond t (padded_integral s true [] rest) (padded_integral s false [] (first ∷ rest)))
-    (sym (ne_eqb first 45 (λ e. other rest (ap (λ (n : ℕ). n ∷ rest) e))))
+number_without_minus s (first ∷ rest) other = grind arith
 
 module _ {W : Type 0} (took : W → List ℕ → W → Type 0) where
   -- what an empty writer has kept is what was written into it

@@ -1,5 +1,5 @@
 -- Quotients, remainders and multiples by their definition: they exist, they are the only ones, and when they fit.
-use Rattle.integer_core.proofs.Common.{◌≡◌, ◌≢◌, ◌⊎◌, ◌<◌, ◌≤◌, ◌+◌, ◌*◌, ◌+ℤ◌, ◌-ℤ◌, ◌*ℤ◌, ◌↔◌, quot-rem, rem_below, ℤ, pos, negsuc, neg_ℤ, unsigned_abs, suc, int_div, int_rem, arith, ◌∙◌, inl, inr, subst, ints, unsigned_abs-mul, mul-le, mod-le, le-mul_of_pos_right, linear, sizes, products, expand, dist, neg-mul, IsDivision, IsTruncated, IsFloored, IsCeiled, IsQuotient, IsRemainder, EachKind, HaveSameSign, HaveOppositeSigns, IsRange, EachFits, IsMultiple, IsOnly}
+use Rattle.integer_core.proofs.Common.{◌≡◌, ◌≢◌, ◌⊎◌, ◌<◌, ◌≤◌, ◌+ℤ◌, ◌-ℤ◌, ◌*ℤ◌, ◌↔◌, quot-rem, rem_below, ℤ, pos, negsuc, neg_ℤ, unsigned_abs, suc, int_div, int_rem, arith, ◌∙◌, inl, inr, subst, ints, unsigned_abs-mul, mul-le, mod-le, le-mul_of_pos_right, linear, sizes, products, expand, dist, neg-mul, IsDivision, IsTruncated, IsFloored, IsCeiled, IsQuotient, IsRemainder, EachKind, HaveSameSign, HaveOppositeSigns, IsRange, EachFits, IsMultiple, IsOnly}
 use Rattle.integer_core.proofs.Ranges.{LiesWithin, within_fits}
 
 pub zero_or_not : (z : ℤ) → (z ≡ pos 0) ⊎ (z ≢ pos 0)
@@ -95,11 +95,7 @@ module _ {fits : ℤ → Type 0} {low high n d : ℤ} (range : IsRange fits low 
   -- any quotient by 2 or more in magnitude fits
   far_quotient_fits : {q r : ℤ} → 2 ≤ unsigned_abs d → IsDivision n d q r → fits q
   far_quotient_fits {q} far division =
-      let n_in = (range.between n).0 n_fits in
-      let d_in = (range.between d).0 d_fits in
       let size = unsigned_abs-mul q d in
-      let less : unsigned_abs q * unsigned_abs d < unsigned_abs n + unsigned_abs d = omega (arith, sizes) in
-      let near : unsigned_abs n ≤ unsigned_abs high + 1 = omega (arith, sizes) in
       let small : unsigned_abs q ≤ unsigned_abs high = grind (arith, sizes, mul-le) in
       (range.between q).1 (grind (arith, sizes, products))
 
@@ -109,10 +105,7 @@ module _ {fits : ℤ → Type 0} {low high n d : ℤ} (range : IsRange fits low 
 
   -- by any number but 0 and -1 a quotient fits
   pub other_quotient_fits : {q r : ℤ} → d ≢ negsuc 0 → IsDivision n d q r → fits q
-  other_quotient_fits {q} other division = elim (zero_or_not (d -ℤ pos 1)) [
-    | inl one ↦ let same : n ≡ q = grind (arith, products, sizes) in subst fits same n_fits
-    | inr far ↦ far_quotient_fits (omega (arith, sizes)) division
-  ]
+  other_quotient_fits {q} other division = grind (arith, zero_or_not, products, sizes, far_quotient_fits)
 
   -- so a quotient fits if the exact quotient does
   exact_or_fits : {q r : ℤ} → IsDivision n d q r → (r ≡ pos 0 → fits q) → fits q

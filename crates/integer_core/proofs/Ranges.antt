@@ -1,5 +1,5 @@
 -- What fits, by the range of a type.
-use Rattle.integer_core.proofs.Common.{negsuc, ◌≡◌, ◌⊎◌, ◌≤ℤ◌, ◌<ℤ◌, ◌+ℤ◌, ◌-ℤ◌, natural, sym, ℕ, ℤ, pos, unsigned_abs, Width, ◌∙◌, arith, subst, linear, sizes, IsLeastCommonMultiple, IsRange, EachFits}
+use Rattle.integer_core.proofs.Common.{negsuc, ◌≡◌, ◌⊎◌, ◌≤ℤ◌, ◌<ℤ◌, ◌+ℤ◌, ◌-ℤ◌, ℕ, ℤ, pos, unsigned_abs, Width, ◌∙◌, arith, linear, sizes, IsLeastCommonMultiple, IsRange, EachFits}
 use Rattle.integer_core.specs.Between.{Between}
 use Rattle.integer_core.specs.NativeRanges.{IsNative}
 
@@ -30,7 +30,7 @@ distance_fits {x = x} range x_fits negative = (range.between _).1 (omega (arith,
 module _ {w : Width} {number : ℕ → ℤ} {fits wide : ℤ → Type 0} {low high : ℤ} (native : IsNative w number fits low high wide) where
   -- a number of the type that is not negative is a magnitude
   natural_is_magnitude : {z : ℤ} → pos 0 ≤ℤ z → fits z → wide z
-  natural_is_magnitude {z} up z_fits = subst wide (sym (natural up)) (native.magnitude z z_fits)
+  natural_is_magnitude {z} up z_fits = grind arith
 
   -- an lcm that fits is a magnitude
   pub lcm_is_magnitude : {a b l : ℤ} → EachFits fits (IsLeastCommonMultiple a b) → IsLeastCommonMultiple a b l → wide l

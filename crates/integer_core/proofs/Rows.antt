@@ -16,19 +16,14 @@ module _ {m current previous x previous_x q r : ℤ} (weighed : IsWeighed m curr
     (row : IsTruncated previous current q r) where
   -- the coefficient times the previous remainder has two parts
   parts : x *ℤ previous ≡ (q *ℤ x) *ℤ current +ℤ x *ℤ r
-  parts = rw row.division.equation (simp expand (omega (arith, linear)))
+  parts = grind (arith, expand)
 
   -- of one sign
   sizes : unsigned_abs (x *ℤ previous) ≡ unsigned_abs ((q *ℤ x) *ℤ current) + unsigned_abs (x *ℤ r)
   sizes = simp unsigned_abs-mul (omega (arith, ap (λ (n : ℕ). unsigned_abs x * n) (truncated_size row)))
 
   pub weighed_iteration : IsWeighed m r current (previous_x -ℤ q *ℤ x) x
-  weighed_iteration =
-      let is : (previous_x -ℤ q *ℤ x) *ℤ current ≡ previous_x *ℤ current -ℤ (q *ℤ x) *ℤ current = simp expand (omega (arith, linear)) in
-      record {
-        total = rw is (omega (arith, linear, abs_is, parts, sizes, weighed.total, weighed.opposite));
-        opposite = rw is (omega (arith, linear, abs_is, parts, weighed.opposite));
-      }
+  weighed_iteration = grind (arith, expand, linear, abs_is, parts, sizes)
 
   -- an iteration's coefficient, and the product in it, are at most half of m
   pub halves : 2 ≤ unsigned_abs current
@@ -143,7 +138,6 @@ last_rows {a} {b} {current} h = below (unsigned_abs current.remainder) h (omega 
       | inl ends ↦ (record { current = current; previous = previous; iterations = t; rows = h; ends = ends }, omega arith)
       | inr goes_on ↦
           let row = truncated_is previous.remainder current.remainder h.nonzero in
-          let less = row.division.small in
           let last = below size (rows_iteration h goes_on row) (omega arith) in
           (last.0, omega (arith, last.1))
     ]

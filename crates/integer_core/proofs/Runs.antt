@@ -7,7 +7,7 @@ pub record Reaches {S : Type 0} (iteration : S → S → Type 0) (ends : S → T
 
 module _ {S : Type 0} {iteration : S → S → Type 0} {ends : S → Type 0} where
   pub reaches_first : {first : S} → Reaches iteration ends first first 0
-  reaches_first = record { onward = λ m k e h. record { rest = h.rest; run = h.run; iterations = omega (arith, h.iterations) } }
+  reaches_first = grind arith
 
   pub reaches_iteration : {first s t : S} {n : ℕ} → Reaches iteration ends first s n → iteration s t → Reaches iteration ends first t (n + 1)
   reaches_iteration {t = t} h iterations_to = record {

@@ -1,10 +1,10 @@
 -- Stein's method on the values of an unsigned type, and what its loops keep.
-use Rattle.integer_core.proofs.Common.{◌≡◌, ◌≢◌, ◌↔◌, ◌⊎◌, ◌≤ℤ◌, ◌*◌, ◌%◌, ◌^◌, ◌<◌, ◌+◌, ◌∷◌, IsPowerOfTwo, AreWithinBits, IsCountedGcd, IsOddPart, MakesGcdRun, exchanged, GcdEnds, IsGcdIteration, IsOddGcd, IsOrderedIteration, OddPair, natural, ℤ, pos, unsigned_abs, IsGcd, ℕ, refl, sym, subst, arith, inl, inr, ints, abs_is, linear, eq-one_of_dvd-one, one-dvd, dvd_refl, le_of_dvd, IsGreatestCommonDivisor, List, [], map, ◌∙◌, IsRun, RunHasIterations}
+use Rattle.integer_core.proofs.Common.{◌≡◌, ◌≢◌, ◌↔◌, ◌⊎◌, ◌≤ℤ◌, ◌*◌, ◌%◌, ◌^◌, ◌<◌, ◌+◌, ◌∷◌, IsPowerOfTwo, AreWithinBits, IsCountedGcd, IsOddPart, MakesGcdRun, exchanged, GcdEnds, IsGcdIteration, IsOddGcd, IsOrderedIteration, OddPair, natural, ℤ, pos, unsigned_abs, IsGcd, ℕ, refl, sym, subst, arith, inl, inr, abs_is, linear, eq-one_of_dvd-one, one-dvd, dvd_refl, le_of_dvd, IsGreatestCommonDivisor, List, [], map, ◌∙◌, IsRun, RunHasIterations}
 use Rattle.integer_core.proofs.CommonDivisors.{gcd-magnitudes, gcd-zero}
 use Rattle.integer_core.proofs.NaturalGcd.{odd_divisor, odd_divides}
 use Rattle.std.proofs.lemmas.List.{length-map}
 use Rattle.integer_core.proofs.OddParts.{Turning, turning_ends, turning_small, turning_iteration, iterations_fit}
-use Rattle.integer_core.proofs.Runs.{Reaches, reaches_first, reaches_instead, reaches_last, reaches_iteration}
+use Rattle.integer_core.proofs.Runs.{Reaches, reaches_instead, reaches_last, reaches_iteration}
 
 -- the gcd of a number and 0 is the number
 pub gcd_with_zero : {n : ℤ} → pos 0 ≤ℤ n → IsGreatestCommonDivisor n (pos 0) n
@@ -17,9 +17,7 @@ gcd_positive {m} {n} {g} odd h = let o = odd_divisor g m h.0 odd in omega arith
 -- a gcd fits if one of the two numbers does
 pub gcd_fits : {fits : ℤ → Type 0} {a : ℤ} {b g : ℕ} → ((y : ℤ) → pos 0 ≤ℤ y → y ≤ℤ a → fits y) → pos 0 ≤ℤ a → 0 < unsigned_abs a
     → IsGcd (unsigned_abs a) b g → fits (pos g)
-gcd_fits within up positive h =
-    let small = le_of_dvd positive h.0 in
-    within _ (omega (arith, ints)) (omega (arith, linear, abs_is))
+gcd_fits within up positive h = grind (arith, le_of_dvd)
 
 -- the odd part of a power of two is 1
 odd_of_power : {n m : ℕ} → IsPowerOfTwo n → IsOddPart n m → m ≡ 1
@@ -36,10 +34,7 @@ gcd_of_power {m = m} {n = n} h is a_part b_part = rw is (elim h [
 
 -- the magnitude of the smallest number of a type, if it is not 0, is a power of two
 pub power_of_smallest : {low a m : ℤ} → (low ≡ pos 0) ⊎ IsPowerOfTwo (unsigned_abs low) → a ≡ low → m ≡ pos (unsigned_abs a) → m ≢ pos 0 → IsPowerOfTwo (unsigned_abs m)
-power_of_smallest least is m_is nonzero = elim least [
-  | inl none ↦ absurd (nonzero (rw (m_is, is, none) refl))
-  | inr power ↦ rw (m_is, is) power
-]
+power_of_smallest least is m_is nonzero = grind arith
 
 -- the gcd of two numbers by that of their magnitudes m and n, with no iteration if `Smallest` holds
 pub counted_by_magnitudes : {low a b m n g : ℤ} {t : ℕ} {Smallest : Type 0} → m ≡ pos (unsigned_abs a) → n ≡ pos (unsigned_abs b) → Smallest ↔ ((a ≡ low) ⊎ (b ≡ low))
@@ -58,10 +53,7 @@ counted_by_magnitudes {a = a} {b = b} m_is n_is smallest greatest at_once by_ite
 
 -- the runs from a pair are those from the pair with its places exchanged, iteration by iteration
 exchanged_iteration : (s t : OddPair) → IsGcdIteration s t → IsGcdIteration (exchanged s) (exchanged t)
-exchanged_iteration s t h = elim h [
-  | inl left ↦ inr (record { above = left.above; m = left.n; n = left.m })
-  | inr right ↦ inl (record { above = right.above; m = right.n; n = right.m })
-]
+exchanged_iteration s t h = grind arith
 
 exchanged_run : (s : OddPair) (rest : List OddPair) → IsRun IsGcdIteration GcdEnds (s ∷ rest) → IsRun IsGcdIteration GcdEnds (exchanged s ∷ map exchanged rest)
 exchanged_run s [] h = sym h
@@ -92,11 +84,7 @@ pub record OddLoop (InRange : Type 0) (a b m n iterations : ℕ) : Type 0 where
 
 module _ {a b : ℕ} where
   pub loop_begins : {InRange : Type 0} → InRange → a % 2 ≡ 1 → b % 2 ≡ 1 → OddLoop InRange a b a b 0
-  loop_begins in_range a_odd b_odd = record {
-    in_range = in_range;
-    kept = record { m_odd = a_odd; n_odd = b_odd; same = λ d h. h; shrunk = omega arith };
-    reached = reaches_first;
-  }
+  loop_begins in_range a_odd b_odd = grind arith
 
   module _ {Before : Type 0} {m n t : ℕ} (v : OddLoop Before a b m n t) where
     pub loop_goes_on : {InRange : Type 0} {d e : ℕ} → InRange → IsOrderedIteration (pair_of m n) (pair_of d e) → OddLoop InRange a b d e (t + 1)

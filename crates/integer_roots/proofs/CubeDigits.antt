@@ -1,8 +1,6 @@
 -- A cube root found digit by digit: what is known after some digits.
-use Rattle.std.specs.Prelude.{◌≡◌, ◌+◌, ◌-◌, ◌*◌, ◌/◌, ◌%◌, ◌^◌, ◌<◌, ◌≤◌}
-use Rattle.integer_core.proofs.Common.{pos, ℕ, ap, refl, arith, mul-le-mul, mul-le-mul_left, le-div_iff_mul-le, div-lt_iff_lt-mul, pow_pos, pow_mono, pow-add, mod-eq_of_lt}
-use Rattle.integer_roots.specs.RootOf.{IsFloorRoot}
-use Rattle.integer_roots.proofs.Powers.{power_three, base_below, floor_root}
+use Rattle.integer_roots.proofs.Common.{◌≡◌, ◌+◌, ◌-◌, ◌*◌, ◌/◌, ◌%◌, ◌^◌, ◌<◌, ◌≤◌, pos, ℕ, ap, arith, mul-le-mul, mul-le-mul_left, le-div_iff_mul-le, div-lt_iff_lt-mul, pow_mono, pow-add, IsFloorRoot}
+use Rattle.integer_roots.proofs.Powers.{power_three, base_below}
 
 -- the cube root of a has the digits of front, and more below them, at places below that of this weight; rest is what the cube
 -- of front leaves of a
@@ -28,10 +26,7 @@ abbrev pub cube_step : ℕ → ℕ → ℕ
 cube_step square front = 3 * (square * 4 + front * 2) + 1
 
 pub front_at_first : (a bits : ℕ) → bits ≤ 32 → a < 2 ^ bits → IsCubeFront a a 0 0 (2 ^ (3 * (bits / 3 + 1)))
-front_at_first a bits small below =
-    let up : 2 ^ bits ≤ 2 ^ (3 * (bits / 3 + 1)) = pow_mono {i = bits} {j = 3 * (bits / 3 + 1)} (omega arith) in
-    let all : 2 ^ bits ≤ 2 ^ 32 = pow_mono {i = bits} {j = 32} small in
-    cube_front (pow_pos (3 * (bits / 3 + 1))) (omega arith) (omega arith) refl (omega arith)
+front_at_first a bits small below = grind (arith, pow_mono)
 
 -- the place of the next digit
 pub next_digit : {a rest square front digits : ℕ} → 0 < digits → IsCubeFront a rest square front (2 ^ (3 * digits))
@@ -54,18 +49,13 @@ pub front_grows : {a rest square front weight : ℕ} → 0 < weight → IsCubeFr
 front_grows {rest = rest} {square = square} {front = front} {weight = weight} positive v above =
     let squares = ap (λ (n : ℕ). n * weight) v.square_is in
     let enough = (le-div_iff_mul-le positive).0 above in
-    let back : rest - cube_step square front * weight + cube_step square front * weight ≡ rest = omega arith in
     cube_front positive (omega (arith, v.whole)) (omega (arith, v.near)) (omega (arith, v.square_is)) v.fits
 
 -- a step that is at most the rest, shifted, fits
 pub cube_step_fits : (rest step weight : ℕ) → 0 < weight → step ≤ rest / weight → rest < 2 ^ 32
     → (step * weight % 2 ^ 32 ≡ step * weight) × (step * weight ≤ rest)
-cube_step_fits rest step weight positive below fits =
-    let most = (le-div_iff_mul-le positive).0 below in
-    (mod-eq_of_lt (omega arith), most)
+cube_step_fits rest step weight positive below fits = grind arith
 
 -- with no digit left the front is the root
 pub front_at_last : {a rest square front digits : ℕ} → digits ≡ 0 → IsCubeFront a rest square front (2 ^ (3 * digits)) → IsFloorRoot (pos a) 3 (pos front)
-front_at_last {front = front} none known =
-    let v = rw none at known in
-    floor_root (omega (arith, v.whole, power_three front)) (omega (arith, v.whole, v.near, power_three (front + 1)))
+front_at_last {front = front} none known = grind (arith, power_three)

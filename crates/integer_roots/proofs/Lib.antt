@@ -1,3 +1,4 @@
+pub mod Common
 pub mod Powers
 pub mod SquareGuesses
 pub mod RootGuesses

@@ -1,7 +1,5 @@
 -- Roots of integers by the roots of their magnitudes.
-use Rattle.std.specs.Prelude.{◌≡◌, ◌≢◌, ◌<ℤ◌, ◌≤ℤ◌, ◌+◌, ◌^◌, ◌<◌, ◌≤◌}
-use Rattle.integer_core.proofs.Common.{ℤ, pos, negsuc, neg_ℤ, unsigned_abs, ℕ, zero, suc, arith, refl, mul-le-mul_right, ints, by_lt_z, pow-le-pow_right, IsRange, linear, sizes}
-use Rattle.integer_roots.specs.RootOf.{IsFloorRoot, IsRoot}
+use Rattle.integer_roots.proofs.Common.{◌≡◌, ◌≢◌, ◌<ℤ◌, ◌≤ℤ◌, ◌+◌, ◌^◌, ◌<◌, ◌≤◌, ℤ, pos, negsuc, neg_ℤ, unsigned_abs, ℕ, zero, suc, arith, refl, mul-le-mul_right, ints, by_lt_z, pow-le-pow_right, IsRange, linear, sizes, IsFloorRoot, IsRoot}
 use Rattle.integer_roots.proofs.OnlyAnswers.{root_is_only_one}
 use Rattle.integer_roots.proofs.Powers.{power_one, power_two, floor_root}
 
@@ -30,8 +28,7 @@ root_fits {x = x} {r = pos m} {n = n} range x_fits degree is floor =
 -- and so does its negation, if the type has a negative number
 pub negation_fits : {fits : ℤ → Type 0} {low high x m : ℤ} → IsRange fits low high → fits x → x <ℤ pos 0 → pos 0 ≤ℤ m → fits m
     → fits (neg_ℤ m)
-negation_fits {x = x} {m = m} range x_fits below up m_fits =
-    (range.between _).1 (omega (arith, linear, range.low_end, range.positive, (range.between x).0 x_fits, (range.between m).0 m_fits))
+negation_fits {x = x} {m = m} range x_fits below up m_fits = grind (arith, linear)
 
 -- each root of a number of the type is a number of the type
 pub root_in_range : {fits : ℤ → Type 0} {low high x : ℤ} {n : ℕ} {r : ℤ} → IsRange fits low high → fits x → n ≢ 0

@@ -1,10 +1,5 @@
 -- Each answer is the only number that meets its definition.
-use Rattle.std.specs.Prelude.{◌≡◌, ◌+◌}
-use Rattle.integer_core.proofs.Common.{ℤ, pos, negsuc, ℕ, arith, sym, ◌∙◌, ints, by_lt_z, IsOnly, linear, products}
-use Rattle.integer_core.proofs.Runs.{only_iterations}
-use Rattle.integer_roots.specs.Averages.{IsAverageFloor, IsAverageCeil}
-use Rattle.integer_roots.specs.RootOf.{IsFloorRoot, IsRoot}
-use Rattle.integer_roots.specs.SquareRuns.{Guess, Rising, Falling, IsNewtonIteration, NewtonEnds, MakesNewtonRun, AreSquareRootIterations}
+use Rattle.integer_roots.proofs.Common.{◌≡◌, ℤ, pos, negsuc, ℕ, arith, sym, ◌∙◌, ints, by_lt_z, IsOnly, linear, products, only_iterations, IsAverageFloor, IsAverageCeil, IsFloorRoot, IsRoot, Guess, Rising, Falling, IsNewtonIteration, NewtonEnds, MakesNewtonRun, AreSquareRootIterations}
 use Rattle.integer_roots.proofs.Powers.{base_below, highest_bit}
 
 pub average_floor_is_only : (a b f : ℤ) → IsAverageFloor a b f → IsOnly (IsAverageFloor a b) f
@@ -16,9 +11,7 @@ average_ceil_is_only a b c h d k = omega (arith, products, h.previous_double_lt,
 floor_root_is_only_one : {x r : ℤ} {n : ℕ} → IsFloorRoot x n r → IsOnly (IsFloorRoot x n) r
 floor_root_is_only_one {r = negsuc i} h s k = absurd (omega (arith, ints, h.from_zero))
 floor_root_is_only_one {r = pos i} h (negsuc j) k = absurd (omega (arith, ints, k.from_zero))
-floor_root_is_only_one {r = pos i} {n = n} h (pos j) k =
-    let most = base_below i (j + 1) n (omega (arith, linear, h.power_le, k.next_power_gt)) in
-    omega (arith, ints, base_below j (i + 1) n (omega (arith, linear, k.power_le, h.next_power_gt)))
+floor_root_is_only_one {r = pos i} {n = n} h (pos j) k = grind (arith, base_below)
 
 pub root_is_only_one : {x r : ℤ} {n : ℕ} → IsRoot x n r → IsOnly (IsRoot x n) r
 root_is_only_one {x} h s k = by_lt_z x (pos 0)

@@ -1,7 +1,5 @@
 -- Powers, multiplied out and compared.
-use Rattle.std.specs.Prelude.{◌≡◌, ◌≢◌, ◌/◌, ◌%◌, ◌*◌, ◌^◌, ◌+◌, ◌<◌, ◌≤◌}
-use Rattle.integer_core.proofs.Common.{ℕ, suc, zero, ap, refl, ◌∙◌, arith, pos, div-div-eq-div-mul, div-le_self, mul-one, pow-add, pow-suc, pow_mono, ints, pow-zero, pow-succ', pow-le-pow_left, pow-le-pow_right, lt_of_not-le}
-use Rattle.integer_roots.specs.RootOf.{IsFloorRoot}
+use Rattle.integer_roots.proofs.Common.{◌≡◌, ◌≢◌, ◌/◌, ◌%◌, ◌*◌, ◌^◌, ◌+◌, ◌<◌, ◌≤◌, ℕ, suc, zero, ap, refl, ◌∙◌, arith, pos, div-div-eq-div-mul, div-le_self, mul-one, pow-add, pow-suc, pow_mono, ints, pow-zero, pow-succ', pow-le-pow_left, pow-le-pow_right, lt_of_not-le, IsFloorRoot}
 pub use Rattle.integer_core.proofs.IntegerPowers.{power_of_one, power_of_zero}
 
 -- the first three powers

@@ -1,9 +1,5 @@
 -- Newton's step for the root of any degree, over natural numbers, and the guesses of the two loops, which stay above 1 and small.
-use Rattle.std.specs.Prelude.{◌≡◌, ◌+◌, ◌-◌, ◌*◌, ◌/◌, ◌%◌, ◌^◌, ◌<◌, ◌≤◌}
-use Rattle.integer_core.proofs.Common.{pos, ℕ, zero, suc, arith, mul-le-mul_left, mul-le-mul_right, div-mul-le_self, pow-add, pow_mono, pow_pos, pow-succ', pow-le-pow_left, pow-le-pow_right, one_shl, inl, inr, refl, div-lt_iff_lt-mul, pow-zero, one-le-pow, add-mul-div_right, one-mul, lt_of_not-le, le-div, cases_lt}
-use Rattle.integer_roots.specs.RootOf.{IsFloorRoot}
-use Rattle.integer_roots.specs.SquareRuns.{Guess, Rising, Falling, square_step}
-use Rattle.integer_roots.specs.NewtonRuns.{guess_of, IsReached, begins, rises, goes_over, falls, newton_step}
+use Rattle.integer_roots.proofs.Common.{◌≡◌, ◌+◌, ◌-◌, ◌*◌, ◌/◌, ◌%◌, ◌^◌, ◌<◌, ◌≤◌, pos, ℕ, zero, suc, arith, mul-le-mul_left, mul-le-mul_right, div-mul-le_self, pow-add, pow_mono, pow_pos, pow-succ', pow-le-pow_left, pow-le-pow_right, one_shl, inl, inr, refl, div-lt_iff_lt-mul, pow-zero, one-le-pow, add-mul-div_right, one-mul, lt_of_not-le, le-div, cases_lt, IsFloorRoot, Guess, Rising, Falling, square_step, guess_of, IsReached, begins, rises, goes_over, falls, newton_step}
 use Rattle.integer_roots.proofs.Powers.{power_one, power_of_power, base_below, floor_root, highest_bit, power_two}
 
 -- two differences that are not negative, q - p and t - r, have a product that is not
@@ -95,7 +91,6 @@ pub start : {step : ℕ → ℕ → Type 0} {a n limit : ℕ} (top place : ℕ) 
 start {a = a} {n = n} top zero newton degree power small place low high limited =
     absurd (omega (arith, highest_bit a n top power (omega (arith, pow-add 2 top 1))))
 start {a = a} {n = n} {limit = limit} top (suc k) newton degree power small place low high limited =
-    let bit : 2 ^ suc k ≡ 2 * 2 ^ k = pow-succ' 2 k in
     let half : 2 ^ k < limit = base_below (2 ^ k) limit n (omega (arith, power_of_power 2 k n, pow_mono {i = k * n} {j = top} (omega arith))) in
     rw (one_shl (suc k) 64 (omega (arith, mul-le-mul_left k degree))) (record {
       newton = newton;

@@ -1,9 +1,5 @@
 -- The guesses of a square root's two loops: how near the root each iteration brings them, and that five iterations are enough.
-use Rattle.std.specs.Prelude.{◌≡◌, ◌+◌, ◌-◌, ◌*◌, ◌/◌, ◌^◌, ◌<◌, ◌≤◌, ◌∷◌, ◌%◌}
-use Rattle.integer_core.proofs.Common.{pos, ℕ, zero, suc, List, [], ◌∙◌, arith, refl, add-one, mul-le-mul, mul-le-mul_left, mul-le-mul_right, le_of_mul-le-mul_right, mul-pos, div-mul-le_self, div-lt_iff_lt-mul, le_trans, pow-add, pow_mono, lt_of_not-le, ints, one_shl, IsRun}
-use Rattle.integer_core.proofs.Runs.{Reaches, reaches_first, reaches_iteration, reaches_instead, reaches_last}
-use Rattle.integer_roots.specs.SquareRuns.{square_step, Guess, Rising, Falling, IsNewtonIteration, NewtonEnds, IsHighestBit, first_guess, AreSquareRootIterations}
-use Rattle.integer_roots.specs.NewtonRuns.{guess_of, IsReached, begins, rises, goes_over, falls}
+use Rattle.integer_roots.proofs.Common.{◌≡◌, ◌+◌, ◌-◌, ◌*◌, ◌/◌, ◌^◌, ◌<◌, ◌≤◌, ◌∷◌, ◌%◌, pos, ℕ, zero, suc, List, [], ◌∙◌, arith, refl, add-one, mul-le-mul, mul-le-mul_left, mul-le-mul_right, le_of_mul-le-mul_right, mul-pos, div-mul-le_self, div-lt_iff_lt-mul, le_trans, pow-add, pow_mono, lt_of_not-le, one_shl, IsRun, Reaches, reaches_first, reaches_iteration, reaches_instead, reaches_last, square_step, Guess, Rising, Falling, IsNewtonIteration, NewtonEnds, IsHighestBit, first_guess, AreSquareRootIterations, guess_of, IsReached, begins, rises, goes_over, falls}
 use Rattle.integer_roots.proofs.RootGuesses.{cross, square_step_is, IsStart, start, in_range}
 use Rattle.integer_roots.proofs.Powers.{power_two}
 
@@ -133,7 +129,4 @@ module _ {a first : ℕ} (known : IsSquareStart a first) where
   -- at their end, their iterations are those of the run
   pub iterations_of_run : {x iterations : ℕ} → IsReached (IsSquareStep a) first (Falling x) iterations → (next : ℕ) × IsSquareStep a x next × (x ≤ next)
       → AreSquareRootIterations (pos a) iterations
-  iterations_of_run reached (next, is, up) = record {
-    below_four = λ h. absurd (omega (arith, ints, known.start.power_le));
-    from_four = λ h. record { top = known.top; highest = known.highest; run = rw known.is at (reaches_last (run_to a reached) (omega arith)) };
-  }
+  iterations_of_run reached (next, is, up) = grind (arith, reaches_last, run_to)

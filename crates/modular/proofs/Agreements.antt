@@ -175,7 +175,7 @@ between_fits range x_fits y_fits after before = (range.between _).1 (omega (arit
 
 module _ {Each Both : ℤ → Type 0} {from next : ℤ} (narrows : (x : ℤ) → Each x → Both x) (passed : (x : ℤ) → from ≤ℤ x → Each x → next ≤ℤ x) where
   pub candidate_is_least : {t : ℤ} → from ≤ℤ next → IsLeastFrom next Both t → Each t → IsLeastFrom from Each t
-  candidate_is_least onward h each = record { from_there = omega (arith, linear, h.from_there); holds = each; least = λ u far has. h.least u (passed u far has) (narrows u has) }
+  candidate_is_least onward h each = grind arith
 
   pub candidate_passed : {t : ℤ} → IsLeastFrom next Both t → ¬ (Each t) → (x : ℤ) → from ≤ℤ x → Each x → (t +ℤ pos 1) ≤ℤ x
   candidate_passed {t} h none = λ x far has.
@@ -219,7 +219,7 @@ narrowed_first value congruences {first} {step} one = record {
 
 module _ {X : Type 0} {value : X → ℤ} {congruences : List (X × X)} {i : ℕ} {first step : ℤ} (h : Narrowed value congruences i first step) where
   pub narrowed_solves : {c : X × X} → c ≡ get_or congruences i c → i < length congruences → (x : ℤ) → SolvesEach value congruences x → SolvesBothCongruences first step (value c.0) (value c.1) x
-  narrowed_solves is within x each = record { first = h.every x each; second = at_item (SolvesAt value x) congruences i is within each }
+  narrowed_solves is within x each = grind arith
 
   pub narrowed_more : {c : X × X} {f s : ℤ} → c ≡ get_or congruences i c → i < length congruences → IsResidueClass (SolvesBothCongruences first step (value c.0) (value c.1)) f s → Narrowed value congruences (i + 1) f s
   narrowed_more is within class = record {

@@ -1,5 +1,5 @@
 -- How many congruent numbers a range has.
-use Rattle.modular.proofs.Common.{◌≡◌, ◌≤ℤ◌, ◌<ℤ◌, ◌+ℤ◌, ◌-ℤ◌, ◌*ℤ◌, ◌∷◌, ◌∙◌, ℤ, ℕ, zero, suc, pos, unsigned_abs, [], Option, Some, None, IfSome, MatchOption, arith, ap, inl, refl, subst, sym, by_lt_z, ints, IsRange, expand, from_not_less, linear, product_from_zero, products, sizes, within_fits, IsTimesToReach, IsCountFrom, AreCongruent, IsCountOfCongruent, IsNextCongruent, IsResidue}
+use Rattle.modular.proofs.Common.{◌≡◌, ◌≤ℤ◌, ◌<ℤ◌, ◌+ℤ◌, ◌-ℤ◌, ◌*ℤ◌, ◌∷◌, ◌∙◌, ℤ, ℕ, zero, suc, pos, unsigned_abs, Option, Some, None, IfSome, MatchOption, arith, ap, inl, subst, sym, by_lt_z, ints, IsRange, expand, from_not_less, linear, product_from_zero, products, sizes, within_fits, IsTimesToReach, IsCountFrom, AreCongruent, IsCountOfCongruent, IsNextCongruent, IsResidue}
 use Rattle.modular.proofs.CommonSolutions.{times_ordered}
 use Rattle.modular.proofs.Congruences.{congruent-sym, congruent-trans, congruent_by}
 use Rattle.modular.proofs.NextCongruent.{next_within_step}
@@ -15,15 +15,12 @@ next_by_times {from} {start} {first} {step} {k} up at_start h = record {
   holds = congruent-trans (congruent_by k (omega (arith, linear))) (congruent-sym at_start);
   least = λ u far near.
       let times = (congruent-trans near at_start).divides in
-      let is : step *ℤ times.factor ≡ u -ℤ start = sym times.product in
       let ordered = times_ordered {m = step} k times.factor up (h.least times.factor (omega (arith, linear))) in
       omega (arith, linear);
 }
 
 one_more_step : (step : ℤ) (n : ℕ) → step *ℤ pos (suc n) ≡ step +ℤ step *ℤ pos n
-one_more_step step n =
-    let one : pos (suc n) ≡ pos n +ℤ pos 1 = omega (arith, ints) in
-    rw one (simp expand (omega (arith, products)))
+one_more_step step n = grind arith
 
 -- the next congruent number, if it is in the range, and those after it
 one_number_more : {from to first step t : ℤ} {n : ℕ} → IsNextCongruent from first step t → t ≤ℤ to → IsCountOfCongruent (t +ℤ pos 1) to first step (pos n) → IsCountOfCongruent from to first step (pos (suc n))
@@ -39,13 +36,7 @@ one_number_more {t = t} at_start within rest = record {
 -- the count is the number of steps from the first congruent number to the first one after the range
 count_of_steps : {to first step u : ℤ} (n : ℕ) {from t : ℤ} → pos 0 <ℤ step → IsNextCongruent from first step t → IsNextCongruent (to +ℤ pos 1) first step u → u ≡ t +ℤ step *ℤ pos n
     → IsCountOfCongruent from to first step (pos n)
-count_of_steps {to} {u = u} zero {from} {t} up at_start at_end is = record {
-  items = [];
-  all = λ x far h.
-      let same : t ≡ u = omega (arith, products) in
-      absurd (omega (arith, linear, at_start.least x far h.congruent, at_end.from_there, h.to_there));
-  counted = refl;
-}
+count_of_steps {to} {u = u} zero {from} {t} up at_start at_end is = grind (arith, products)
 count_of_steps {to} {first} {step} {u} (suc n) {from} {t} up at_start at_end is =
     let beyond = product_from_zero step (pos n) (omega (arith, linear)) (omega (arith, ints)) in
     let more : step *ℤ pos (suc n) ≡ step +ℤ step *ℤ pos n = one_more_step step n in
@@ -87,17 +78,9 @@ counted_by_times {from} {to} {first} {start} {step} {j} {k} up at_start ordered 
           counted_steps up own (record { from_there = by_lt_z to (start +ℤ step *ℤ k) (λ less. omega (arith, linear)) (λ fine. absurd (apart_from (omega (arith, linear)))); holds = last.holds; least = λ x beyond near. last.least x (omega (arith, linear)) near }) (omega (arith, linear)) apart;
     }
 
--- a range that ends before it begins has no number
-pub none_in_range : {from to first step n : ℤ} → to <ℤ from → n ≡ pos 0 → IsCountOfCongruent from to first step n
-none_in_range less none = record { items = []; all = λ u far h. absurd (omega (arith, linear, h.to_there)); counted = none }
-
 -- if a number of steps does not fit, neither does one more
 pub one_more_too_large : {fits : ℤ → Type 0} {low high times : ℤ} → IsRange fits low high → pos 0 ≤ℤ times → ¬ (fits times) → ¬ (fits (times +ℤ pos 1))
 one_more_too_large range from_zero none more_fits = none (within_fits range more_fits (inl (from_zero, omega (arith, linear))))
-
--- no count is negative
-pub zero_from_zero : {n : ℤ} → n ≡ pos 0 → pos 0 ≤ℤ n
-zero_from_zero none = omega (arith, linear)
 
 pub count_from_zero : {X : Type 0} (fits : ℤ → Type 0) (value : X → ℤ) (N : Type 0) (from : ℤ) (FitsWith : ℤ → Type 0) (r : Option X) → MatchOption r N (λ n. fits (value n) × IsCountFrom from FitsWith (value n)) → IfSome r (λ n. pos 0 ≤ℤ value n)
 count_from_zero fits value N from FitsWith (Some n) h = omega (arith, ints, h.1.counted)

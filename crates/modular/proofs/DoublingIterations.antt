@@ -24,9 +24,6 @@ two_fits range rest_fits above = within_fits range rest_fits (inl (omega (arith,
 pub positive_two : {one two : ℤ} → one ≡ pos 1 → two ≡ one +ℤ pos 1 → pos 0 <ℤ two
 positive_two one is = omega (arith, linear)
 
-pub nonzero_two : {one two : ℤ} → one ≡ pos 1 → two ≡ one +ℤ pos 1 → two ≢ pos 0
-nonzero_two one is none = omega (arith, linear)
-
 -- the two parts of a number above 1: twice the half, and the last binary digit
 pub record IsHalved (rest half digit : ℤ) : Type 0 where
   pub half_from_zero : pos 0 ≤ℤ half

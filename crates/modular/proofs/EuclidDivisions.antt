@@ -1,5 +1,5 @@
 -- Euclid's loop with the magnitudes of the coefficients of a, and what its last division says.
-use Rattle.modular.proofs.Common.{◌≡◌, ◌≢◌, ◌≤ℤ◌, ◌<ℤ◌, ◌+ℤ◌, ◌-ℤ◌, ◌*ℤ◌, ◌∙◌, ℤ, pos, negsuc, neg_ℤ, Bool, true, false, not, arith, inl, refl, subst, sym, by_lt_z, IsTruncated, IsGreatestCommonDivisor, IsOnly, IsRange, Divides-refl, Divides-zero, expand, linear, mul-one, multiples_apart, product_at_most, product_from_zero, products, sizes, within_fits, AreCongruent, IsInverse, IsResidue, LiesBelow}
+use Rattle.modular.proofs.Common.{◌≡◌, ◌≢◌, ◌≤ℤ◌, ◌<ℤ◌, ◌+ℤ◌, ◌-ℤ◌, ◌*ℤ◌, ◌∙◌, ℤ, pos, negsuc, neg_ℤ, Bool, true, false, not, arith, inl, refl, subst, sym, IsTruncated, IsGreatestCommonDivisor, IsOnly, IsRange, Divides-refl, Divides-zero, expand, linear, product_at_most, product_from_zero, products, within_fits, AreCongruent, IsInverse, IsResidue, LiesBelow}
 use Rattle.modular.proofs.Congruences.{congruent-difference, congruent-gcd, congruent-product, congruent-refl, congruent-sym, congruent-trans, congruent_by, only_inverse}
 
 -- ---- the numbers of the loop
@@ -42,12 +42,7 @@ first_division {m} {a} {x} {none} {one} up h none_is one_is = record {
 
 -- a quotient of numbers that are not negative
 quotient_from_zero : {n d q r : ℤ} → pos 0 ≤ℤ n → pos 0 ≤ℤ d → d ≢ pos 0 → IsTruncated n d q r → pos 0 ≤ℤ q
-quotient_from_zero {n} {d} {q} {r} n_up d_up nonzero h =
-    let from_zero : pos 0 ≤ℤ r = omega (arith, linear, h.sign) in
-    let below : r <ℤ d = omega (arith, sizes, h.division.small) in
-    by_lt_z q (pos 0)
-    (λ less. let apart = multiples_apart q (pos 0) d (omega (arith, linear)) less in absurd (omega (arith, products)))
-    (λ fine. fine)
+quotient_from_zero {n} {d} {q} {r} n_up d_up nonzero h = grind arith
 
 pub positive_remainder : {c : ℤ} → pos 0 ≤ℤ c → c ≢ pos 0 → pos 0 <ℤ c
 positive_remainder from_zero nonzero = omega (arith, linear)
@@ -56,9 +51,7 @@ positive_remainder from_zero nonzero = omega (arith, linear)
 size_at_most : {m next current size rest : ℤ} → next *ℤ current +ℤ size *ℤ rest ≡ m → pos 0 ≤ℤ next → pos 1 ≤ℤ current → pos 0 ≤ℤ size → pos 0 ≤ℤ rest → next ≤ℤ m
 size_at_most {next = next} {current = current} {size = size} {rest = rest} whole next_up current_up size_up rest_up =
     let most : (next *ℤ pos 1) ≤ℤ (next *ℤ current) = product_at_most {u = next} {v = pos 1} {x = next} {y = current} next_up (omega (arith, linear)) (omega (arith, linear)) current_up in
-    let one = mul-one next in
-    let other = product_from_zero size rest size_up rest_up in
-    omega (arith, linear)
+    grind arith
 
 whole_after : (p c u v q : ℤ) → (u +ℤ q *ℤ v) *ℤ c +ℤ v *ℤ (p -ℤ q *ℤ c) ≡ v *ℤ p +ℤ u *ℤ c
 whole_after p c u v q = simp expand (omega (arith, linear))

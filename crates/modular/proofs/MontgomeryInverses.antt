@@ -5,9 +5,7 @@ use Rattle.modular.proofs.BelowModulus.{congruent-rest, natural_residue}
 use Rattle.modular.proofs.WideProducts.{wrapped_difference}
 
 odd_inverse_at : (m g k f : ℕ) → m ≡ g * 4 + k → (g * 4 + k) * (g * 4 + k) ≡ 8 * f + 1 → pos m *ℤ pos m -ℤ pos 1 ≡ pos 8 *ℤ pos f
-odd_inverse_at m g k f is square =
-    let same : m * m ≡ 8 * f + 1 = rw is square in
-    omega (arith, ints)
+odd_inverse_at m g k f is square = grind arith
 
 -- an odd number is its own inverse modulo 8
 pub odd_inverse : (m : ℕ) → m % 2 ≡ 1 → AreCongruent (pos (2 ^ 3)) (pos m *ℤ pos m) (pos 1)

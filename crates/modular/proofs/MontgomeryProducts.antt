@@ -1,5 +1,5 @@
 -- Montgomery products: the multiple of the modulus that is subtracted, and the numbers that Montgomery forms represent.
-use Rattle.modular.proofs.Common.{◌≡◌, ◌+◌, ◌*◌, ◌/◌, ◌%◌, ◌^◌, ◌<◌, ◌-ℤ◌, ◌*ℤ◌, ℤ, ℕ, pos, neg_ℤ, arith, ap, refl, subst, sym, mul-le-mul_left, ints, div-add-mod', div_below, mod_below, same_from_place, expand, linear, mul-neg, mul-one, AreCongruent, IsResidue, represented}
+use Rattle.modular.proofs.Common.{◌≡◌, ◌+◌, ◌*◌, ◌/◌, ◌%◌, ◌^◌, ◌<◌, ◌-ℤ◌, ◌*ℤ◌, ℤ, ℕ, pos, neg_ℤ, arith, ap, refl, subst, sym, ints, div-add-mod', mod_below, same_from_place, expand, linear, mul-neg, mul-one, AreCongruent, IsResidue, represented}
 use Rattle.modular.proofs.Congruences.{congruent-product, congruent-refl, congruent-sym, congruent-trans, congruent_by}
 use Rattle.modular.proofs.BelowModulus.{natural_residue}
 
@@ -25,21 +25,14 @@ difference_times m q w = simp expand (omega (arith, linear))
 montgomery_at : (h s r q w l e : ℕ) {m t n : ℕ} → t ≡ h * w + l → n ≡ s * w + l → n ≡ q * m → r + s ≡ h + e * m → AreCongruent (pos m) (pos t) (pos r *ℤ pos w)
 montgomery_at h s r q w l e {m} {t} t_is n_is multiple is =
     let times : (r + s) * w ≡ (h + e * m) * w = ap (λ (z : ℕ). z * w) is in
-    let all : t + m * (e * w) ≡ r * w + m * q = omega arith in
     congruent_by (pos q -ℤ pos (e * w)) (omega (arith, linear, difference_times (pos m) (pos q) (pos (e * w))))
 
 -- the high digit of what is subtracted is less than the modulus
 pub subtracted_at_most : (i t : ℕ) {m q p w : ℕ} → 0 < w → 0 < m → q ≡ t % w * i % w → p ≡ m → q * p / w < m
-subtracted_at_most i t {m} {q} {p} {w} up m_up q_is p_is =
-    let small : q < w = rw q_is (mod_below (t % w * i) w up) in
-    let most = mul-le-mul_left m small in
-    div_below (q * p) w m up (rw p_is (omega arith))
+subtracted_at_most i t {m} {q} {p} {w} up m_up q_is p_is = grind arith
 
 low_kept : (i t : ℕ) {m q p w : ℕ} → 0 < w → m * i % w ≡ 1 → q ≡ t % w * i % w → p ≡ m → q * p ≡ q * p / w * w + t % w
-low_kept i t {m} {q} {p} {w} up inverse q_is p_is =
-    let same : q * p % w ≡ t % w = rw (q_is, p_is) (low_same m i t w up inverse) in
-    let parts = div-add-mod' (q * p) w in
-    omega arith
+low_kept i t {m} {q} {p} {w} up inverse q_is p_is = grind (arith, low_same)
 
 pub montgomery_product_is : (i r e : ℕ) {x y a b m q p w : ℕ} → 0 < w → m * i % w ≡ 1 → a ≡ x → b ≡ y → q ≡ a * b % w * i % w → p ≡ m → r + q * p / w ≡ a * b / w + e * m
     → AreCongruent (pos m) (pos (x * y)) (pos (r * w))
@@ -56,7 +49,6 @@ unit_at m i k w e = simp mul-neg (omega (arith, ints))
 -- minus the quotient of m * i by 2^64 is the inverse of 2^64 modulo m
 pub word_unit : (m i w : ℕ) → m * i % w ≡ 1 → AreCongruent (pos m) (pos w *ℤ neg_ℤ (pos (m * i / w))) (pos 1)
 word_unit m i w one =
-    let parts = div-add-mod' (m * i) w in
     let all : m * i ≡ m * i / w * w + 1 = omega arith in
     congruent_by (neg_ℤ (pos i)) (unit_at m i (m * i / w) w all)
 

@@ -1,5 +1,5 @@
 -- The next congruent number and the previous one, and a number that fits the type or is beyond it.
-use Rattle.modular.proofs.Common.{◌≡◌, ◌≤ℤ◌, ◌<ℤ◌, ◌+ℤ◌, ◌-ℤ◌, ℤ, pos, neg_ℤ, Option, Some, None, MatchOption, arith, subst, sym, by_lt_z, AnswersWhere, FitsWith, expand, linear, sizes, small_multiple_is_zero, MatchWhere, AreCongruent, IsNextCongruent, IsPreviousCongruent, IsResidue}
+use Rattle.modular.proofs.Common.{◌≡◌, ◌≤ℤ◌, ◌<ℤ◌, ◌+ℤ◌, ◌-ℤ◌, ℤ, pos, neg_ℤ, Option, Some, None, MatchOption, arith, subst, sym, by_lt_z, AnswersWhere, FitsWith, expand, linear, sizes, small_multiple_is_zero, AreCongruent, IsNextCongruent, IsPreviousCongruent, IsResidue}
 use Rattle.modular.proofs.Congruences.{congruent-sym, congruent-trans, congruent_by}
 
 -- of two congruent numbers, one that is less than the modulus further is not the larger
@@ -33,8 +33,3 @@ pub found_or_beyond : {X : Type 0} (fits : ℤ → Type 0) (value : X → ℤ) (
     → MatchOption found ((t : ℤ) × Is t × ¬ (fits t)) (FitsWith fits value Is)
 found_or_beyond fits value Is (Some t) is h = (h.1.0, subst Is (sym h.1.1) is)
 found_or_beyond fits value Is None is h = (_, is, h)
-
--- what a call says in its domain
-pub match_where : {A Domain : Type 0} (N : Type 0) (P : A → Type 0) (found : Option A) → Domain → MatchOption found N P → MatchWhere Domain found N P
-match_where N P (Some x) holds h = (holds, h)
-match_where N P None holds h = λ _. h

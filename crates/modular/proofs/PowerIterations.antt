@@ -1,5 +1,5 @@
 -- Powers by squaring, modulo a number.
-use Rattle.modular.proofs.Common.{◌≡◌, ◌≢◌, ◌+◌, ◌*◌, ◌/◌, ◌%◌, ◌<◌, ◌≤◌, ◌^◌, ◌*ℤ◌, ◌∙◌, ℤ, ℕ, pos, zero, suc, int_pow, arith, ap, inl, inr, refl, subst, sym, mul-le-mul_right, one-le-pow, pow-le-pow_right, two-pow-succ, cases_lt, comm, expand, int_pow-suc, int_pow-zero, mul-one, power_of_square, AreCongruent, IsResidue, LiesBelow, IsIterationCount}
+use Rattle.modular.proofs.Common.{◌≡◌, ◌≢◌, ◌+◌, ◌*◌, ◌/◌, ◌%◌, ◌<◌, ◌≤◌, ◌^◌, ◌*ℤ◌, ◌∙◌, ℤ, ℕ, pos, zero, suc, int_pow, arith, ap, refl, subst, sym, mul-le-mul_right, one-le-pow, pow-le-pow_right, two-pow-succ, comm, expand, int_pow-suc, int_pow-zero, mul-one, power_of_square, AreCongruent, IsResidue, LiesBelow}
 use Rattle.modular.proofs.Congruences.{congruent-product, congruent-refl, congruent-trans}
 
 -- ---- modulo a number
@@ -48,10 +48,7 @@ pub times_at_one : {m r : ℤ} {digit : ℕ} (x y : ℤ) → digit ≡ 1 → Are
 times_at_one {m} {r} x y one h = subst (λ (t : ℤ). AreCongruent m (x *ℤ t) r) (sym (ap (λ (k : ℕ). int_pow y k) one ∙ first_power y)) h
 
 pub times_at_zero : {m : ℤ} {digit : ℕ} (x y : ℤ) → digit < 2 → digit ≢ 1 → AreCongruent m (x *ℤ int_pow y digit) x
-times_at_zero {m} {digit} x y few other =
-    let none : digit ≡ 0 = omega arith in
-    let same = ap (λ (t : ℤ). x *ℤ t) (ap (λ (k : ℕ). int_pow y k) none ∙ int_pow-zero y) ∙ mul-one x in
-    subst (λ (t : ℤ). AreCongruent m t x) (sym same) (congruent-refl x)
+times_at_zero {m} {digit} x y few other = grind (arith, int_pow-zero, mul-one, congruent-refl)
 
 -- the power of a residue is that of the number
 pub residue_of_power : {m a x r : ℤ} (e : ℕ) → IsResidue m a x → LiesBelow m r → AreCongruent m (int_pow x e) r → IsResidue m (int_pow a e) r
@@ -89,17 +86,4 @@ halved_iteration {e} {rest} {iterations} h more =
 
 -- the iterations are fewer than the digits that hold the exponent
 pub few_halvings : {e rest iterations : ℕ} (digits : ℕ) → Halved e rest iterations → 1 < rest → e < 2 ^ digits → iterations < digits
-few_halvings {iterations = iterations} digits h more small = elim (cases_lt iterations digits) [
-  | inl few ↦ few
-  | inr many ↦ absurd (omega (arith, power_at_most h more, pow-le-pow_right {n = 2} (omega arith) many))
-]
-
-pub iterations_counted : {e rest iterations : ℕ} → Halved e rest iterations → rest ≤ 1 → IsIterationCount e iterations
-iterations_counted {rest = rest} {iterations = iterations} h last = record {
-  no_iteration = h.never;
-  logarithm = λ other.
-      let one : rest ≡ 1 = omega (arith, h.some other) in
-      let low = rw one at h.low in
-      let high = rw one at h.high in
-      (omega arith, rw (next_power iterations) (omega arith));
-}
+few_halvings {iterations = iterations} digits h more small = grind (arith, pow-le-pow_right)

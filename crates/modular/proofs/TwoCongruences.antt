@@ -75,11 +75,7 @@ both_found {a} {m} {b} {n} {start} {gap} {times} {s} {p} {x} {l} m_up n_up at_st
 
 -- What solves the class of the solutions and one more congruence solves all.
 pub next_of_class_and : {FitsWith : ℤ → Type 0} {first step from a m t : ℤ} → IsResidueClass FitsWith first step → IsNextCommonSolution from first step a m t → IsLeastFrom from (λ x. FitsWith x × AreCongruent m x a) t
-next_of_class_and {t = t} class next = record {
-  from_there = next.from_there;
-  holds = (class.no_other t next.holds.first, next.holds.second);
-  least = λ u far h. next.least u far (record { first = class.every u h.0; second = h.1 });
-}
+next_of_class_and {t = t} class next = grind arith
 
 pub none_of_class_and : {FitsWith : ℤ → Type 0} {first step a m : ℤ} → IsResidueClass FitsWith first step → ((x : ℤ) → ¬ (SolvesBothCongruences first step a m x)) → (x : ℤ) → ¬ (FitsWith x × AreCongruent m x a)
 none_of_class_and class none x h = none x (record { first = class.every x h.0; second = h.1 })

@@ -1,5 +1,5 @@
 -- Powers of natural numbers, and powers of sums of exponents.
-use Rattle.num_integer.proofs.Common.{◌≡◌, ◌+◌, ◌^◌, ◌*ℤ◌, ℕ, ℤ, pos, zero, suc, int_pow, arith, expand, products, refl}
+use Rattle.num_integer.proofs.Common.{◌≡◌, ◌+◌, ◌^◌, ◌*ℤ◌, ℕ, ℤ, pos, zero, suc, int_pow, arith, expand, refl}
 use Rattle.integer_core.proofs.IntegerPowers.{int_pow-suc, int_pow-zero}
 use Rattle.num_integer.specs.Laws as law
 
@@ -9,9 +9,7 @@ natural_power a n = refl
 
 -- An exponent that is a sum makes a product of powers.
 pub int_pow_add : (x : ℤ) (m n : ℕ) → int_pow x (m + n) ≡ int_pow x m *ℤ int_pow x n
-int_pow_add x zero n =
-    let e : 0 + n ≡ n = omega arith in
-    rw (e, int_pow-zero x) (omega (arith, products))
+int_pow_add x zero n = grind (arith, int_pow-zero)
 int_pow_add x (suc m) n =
     let e : suc m + n ≡ suc (m + n) = omega arith in
     rw (e, int_pow-suc x (m + n), int_pow-suc x m, int_pow_add x m n) (simp expand)

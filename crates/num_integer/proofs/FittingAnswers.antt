@@ -45,8 +45,6 @@ gcd_domain range a_fits b_fits test = let same = gcd_fits_is range a_fits b_fits
 module _ {fits : ℤ → Type 0} {low high n d : ℤ} {Kind : ℤ → ℤ → ℤ → ℤ → Type 0} (kind : IsKind Kind) (range : IsRange fits low high) (n_fits : fits n) (d_fits : fits d) where
   pub by_minus_one : (magnitude top : ℕ) → d ≡ negsuc 0 → magnitude ≡ unsigned_abs n → pos top ≡ high → IsTrue (nat_le magnitude top) ↔ ((d ≢ pos 0) × EachFits fits (IsQuotient Kind n d))
   by_minus_one magnitude top minus size ends =
-      let ends_at = range.low_end in
-      let positive = range.positive in
       let n_in = (range.between n).0 n_fits in
       let d_in = (range.between d).0 d_fits in
       let own = kind.exact (floored_by_minus_one n d minus).division in
@@ -72,10 +70,7 @@ signed-not false magnitude e = omega (arith, linear)
 module _ {fits : ℤ → Type 0} {low high : ℤ} {least most : ℕ} (range : IsRange fits low high) (bottom : least ≡ unsigned_abs low) (top : pos most ≡ high) where
   -- a number fits exactly if it lies between the ends
   inside : (z : ℤ) → IsWithin least most z ↔ fits z
-  inside z = (
-    λ h. (range.between z).1 (omega (arith, linear, abs_is), omega (arith, linear)),
-    λ h. let z_in = (range.between z).0 h in (omega (arith, linear, abs_is), omega (arith, linear)),
-  )
+  inside z = grind arith
 
   pub parts_inside : {negative : Bool} {magnitude : ℕ} {z : ℤ} → IsTrue negative ↔ (z <ℤ pos 0) → magnitude ≡ unsigned_abs z → fits z → IsWithin least most (signed negative magnitude)
   parts_inside sign size z_fits = rw (signed_is sign size) ((inside _).1 z_fits)
@@ -128,7 +123,4 @@ module _ {fits : ℤ → Type 0} {low high a b : ℤ} {most m n : ℕ} (range : 
 -- a sum with a number that is not negative fits exactly if it is at most the largest number, by signs and magnitudes
 pub sum_fits_exactly : {fits : ℤ → Type 0} {low high a b : ℤ} {negative answer : Bool} {m n h : ℕ} → IsRange fits low high → fits a → pos 0 ≤ℤ b → IsTrue negative ↔ (a <ℤ pos 0) → m ≡ unsigned_abs a
     → n ≡ unsigned_abs b → pos h ≡ high → IsTrue answer ↔ ((signed negative m +ℤ pos n) ≤ℤ pos h) → IsTrue answer ↔ fits (a +ℤ b)
-sum_fits_exactly {high = high} {a = a} {b = b} {answer = answer} {n = n} range a_fits up negative a_size b_size top test =
-    let b_is : pos n ≡ b = omega (arith, sizes) in
-    let sum : IsTrue answer ↔ ((a +ℤ b) ≤ℤ high) = rw (signed_is negative a_size, b_is, top) at test in
-    (λ t. (range.between _).1 (omega (arith, linear, (range.between a).0 a_fits, sum.0 t)), λ f. sum.1 ((range.between _).0 f).1)
+sum_fits_exactly {high = high} {a = a} {b = b} {answer = answer} {n = n} range a_fits up negative a_size b_size top test = grind (arith, sizes)

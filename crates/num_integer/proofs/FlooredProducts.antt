@@ -25,14 +25,11 @@ pub division_by_magnitudes : (s u : Bool) (m e : ℕ) {q : ℤ} {r : ℕ} → Is
 division_by_magnitudes true false m e h = h
 division_by_magnitudes false false m e h = h
 division_by_magnitudes true true m e h = negated_floored h
-division_by_magnitudes false true m e h =
-    let back : neg_ℤ (neg_ℤ (pos m)) ≡ pos m = omega (arith, products) in
-    rw back at (negated_floored h)
+division_by_magnitudes false true m e h = grind arith
 
 -- a part of a number lies between 0 and the number, so it fits
 pub part_fits : {fits : ℤ → Type 0} {low high a b d q r : ℤ} → IsRange fits low high → fits a → pos 0 ≤ℤ a → pos 0 ≤ℤ b → b ≤ℤ d → pos 0 <ℤ d → IsDivision (a *ℤ b) d q r → fits q
 part_fits {a = a} {b = b} {d = d} {q = q} {r = r} range a_fits a_up b_up within up h =
-    let equation = h.equation in
     let rest : (neg_ℤ d <ℤ r) × (r <ℤ d) = omega (arith, sizes, h.small) in
     let product = product_from_zero a b a_up b_up in
     let most : (a *ℤ b) ≤ℤ (a *ℤ d) = product_at_most {u = a} {v = b} {x = a} {y = d} a_up (omega (arith, linear)) b_up within in

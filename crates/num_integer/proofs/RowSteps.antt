@@ -1,5 +1,5 @@
 -- Rows: from one coefficient to the next, and the rest of a row.
-use Rattle.num_integer.proofs.Common.{◌≤ℤ◌, ◌<ℤ◌, ◌+ℤ◌, ◌-ℤ◌, ◌*ℤ◌, ◌≢◌, ◌≡◌, ◌+◌, ◌-◌, ◌/◌, ◌≤◌, ◌*◌, All, ◌∷◌, add-one, ℤ, pos, negsuc, unsigned_abs, int_div, int_rem, ℕ, suc, List, [], length, drop, get_or, reverse, refl, sym, ap, ◌∙◌, arith, min, ints, abs_is, comm, expand, linear, products, Divides, IsGreatestCommonDivisor, IsRange, at_drop_more, drop_all, get_or-reverse, length-reverse, All-from_get_or, All-nil, gcd-nonzero, gcd-positive, gcd-remainder, gcd-swap, gcd-times, cancel, Divides-cancel, exact_quotient, divisor_size, truncated_is, coefficient, coefficient_of, fits_below, factor_positive}
+use Rattle.num_integer.proofs.Common.{◌≤ℤ◌, ◌<ℤ◌, ◌+ℤ◌, ◌-ℤ◌, ◌*ℤ◌, ◌≢◌, ◌≡◌, ◌+◌, ◌-◌, ◌/◌, ◌≤◌, ◌*◌, All, ◌∷◌, add-one, ℤ, pos, negsuc, unsigned_abs, int_div, int_rem, ℕ, suc, List, [], length, drop, get_or, reverse, refl, sym, ap, ◌∙◌, arith, min, ints, abs_is, comm, expand, linear, products, Divides, IsGreatestCommonDivisor, IsRange, at_drop_more, drop_all, get_or-reverse, length-reverse, All-nil, gcd-nonzero, gcd-positive, gcd-remainder, gcd-swap, gcd-times, cancel, Divides-cancel, exact_quotient, divisor_size, truncated_is, coefficient, coefficient_of, fits_below, factor_positive}
 use Rattle.std.proofs.lemmas.List.FromFn.{fill_by_all, get_or-map-range_with_len, length-map-range_with_len}
 use Rattle.num_integer.proofs.Pascal.{below_answer, coefficient_mirror, next_in_row, nearer_same, rises}
 use Rattle.num_integer.specs.Laws.{RowIsGreatestInMiddle, RowIsPalindrome, RowLength}
@@ -135,9 +135,7 @@ below_middle n m h =
 
 -- what holds of each coefficient holds of the items
 each_item : (P : ℤ → Type 0) (n : ℕ) → ((k : ℕ) → k ≤ n → P (pos (coefficient n k))) → All P (row_of (pos n))
-each_item P n each = All-from_get_or P (row_of (pos n)) (pos 0) (λ k h.
-    let within : k ≤ n = omega (arith, length-row n) in
-    rw (row_at n k (pos 0) within) (each k within))
+each_item P n each = grind (arith, length-row, row_at)
 
 pub row_is_greatest_in_middle : RowIsGreatestInMiddle
 unfolding row_of
@@ -167,7 +165,6 @@ row_in_range {fits} (negsuc n) range row = All-nil fits
 module _ {fits : ℤ → Type 0} {low high n k item : ℤ} (range : IsRange fits low high) (place : IsPlaceInRow fits n k item) (within : k ≤ℤ n) where
   pub item_fits : fits (coefficient_of n k)
   item_fits =
-      let up = place.k_from_zero in
       fits_below range (place.row_fits (omega (arith, ints))).1 (omega (arith, ints)) (omega (arith, ints, below_middle (unsigned_abs n) (unsigned_abs k) (omega (arith, ints))))
 
   pub place_fits : fits (k +ℤ pos 1)

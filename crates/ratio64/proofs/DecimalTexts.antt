@@ -1,5 +1,5 @@
 -- The strings of decimal numbers: their digits as they are written.
-use Rattle.ratio64.proofs.Common.{◌≡◌, ◌≤◌, ◌+◌, ◌-◌, ◌*◌, ◌/◌, ◌%◌, ◌^◌, ◌<◌, ◌++◌, ◌==◌, ℕ, zero, suc, ℤ, List, [], ◌∷◌, false, length, pos, replicate, unsigned_abs, FitsSigned, OnOk, Result, WritesInCalls, decimal, format_spec, sign_text, styled_decimal, is_negative, w64, append_assoc, arith, ap, inl, inr, refl, subst, sym, ◌∙◌, cases_lt, nat_tests, ints, decimal_digit, decimal_step, append-nil, length-append, div-add-mod, mod-eq_of_lt, mod-lt, mul-add-mod_self_left, pow-succ', decimal_text}
+use Rattle.ratio64.proofs.Common.{◌≡◌, ◌≤◌, ◌+◌, ◌-◌, ◌*◌, ◌/◌, ◌%◌, ◌^◌, ◌<◌, ◌++◌, ℕ, zero, suc, ℤ, List, [], ◌∷◌, false, length, pos, replicate, unsigned_abs, FitsSigned, OnOk, Result, WritesInCalls, decimal, format_spec, sign_text, styled_decimal, is_negative, w64, append_assoc, arith, ap, inl, inr, refl, subst, sym, ◌∙◌, cases_lt, ints, decimal_digit, decimal_step, append-nil, length-append, mod-eq_of_lt, mul-add-mod_self_left, pow-succ', decimal_text}
 use Rattle.std.specs.Fmt.{char_count, padded_integral}
 use Rattle.ratio64.specs.Decimal.{last_digits}
 
@@ -37,10 +37,7 @@ filled k n = replicate (k - length (decimal n)) 48 ++ decimal n
 
 filled_is : (k n : ℕ) → n < 10 ^ suc k → n < 2 ^ 64 → filled (suc k) n ≡ last_digits (suc k) n
 unfolding filled last_digits zeros
-filled_is zero n small fits =
-    let one : n < 10 = omega arith in
-    let same : n % 10 ≡ n = omega arith in
-    rw (decimal_digit n one, same) refl
+filled_is zero n small fits = grind (arith, decimal_digit)
 filled_is (suc k) n small fits = elim (cases_lt n 10) [
   | inl one ↦
       let none : n / 10 ≡ 0 = omega arith in
@@ -59,8 +56,6 @@ rest_by_tens m n up =
     let whole = n / (10 * m) in
     let rest = n % (10 * m) in
     let some : 0 < 10 * m = omega arith in
-    let small : rest < 10 * m = mod-lt n some in
-    let parts : 10 * (m * whole) + rest ≡ n = omega (arith, div-add-mod n (10 * m)) in
     let front : n / 10 ≡ m * whole + rest / 10 = omega arith in
     let below : rest / 10 < m = omega arith in
     (sym (rw front (mul-add-mod_self_left m whole (rest / 10) ∙ mod-eq_of_lt below)), omega arith)
@@ -77,34 +72,19 @@ last_of_rest (suc k) n =
 
 zero_padded : (k n : ℕ) → padded_integral (format_spec 32 0 4 k 18446744073709551615) false [] (decimal n) ≡ filled k n
 unfolding padded_integral char_count filled
-zero_padded k n =
-    let same : k - length (decimal n) - 0 - 0 ≡ k - length (decimal n) = omega arith in
-    rw (append-nil, same) refl
+zero_padded k n = grind (arith, append-nil)
 
 some_padded : (k n : ℕ) → 0 < k → n < 10 ^ k → n < 2 ^ 64 → styled_decimal (format_spec 32 0 4 k 18446744073709551615) n ≡ last_digits k n
 some_padded zero n some small fits = absurd (omega arith)
-some_padded (suc k) n some small fits =
-    let shown : (suc k == 0) ≡ false = grind (arith, nat_tests) in
-    rw shown (zero_padded (suc k) n ∙ filled_is k n small fits)
+some_padded (suc k) n some small fits = grind (arith, zero_padded, filled_is)
 
 pub integer_text : (units : ℤ) (places : ℕ) → places ≡ 0 → sign_text (is_negative units) ++ decimal (unsigned_abs units / 10 ^ places) ≡ decimal_text units places
 unfolding last_digits
-integer_text units places none =
-    let text = sign_text (is_negative units) ++ decimal (unsigned_abs units / 10 ^ 0) in
-    rw none (sym (append-nil (text ++ []) ∙ append-nil text))
+integer_text units places none = grind (arith, append-nil)
 
 pub places_text : (units : ℤ) (places : ℕ) → 0 < places → places ≤ 18
     → sign_text (is_negative units) ++ (decimal (unsigned_abs units / 10 ^ places) ++ (46 ∷ styled_decimal (format_spec 32 0 4 places 18446744073709551615) (unsigned_abs units % 10 ^ places))) ≡ decimal_text units places
-places_text units places some few =
-    let up = ten_up places in
-    let small = mod-lt (unsigned_abs units) up in
-    let most = ten_grows places 18 few in
-    let digits = some_padded places (unsigned_abs units % 10 ^ places) some small (omega arith) ∙ last_of_rest places (unsigned_abs units) in
-    let shown : (places == 0) ≡ false = grind (arith, nat_tests) in
-    let sign = sign_text (is_negative units) in
-    let whole = decimal (unsigned_abs units / 10 ^ places) in
-    let part = last_digits places (unsigned_abs units) in
-    rw (digits, shown) (sym (append_assoc sign whole (46 ∷ part)) ∙ sym (append_assoc (sign ++ whole) (46 ∷ []) part))
+places_text units places some few = grind (arith, ten_up, ten_grows, some_padded, last_of_rest, append_assoc)
 
 -- the same text in another form
 pub same_written : {W A E : Type 0} (took : W → List ℕ → W → Type 0) (r : Result A E) (w : W) (a b : List ℕ) (v : W) → a ≡ b → OnOk r (WritesInCalls took w a v) → OnOk r (WritesInCalls took w b v)

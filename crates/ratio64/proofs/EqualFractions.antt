@@ -1,5 +1,5 @@
 -- Equal fractions have one exact result, and equal sums and products.
-use Rattle.ratio64.proofs.Common.{◌≢◌, ◌+ℤ◌, ◌*ℤ◌, ℤ, pos, Result, Ok, Err, IfOk, arith, ap, expand, linear, AreEqual, IsExact, IsFraction, IsOutsideI64, AnswersFraction, num_of, den_of, AreEqual-sym, positive_is_nonzero, Ratio, RatioError}
+use Rattle.ratio64.proofs.Common.{◌≢◌, ◌+ℤ◌, ◌*ℤ◌, ℤ, pos, Result, Ok, Err, IfOk, arith, ap, expand, linear, AreEqual, IsExact, IsFraction, IsOutsideI64, AnswersFraction, num_of, den_of, AreEqual-sym, Ratio, RatioError}
 use Rattle.ratio64.proofs.ExactResults.{same_result}
 use Rattle.ratio64.proofs.FractionAnswers.{zero_factor}
 
@@ -44,7 +44,7 @@ nonzero_product b_nonzero d_nonzero e = b_nonzero ((zero_factor d_nonzero).0 e)
 -- with the exact results m/n of a/b and p/q of c/d
 module _ {a b c d m n p q : ℤ} (x : IsExact a b m n) (y : IsExact c d p q) where
   denominators : n *ℤ q ≢ pos 0
-  denominators = nonzero_product (positive_is_nonzero x.reduced.positive) (positive_is_nonzero y.reduced.positive)
+  denominators = grind (arith, nonzero_product)
 
   -- their sum has the result of the sum of the fractions
   pub sum_of_exact_results : {r : Result Ratio RatioError} → AnswersFraction (m *ℤ q +ℤ p *ℤ n) (n *ℤ q) r → AnswersFraction (a *ℤ d +ℤ c *ℤ b) (b *ℤ d) r

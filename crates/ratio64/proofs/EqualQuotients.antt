@@ -1,5 +1,5 @@
 -- Equal fractions have the same quotients, and the same nearest integer.
-use Rattle.ratio64.proofs.Common.{◌≡◌, ◌<◌, ◌≤◌, ◌*◌, ◌<ℤ◌, ◌≤ℤ◌, ◌-ℤ◌, ◌*ℤ◌, ℕ, ℤ, pos, neg_ℤ, unsigned_abs, Result, arith, ap, inl, inr, le_of_mul-le-mul_right, mul-le-mul_left, sym, ◌∙◌, cases_lt, by_lt_z, unsigned_abs-mul, ceiled_by_range, ceiled_remainder_range, comm, expand, floored_by_range, floored_remainder_range, from_not_less, linear, multiples_apart, product_from_zero, products, sizes, IsCeiled, IsFloored, IsQuotient, AreEqual, IsExact, AreEqual-sym, AnswersInParts, IsRounded, Ratio, RatioError}
+use Rattle.ratio64.proofs.Common.{◌≡◌, ◌<◌, ◌≤◌, ◌*◌, ◌<ℤ◌, ◌≤ℤ◌, ◌-ℤ◌, ◌*ℤ◌, ℕ, ℤ, pos, neg_ℤ, unsigned_abs, Result, arith, ap, sym, ◌∙◌, by_lt_z, unsigned_abs-mul, ceiled_by_range, ceiled_remainder_range, comm, expand, floored_by_range, floored_remainder_range, from_not_less, linear, multiples_apart, product_from_zero, products, sizes, IsCeiled, IsFloored, IsQuotient, AreEqual, IsExact, AreEqual-sym, AnswersInParts, IsRounded, Ratio, RatioError}
 
 -- Both fractions times the same number are equal.
 pub equal_times : {a b c d : ℤ} (k : ℤ) → AreEqual a b c d → AreEqual (a *ℤ k) b (c *ℤ k) d
@@ -50,15 +50,10 @@ equal_ceiled {a} {b} {c} {d} {q} b_up d_up equal h =
 -- ---- the nearest integer
 
 natural_order : (b d p q r s : ℕ) → 0 < b → p * d ≡ q * b → r * d ≡ s * b → p ≤ r → q ≤ s
-natural_order b d p q r s up first second most =
-    let times = mul-le-mul_left d most in
-    le_of_mul-le-mul_right {m = q} {n = s} {k = b} (omega arith) up
+natural_order b d p q r s up first second most = grind arith
 
 natural_strict_order : (b d p q r s : ℕ) → 0 < d → p * d ≡ q * b → r * d ≡ s * b → p < r → q < s
-natural_strict_order b d p q r s up first second less = elim (cases_lt q s) [
-  | inl fine ↦ fine
-  | inr over ↦ let back = natural_order d b s r q p up (sym second) (sym first) over in absurd (omega arith)
-]
+natural_strict_order b d p q r s up first second less = grind arith
 
 -- if s/b and t/d are equal and one is at most a half, or a half, so is the other
 half_at_most : (b d s t : ℕ) → 0 < b → s * d ≡ t * b → 2 * s ≤ b → 2 * t ≤ d

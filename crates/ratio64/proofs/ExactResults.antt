@@ -24,9 +24,7 @@ equal_parts g e f = record { cross = rw (e, f) (simp expand) }
 
 -- the quotient by a divisor is at most the number
 pub quotient_at_most : {n g : ℤ} → g ≢ pos 0 → Divides g n → unsigned_abs (int_div n g) ≤ unsigned_abs n
-quotient_at_most {n} {g} nonzero h =
-    let size = ap unsigned_abs (exact_quotient nonzero h) ∙ unsigned_abs-mul g (int_div n g) in
-    omega (arith, le-mul_of_pos_right {m = unsigned_abs g} (unsigned_abs (int_div n g)) (omega (arith, sizes)))
+quotient_at_most {n} {g} nonzero h = grind arith
 
 -- for `grind`: the gcd of both parts and the quotients by it are no larger than the parts
 pub ruleset quotient_steps = (le_refl, divisor_size, gcd-nonzero, positive_is_nonzero, quotient_at_most)

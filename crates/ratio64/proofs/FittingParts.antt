@@ -1,8 +1,6 @@
 -- The size of an exact result, and which results are no errors.
-use Rattle.ratio64.proofs.Common.{◌≡◌, ◌≢◌, ◌⊎◌, ◌<◌, ◌≤◌, ◌^◌, ◌<ℤ◌, ◌≤ℤ◌, ◌*ℤ◌, ℤ, pos, negsuc, neg_ℤ, unsigned_abs, Result, Ok, Err, FitsSigned, IfErr, w64, w128, arith, inl, inr, of_z, refl, to_z, ◌∙◌, le-mul_of_pos_right, by_lt_z, ints, fits_signed_from_abs, to_z-of_z, unsigned_abs-mul, cancel, comm, expand, factor_positive, linear, products, sizes, zero_or_not, IsExact, IsOutsideI64, AnswersFraction, AreEqual-sym, denominator_divides, positive_is_nonzero, Ratio, RatioError}
-use Rattle.ratio64.proofs.FractionAnswers.{err_is_outside}
+use Rattle.ratio64.proofs.Common.{◌≡◌, ◌≢◌, ◌⊎◌, ◌<◌, ◌≤◌, ◌^◌, ◌<ℤ◌, ◌≤ℤ◌, ◌*ℤ◌, ℤ, pos, neg_ℤ, unsigned_abs, Result, Ok, Err, FitsSigned, IfErr, w64, arith, inl, inr, ◌∙◌, le-mul_of_pos_right, fits_signed_from_abs, unsigned_abs-mul, cancel, comm, expand, factor_positive, linear, products, sizes, IsExact, IsOutsideI64, AnswersFraction, AreEqual-sym, denominator_divides, positive_is_nonzero, Ratio, RatioError}
 use Rattle.ratio64.proofs.NearestNumbers.{quotient_fits}
-use Rattle.ratio64.proofs.WideSums.{positive_size, read}
 
 -- both parts of a fraction are those of its exact result times one number
 pub common_factor : {a b n d : ℤ} → IsExact a b n d → (s : ℤ) × (a ≡ n *ℤ s) × (b ≡ d *ℤ s)
@@ -40,46 +38,12 @@ positive_denominator_inside {a} {b} a_fits b_fits up far =
 
 pub positive_is_answered : {a b : ℤ} (r : Result Ratio RatioError) → FitsSigned w64 a → FitsSigned w64 b → AnswersFraction a b r → IfErr r (λ _. b ≤ℤ pos 0)
 positive_is_answered (Ok x) a_fits b_fits h = tt
-positive_is_answered {b = b} (Err e) a_fits b_fits h = by_lt_z (pos 0) b
-    (λ up. absurd (positive_denominator_inside a_fits b_fits up (err_is_outside e (positive_is_nonzero up) h)))
-    (λ fine. fine)
-
--- a number that fits is MIN, or its negation fits too
-small_or_least : (z : ℤ) → FitsSigned w64 z → (unsigned_abs z < 2 ^ 63) ⊎ (z ≡ neg_ℤ (pos (2 ^ 63)))
-small_or_least (pos n) fits = inl (let low = fits.sfits in omega arith)
-small_or_least (negsuc n) fits = let low = fits.sfits in grind (arith, ints)
+positive_is_answered {b = b} (Err e) a_fits b_fits h = grind (arith, positive_denominator_inside)
 
 -- ---- parts of 128 bits, and of 64 bits
-
--- a narrowed number is the number itself
-pub narrowed_value : {n m : ℤ} → unsigned_abs m < 2 ^ 127 → FitsSigned w64 (to_z w128 (of_z w128 m)) × (n ≡ to_z w128 (of_z w128 m)) → (to_z w64 (of_z w64 n) ≡ m) × FitsSigned w64 n
-narrowed_value {n} {m} below (fits, is) =
-    let same : n ≡ m = is ∙ read m below in
-    let own : FitsSigned w64 m = rw (read m below) at fits in
-    (rw same (to_z-of_z w64 m own), rw same own)
-
--- if it is not MIN, each number of at most its magnitude fits
-pub smaller_fits : {n : ℤ} → FitsSigned w64 n → ¬ (of_z w64 n ≡ 2 ^ 63) → (z : ℤ) → unsigned_abs z ≤ unsigned_abs (to_z w64 (of_z w64 n)) → FitsSigned w64 z
-smaller_fits {n} fits other z most =
-    let size = rw (to_z-of_z w64 n fits) at most in
-    elim (small_or_least n fits) [
-      | inl small ↦ fits_signed_from_abs w64 z (omega arith)
-      | inr least ↦ absurd (other (rw least refl))
-    ]
-
-pub smaller_fits_wide : (n : ℤ) → unsigned_abs n < 2 ^ 127 → (z : ℤ) → unsigned_abs z ≤ unsigned_abs (to_z w128 (of_z w128 n)) → FitsSigned w128 z
-smaller_fits_wide n below z most =
-    let size = rw (read n below) at most in
-    fits_signed_from_abs w128 z (omega arith)
 
 -- a positive numerator gives an error only over 0 and MIN
 pub positive_over_other : {a b : ℤ} (r : Result Ratio RatioError) → FitsSigned w64 a → FitsSigned w64 b → pos 0 <ℤ a → AnswersFraction a b r
     → IfErr r (λ _. (b ≡ pos 0) ⊎ (b ≡ neg_ℤ (pos (2 ^ 63))))
 positive_over_other (Ok x) a_fits b_fits up h = tt
-positive_over_other {a} {b} (Err e) a_fits b_fits up h = elim (zero_or_not b) [
-  | inl none ↦ inl none
-  | inr nonzero ↦ inr (elim (small_or_least b b_fits) [
-    | inl small ↦ absurd (small_parts_inside (positive_size a a_fits up).1 small (err_is_outside e nonzero h))
-    | inr least ↦ least
-  ])
-]
+positive_over_other {a} {b} (Err e) a_fits b_fits up h = grind (arith, small_parts_inside)

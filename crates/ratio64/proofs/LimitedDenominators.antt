@@ -1,7 +1,6 @@
 -- An integer and the nearer neighbour of the rest.
-use Rattle.ratio64.proofs.Common.{◌≡◌, ◌<◌, ◌≤◌, ◌+◌, ◌*◌, ◌≤ℤ◌, ◌+ℤ◌, ◌-ℤ◌, ◌*ℤ◌, ℤ, ℕ, pos, negsuc, neg_ℤ, zero, suc, unsigned_abs, FitsSigned, w64, arith, ap, inl, inr, le-mul_of_pos_right, le_of_mul-le-mul_right, mul-le-mul_left, refl, by_lt_z, ints, expand, floored_remainder_range, linear, neg-mul, product_from_zero, products, sizes, IsFloored, Neighbour, IsReduced, IsNearestWithin, gap, AreNeighbours, IsNearer}
+use Rattle.ratio64.proofs.Common.{◌≡◌, ◌<◌, ◌≤◌, ◌+◌, ◌*◌, ◌≤ℤ◌, ◌+ℤ◌, ◌-ℤ◌, ◌*ℤ◌, ℤ, ℕ, pos, negsuc, neg_ℤ, zero, suc, unsigned_abs, FitsSigned, w64, arith, ap, inl, inr, le-mul_of_pos_right, le_of_mul-le-mul_right, mul-le-mul_left, refl, ints, expand, linear, neg-mul, products, sizes, IsFloored, Neighbour, IsReduced, IsNearestWithin, gap, AreNeighbours, IsNearer}
 use Rattle.ratio64.proofs.NearerNeighbour.{equal_least, nearest_of}
-use Rattle.ratio64.proofs.NearestNumbers.{between_fits}
 use Rattle.ratio64.proofs.NeighbourIterations.{gaps_make}
 use Rattle.ratio64.proofs.ReducedParts.{remainder_reduced}
 
@@ -36,7 +35,6 @@ pub record IsSplit (m bottom w : ℤ) (n d : ℕ) : Type 0 where
 
 pub floor_splits : {m bottom w r : ℤ} {n d : ℕ} → IsReduced m bottom → IsFloored m bottom w r → n ≡ unsigned_abs r → d ≡ unsigned_abs bottom → IsSplit m bottom w n d
 floor_splits {m} {bottom} {w} {r} {n} {d} x h n_is d_is =
-    let range = floored_remainder_range x.positive (record { quotient = w; division = h }) in
     let part : pos n ≡ r = omega (arith, sizes) in
     let den : pos d ≡ bottom = omega (arith, sizes) in
     record {
@@ -72,15 +70,7 @@ pub record IsPartOf (n d a b : ℕ) : Type 0 where
 
 -- a sum of an integer and such a part lies between 0 and the sum of the integer and n/d
 part_fits : {n d a b : ℕ} (w m : ℤ) → m ≡ w *ℤ pos d +ℤ pos n → IsPartOf n d a b → FitsSigned w64 m → FitsSigned w64 (w *ℤ pos b +ℤ pos a)
-part_fits {n} {d} {a} {b} w m e part fits = between_fits w64 m _ fits (by_lt_z w (pos 0)
-    (λ down.
-    let own = simp expand at (product_from_zero (neg_ℤ w -ℤ pos 1) (pos b) (omega (arith, linear)) (omega (arith, ints))) in
-    let left = simp expand at (product_from_zero (neg_ℤ w -ℤ pos 1) (pos d -ℤ pos b) (omega (arith, linear)) (omega (arith, ints))) in
-    inr (omega (arith, products), omega (arith, products)))
-    (λ over.
-    let own = product_from_zero w (pos b) over (omega (arith, ints)) in
-    let left = simp expand at (product_from_zero w (pos d -ℤ pos b) over (omega (arith, ints))) in
-    inl (omega (arith, products), omega (arith, products))))
+part_fits {n} {d} {a} {b} w m e part fits = grind arith
 
 -- ---- the nearer neighbour
 
@@ -91,8 +81,6 @@ more (suc h) a b up most = omega (arith, mul-le-mul_left h most)
 parts : {n d max : ℕ} {x y : Neighbour} → AreNeighbours n d max x y → IsPartOf n d x.num x.den × IsPartOf n d y.num y.den
 parts {n} {d} {max} {x} {y} h =
     let made = gaps_make h in
-    let left = mul-le-mul_left x.gap h.nums.1 in
-    let right = mul-le-mul_left y.gap h.nums.0 in
     omega (
       arith,
       made.0,

@@ -37,9 +37,7 @@ lies_past x u v =
 -- ---- the distance past the nearer one and past the other one
 
 past_size : (z i : ℤ) (d v b g : ℕ) → z *ℤ pos b ≡ pos g *ℤ pos v +ℤ pos d *ℤ i → pos 0 ≤ℤ i → unsigned_abs z * b ≡ g * v + d * unsigned_abs i
-past_size z i d v b g e up =
-    let is : i ≡ pos (unsigned_abs i) = omega (arith, sizes) in
-    sym (unsigned_abs-mul z (pos b)) ∙ ap unsigned_abs (rw is at e)
+past_size z i d v b g e up = grind arith
 
 pub positive_by_product : (m n : ℕ) → 0 < m * n → 0 < n
 positive_by_product m zero up = absurd (omega arith)

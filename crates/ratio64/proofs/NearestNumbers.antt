@@ -1,5 +1,5 @@
 -- Quotients by a positive number, and the nearest integer.
-use Rattle.ratio64.proofs.Common.{◌≡◌, ◌⊎◌, ◌<◌, ◌≤◌, ◌*◌, ◌^◌, ◌<ℤ◌, ◌≤ℤ◌, ◌+ℤ◌, ◌-ℤ◌, ◌*ℤ◌, ℤ, pos, negsuc, neg_ℤ, unsigned_abs, FitsSigned, MatchOption, Option, Some, None, Width, w64, w128, of_z, to_z, fits_signed_from_abs, to_z-of_z, ap, arith, inl, inr, subst, sym, by_lt_z, ints, LiesWithin, expand, floored_range, linear, multiples_apart, product_from_zero, products, sizes, zero_or_not, division_exists, AnswersWhere, IsDivision, IsFloored, IsQuotient, IsTruncated, IsEven, IsOnly, EachFits, IsRange, within_fits, RoundedEvenIsOnly, RoundedIsOnly, IsRounded, IsRoundedEven}
+use Rattle.ratio64.proofs.Common.{◌≡◌, ◌⊎◌, ◌<◌, ◌≤◌, ◌*◌, ◌^◌, ◌<ℤ◌, ◌≤ℤ◌, ◌+ℤ◌, ◌-ℤ◌, ◌*ℤ◌, ℤ, pos, negsuc, neg_ℤ, unsigned_abs, FitsSigned, MatchOption, Option, Width, w64, w128, of_z, to_z, ap, arith, inl, inr, by_lt_z, ints, LiesWithin, expand, linear, multiples_apart, product_from_zero, products, sizes, zero_or_not, division_exists, AnswersWhere, IsDivision, IsFloored, IsQuotient, IsTruncated, IsEven, IsOnly, EachFits, IsRange, within_fits, RoundedEvenIsOnly, RoundedIsOnly, IsRounded, IsRoundedEven}
 
 -- ---- a quotient by a positive number fits if the dividend does
 
@@ -13,8 +13,6 @@ between_fits w (negsuc n) (negsuc z) fits within = let low = fits.sfits in recor
 module _ {n d q r : ℤ} (up : pos 0 <ℤ d) (h : IsDivision n d q r) where
   quotient_within : LiesWithin n q
   quotient_within =
-      let small = h.small in
-      let zero : pos 0 *ℤ d ≡ pos 0 = omega (arith, products) in
       by_lt_z n (pos 0)
       (λ down.
       let most = simp expand at (product_from_zero (neg_ℤ n) (d -ℤ pos 1) (omega (arith, linear)) (omega (arith, linear))) in
@@ -43,25 +41,16 @@ rounded_division {n} {d} {r} up h = let near = h.nearest in record { equation = 
 
 -- if half or more is left, it is the next integer away from 0
 pub rounded_above : {n d q r : ℤ} → pos 0 <ℤ d → IsTruncated n d q r → pos 0 ≤ℤ n → d ≤ℤ (r +ℤ r) → IsRounded n d (q +ℤ pos 1)
-rounded_above {n} {d} {q} {r} up h n_up large =
-    let product : (q +ℤ pos 1) *ℤ d ≡ q *ℤ d +ℤ d = simp expand (omega (arith, products)) in
-    record { nearest = rw product (omega (arith, sizes)); tie = rw product (λ e. omega (arith, sizes)) }
+rounded_above {n} {d} {q} {r} up h n_up large = grind (arith, expand, sizes)
 
 pub rounded_below : {n d q r : ℤ} → pos 0 <ℤ d → IsTruncated n d q r → n <ℤ pos 0 → (r +ℤ r +ℤ d) ≤ℤ pos 0 → IsRounded n d (q -ℤ pos 1)
-rounded_below {n} {d} {q} {r} up h n_down large =
-    let product : (q -ℤ pos 1) *ℤ d ≡ q *ℤ d -ℤ d = simp expand (omega (arith, products)) in
-    record { nearest = rw product (omega (arith, sizes)); tie = rw product (λ e. omega (arith, sizes)) }
+rounded_below {n} {d} {q} {r} up h n_down large = grind (arith, expand, products, sizes)
 
 -- and only one number is it
 rounded_apart : {n d r s : ℤ} → pos 0 <ℤ d → IsRounded n d r → IsRounded n d s → ¬ (r <ℤ s)
 rounded_apart {n} {d} {r} {s} up x y less =
     let apart = multiples_apart r s d up less in
-    let halves : (2 * unsigned_abs (n -ℤ r *ℤ d) ≡ unsigned_abs d) × (2 * unsigned_abs (n -ℤ s *ℤ d) ≡ unsigned_abs d) = (omega (arith, sizes), omega (arith, sizes)) in
-    let first = x.tie halves.0 in
-    let second = y.tie halves.1 in
-    by_lt_z r (pos 0)
-    (λ below. let low = multiples_apart r (pos 0) d up below in let none : pos 0 *ℤ d ≡ pos 0 = omega (arith, products) in omega (arith, sizes))
-    (λ above. let high = product_from_zero r d above (omega (arith, linear)) in omega (arith, sizes))
+    grind (arith, sizes)
 
 pub only_rounded : RoundedIsOnly
 only_rounded n d r up x s y = let least = rounded_apart up x y in let most = rounded_apart up y x in grind (arith, linear)
@@ -84,26 +73,15 @@ even_or_next q odd =
 
 -- the quotient rounded down, if less than half is left, or half and it is even
 pub rounded_even_below : {n d q r : ℤ} → pos 0 <ℤ d → IsFloored n d q r → ((r +ℤ r) <ℤ d) ⊎ ((r +ℤ r ≡ d) × IsEven q) → IsRoundedEven n d q
-rounded_even_below {n} {d} {q} {r} up h (inl less) =
-    let rest : n -ℤ q *ℤ d ≡ r = omega (arith, linear, h.division.equation) in
-    let range = floored_range up h in
-    record { nearest = rw rest (omega (arith, sizes)); tie = rw rest (λ e. absurd (omega (arith, sizes))) }
-rounded_even_below {n} {d} {q} {r} up h (inr (half, even)) =
-    let rest : n -ℤ q *ℤ d ≡ r = omega (arith, linear, h.division.equation) in
-    record { nearest = rw rest (omega (arith, sizes)); tie = λ _. even }
+rounded_even_below {n} {d} {q} {r} up h (inl less) = grind (arith, linear)
+rounded_even_below {n} {d} {q} {r} up h (inr (half, even)) = grind arith
 
 -- otherwise the next one
 pub rounded_even_above : {n d q r : ℤ} → pos 0 <ℤ d → IsFloored n d q r → d ≤ℤ (r +ℤ r) → (r +ℤ r ≡ d → ¬ (IsEven q)) → IsRoundedEven n d (q +ℤ pos 1)
-rounded_even_above {n} {d} {q} {r} up h large odd =
-    let product : (q +ℤ pos 1) *ℤ d ≡ q *ℤ d +ℤ d = simp expand (omega (arith, products)) in
-    let rest : n -ℤ (q +ℤ pos 1) *ℤ d ≡ r -ℤ d = omega (arith, linear, h.division.equation, product) in
-    let range = floored_range up h in
-    record { nearest = rw rest (omega (arith, sizes)); tie = rw rest (λ e. even_or_next q (odd (omega (arith, sizes)))) }
+rounded_even_above {n} {d} {q} {r} up h large odd = grind (arith, products, sizes, even_or_next)
 
 rounded_even_apart : {n d r s : ℤ} → pos 0 <ℤ d → IsRoundedEven n d r → IsRoundedEven n d s → ¬ (r <ℤ s)
 rounded_even_apart {n} {d} {r} {s} up x y less =
-    let near = x.nearest in
-    let other_near = y.nearest in
     let apart = multiples_apart r s d up less in
     let halves : (2 * unsigned_abs (n -ℤ r *ℤ d) ≡ unsigned_abs d) × (2 * unsigned_abs (n -ℤ s *ℤ d) ≡ unsigned_abs d) = (omega (arith, sizes), omega (arith, sizes)) in
     let next : s ≡ r +ℤ pos 1 = by_lt_z (r +ℤ pos 1) s
@@ -116,12 +94,6 @@ only_rounded_even n d r up x s y = let least = rounded_even_apart up x y in let 
 
 -- ---- an integer that is narrowed to 64 bits
 
--- the result of the only number with a property
-pub narrowed_answer : {P : ℤ → Type 0} {z : ℤ} (r : Option ℤ) → P z → IsOnly P z → MatchOption r (¬ (FitsSigned w64 z)) (λ q. FitsSigned w64 z × (q ≡ z))
-    → AnswersWhere (EachFits (FitsSigned w64) P) P r
-narrowed_answer None own only none = λ each. none (each _ own)
-narrowed_answer (Some q) own only is = (λ y h. subst (FitsSigned w64) (sym (only y h)) is.0, rw is.1 own)
-
 -- a kind of division has one quotient
 pub quotient_is_only : {Kind : ℤ → ℤ → ℤ → ℤ → Type 0} {n d q : ℤ} → ((n d q r : ℤ) → Kind n d q r → IsOnly (λ (p, s). Kind n d p s) (q, r)) → IsQuotient Kind n d q → IsOnly (IsQuotient Kind n d) q
 quotient_is_only only h p k = ap (λ (t : ℤ × ℤ). t.0) (only _ _ _ _ h.division (p, k.remainder) k.division)
@@ -129,6 +101,4 @@ quotient_is_only only h p k = ap (λ (t : ℤ × ℤ). t.0) (only _ _ _ _ h.divi
 -- of a number that is rounded of a product with n, both read from their bits
 pub narrowed_times : (P : ℤ → ℤ → Type 0) {n z : ℤ} (r : Option ℤ) → FitsSigned w64 n → P (to_z w64 (of_z w64 n)) z → unsigned_abs z < 2 ^ 127 → (P n z → IsOnly (P n) z)
     → MatchOption r (¬ (FitsSigned w64 (to_z w128 (of_z w128 z)))) (λ q. FitsSigned w64 (to_z w128 (of_z w128 z)) × (q ≡ to_z w128 (of_z w128 z))) → AnswersWhere (EachFits (FitsSigned w64) (P n)) (P n) r
-narrowed_times P {n} {z} r n_fits own below only is =
-    let at_n : P n z = subst (λ (t : ℤ). P t z) (to_z-of_z w64 n n_fits) own in
-    narrowed_answer r at_n (only at_n) (rw (to_z-of_z w128 z (fits_signed_from_abs w128 z below)) at is)
+narrowed_times P {n} {z} r n_fits own below only is = grind arith

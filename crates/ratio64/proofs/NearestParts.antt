@@ -84,12 +84,7 @@ module _ {n d max num u den : ℤ} (x : AreNearestParts n d max num den) (y : Ar
 -- ---- a fraction below 1: the limit on the denominators decides
 
 pub parts_of_nearest : {n d max a b : ℕ} → a ≤ b → IsNearestWithin (pos n) (pos d) (pos max) (pos a) (pos b) → AreNearestParts (pos n) (pos d) (pos max) (pos a) (pos b)
-parts_of_nearest {n} {d} {max} {a} {b} proper x = record {
-  positive = x.positive;
-  bounded = (x.bounded, omega (arith, ints, x.bounded));
-  nearest = λ u v up v_most u_most. x.nearest u v up v_most;
-  tie = λ u v up v_most u_most same. let least = x.tie u v up v_most same in (least.0, λ one. omega (arith, sizes, least.1 one));
-}
+parts_of_nearest {n} {d} {max} {a} {b} proper x = grind arith
 
 -- ---- a fraction above 1: the limit on the numerators does
 

@@ -1,12 +1,5 @@
 -- The iterations of the loop that finds the neighbours of a fraction.
-use Rattle.ratio64.proofs.Common.{◌≡◌, ◌≢◌, ◌+◌, ◌-◌, ◌*◌, ◌/◌, ◌<◌, ◌≤◌, ℕ, min, arith, ap, mul-le-mul_left, le-div, mul-lt, Neighbour, AreNeighbours, IsCloser}
-
--- if no equal fraction has a smaller denominator, 0/1 and 1/1 are neighbours
-pub first_neighbours : {n d max : ℕ} → 0 < max → max < d → n < d → ((a b : ℕ) → 0 < b → n * b ≡ a * d → d ≤ b)
-    → AreNeighbours n d max (record { num = 0; den = 1; gap = n }) (record { num = 1; den = 1; gap = d - n })
-first_neighbours {n} {d} {max} up above proper lowest =
-    let nonzero : n ≢ 0 = λ e. let small = lowest 0 1 (omega arith) (omega arith) in absurd (omega arith) in
-    omega arith
+use Rattle.ratio64.proofs.Common.{◌≡◌, ◌≢◌, ◌+◌, ◌-◌, ◌*◌, ◌/◌, ◌<◌, ◌≤◌, ℕ, min, arith, ap, mul-le-mul_left, le-div, Neighbour, AreNeighbours, IsCloser}
 
 -- ---- the steps of one neighbour toward the other
 
@@ -38,10 +31,6 @@ below_closer {n} {d} {max} {x} {y} {z} h s =
     let above = ap (λ (t : ℕ). s.steps * t) h.from_above in
     let nums = mul-le-mul_left s.steps h.nums.1 in
     omega (arith, ap (λ (t : ℕ). t * d) s.num, ap (λ (t : ℕ). n * t) s.den, ap (λ (t : ℕ). t * y.den) s.num, ap (λ (t : ℕ). y.num * t) s.den)
-
--- its gap falls
-pub gap_falls : {max : ℕ} {x y z : Neighbour} → IsCloser max y x z → 0 < x.gap → z.gap < y.gap
-gap_falls {max} {x} {y} {z} s up = omega (arith, s.gap, mul-lt 0 0 s.steps x.gap s.some up)
 
 -- equal gaps would make a fraction equal to n/d of a denominator up to the limit
 pub gaps_differ : {n d max : ℕ} {x y : Neighbour} → AreNeighbours n d max x y → max < d → ((a b : ℕ) → 0 < b → n * b ≡ a * d → d ≤ b)

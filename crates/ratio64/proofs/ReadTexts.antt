@@ -1,10 +1,9 @@
 -- The strings of fractions, cut at the slash, and what they are read as.
-use Rattle.ratio64.proofs.Common.{◌≡◌, ◌≢◌, ◌⊎◌, ◌↔◌, ◌++◌, ◌∷◌, [], ◌<◌, ◌==◌, ℕ, suc, zero, List, codes, length, ℤ, Option, Some, None, Result, Err, FitsSigned, IsTrue, true, false, pos, negsuc, unwrap_or, ◌^◌, Ok, unsigned_abs, is_ascii_digit, list_all, AllDigits, IsNumeral, digits_value, starts_with_minus, decimal, signed_decimal, w64, int_eq, Bor, ap, append_assoc, arith, get_or, inl, inr, refl, sym, rules, subst, ◌∙◌, cases_Bool, Decides-int_eq, nat_tests, decimal_is_IsNumeral, get_or_at, length-append, IsNumeralModel, numerals_by_value, not_in_digits, IsSplitOnceResult, split_after, split_parts, ne_eqb, linear, ReadingIsOnly, TextIsReadBack, AnswersFraction, den_of, num_of, text_of, AnswersSpelled, HasLongPart, ReadsFraction, SpellsFraction, SpellsWhole, answer_read, unsigned_part, whole_of, RatioError, Ratio, ParseRatioError, NotAFraction, TooLong}
+use Rattle.ratio64.proofs.Common.{◌≡◌, ◌≢◌, ◌⊎◌, ◌↔◌, ◌++◌, ◌∷◌, [], ◌<◌, ℕ, suc, List, codes, length, ℤ, Option, Some, None, Result, Err, FitsSigned, IsTrue, true, false, pos, negsuc, unwrap_or, ◌^◌, Ok, unsigned_abs, is_ascii_digit, list_all, AllDigits, IsNumeral, digits_value, starts_with_minus, decimal, signed_decimal, w64, int_eq, Bor, ap, append_assoc, arith, get_or, inl, inr, refl, sym, rules, subst, ◌∙◌, cases_Bool, Decides-int_eq, decimal_is_IsNumeral, get_or_at, length-append, IsNumeralModel, numerals_by_value, not_in_digits, IsSplitOnceResult, split_after, split_parts, linear, ReadingIsOnly, TextIsReadBack, den_of, num_of, text_of, AnswersSpelled, HasLongPart, ReadsFraction, SpellsFraction, SpellsWhole, answer_read, unsigned_part, whole_of, Ratio, ParseRatioError, NotAFraction, TooLong}
 use Rattle.ratio64.specs.declared.parse.ParseRatioError.TheVariants.{ZeroDenominator, NotFitting}
 use Rattle.ratio64.proofs.ExactResults.{reduced_is_exact}
 use Rattle.ratio64.proofs.FractionAnswers.{exact_answer, only_answer, only_of_parts}
 use Rattle.ratio64.proofs.WideSums.{part_size}
-use Rattle.ratio64.specs.declared.error.RatioError.TheVariants as refused
 
 -- ---- digits
 
@@ -19,16 +18,9 @@ tells_numeral ds some = (λ t. (some, decimal_model.to ds t), λ h. decimal_mode
 no_slash_in : (ds : List ℕ) → AllDigits 10 ds → (i : ℕ) → i < length ds → get_or ds i 0 ≢ 47
 no_slash_in ds h = not_in_digits decimal_model ds 47 (decimal_model.from ds h) (λ w. omega arith)
 
-no_slash_after_minus : (c : ℕ) (cs : List ℕ) → c ≡ 45 → AllDigits 10 cs → (i : ℕ) → i < length (c ∷ cs) → get_or (c ∷ cs) i 0 ≢ 47
-no_slash_after_minus c cs minus h zero inside = omega arith
-no_slash_after_minus c cs minus h (suc i) inside = no_slash_in cs h i (omega arith)
-
 no_slash : (text : List ℕ) → IsNumeral 10 (unsigned_part text) → (i : ℕ) → i < length text → get_or text i 0 ≢ 47
 no_slash [] h i inside = absurd (omega arith)
-no_slash (c ∷ cs) h i inside = elim (cases_Bool (c == 45)) [
-  | inl minus ↦ let digits = rw minus at h in no_slash_after_minus c cs (grind (arith, nat_tests)) digits.1 i inside
-  | inr plain ↦ let digits = rw plain at h in no_slash_in (c ∷ cs) digits.1 i inside
-]
+no_slash (c ∷ cs) h i inside = grind (arith, no_slash_in)
 
 -- ---- the cut at the first slash
 
@@ -74,11 +66,6 @@ split_cuts t one r same is_one is h = rw is (record { parts = cut t one same is_
 pub short_parts : (a b : ℤ) → unsigned_abs a < 10 ^ 38 → unsigned_abs b < 10 ^ 38 → ¬ (HasLongPart a b)
 short_parts a b left right h = omega arith
 
-never_long : (r : Result Ratio RatioError) → answer_read r ≢ Err TooLong
-never_long (Ok x) e = cc
-never_long (Err refused.ZeroDenominator) e = cc
-never_long (Err refused.NotFitting) e = cc
-
 -- no fraction, if a part is no integer
 pub other_text : {text num den : List ℕ} → AreCut text num den → ¬ (IsNumeral 10 (unsigned_part num) × IsNumeral 10 (unsigned_part den)) → ReadsFraction text (Err NotAFraction)
 other_text {text} {num} {den} cuts unspelled =
@@ -106,19 +93,10 @@ spelled_text {num = num} {den = den} {result = result} cuts left right answer sp
       rw (s.num_spelled.value, s.den_spelled.value, ← same.0, ← same.1) answer;
 }
 
--- integers of at most 38 digits, by the result of their fraction
-pub spelled_fraction : {a b : ℤ} {result : Result Ratio ParseRatioError} (r : Result Ratio RatioError) → unsigned_abs a < 10 ^ 38 → unsigned_abs b < 10 ^ 38 → AnswersFraction a b r → result ≡ answer_read r → AnswersSpelled a b result
-spelled_fraction {a} {b} r left right h is = record {
-  too_long = (λ e. absurd (never_long r (sym is ∙ e)), λ long. absurd (short_parts a b left right long));
-  answer = λ short. (r, is, h);
-}
-
 -- ---- what is printed
 
 pub numeral_without_minus : (ds : List ℕ) → IsNumeral 10 ds → starts_with_minus ds ≡ false
-numeral_without_minus ds h =
-    let first : get_or ds 0 0 ≢ 45 = not_in_digits decimal_model ds 45 (decimal_model.from ds h.1) (λ w. omega arith) 0 h.0 in
-    ne_eqb _ 45 first
+numeral_without_minus ds h = grind (arith, not_in_digits, decimal_model)
 
 no_minus : (n : ℕ) → n < 2 ^ 64 → starts_with_minus (decimal n) ≡ false
 no_minus n small = numeral_without_minus (decimal n) (decimal_is_IsNumeral n small).0

@@ -1,5 +1,5 @@
 -- The strings of decimal numbers: what they spell.
-use Rattle.ratio64.proofs.Common.{⊤, ◌≡◌, ◌≢◌, ◌+◌, ◌/◌, ◌%◌, ◌^◌, ◌<◌, ◌++◌, ◌==◌, ℕ, zero, suc, ℤ, pos, negsuc, List, [], ◌∷◌, false, true, length, unsigned_abs, digit_value, decimal, sign_text, is_negative, AllDigits, IsNumeral, digits_value, append_assoc, arith, ap, inl, inr, refl, subst, sym, ◌∙◌, cases_Bool, nat_tests, decimal_is_IsNumeral_wide, ints, digits_value_push, append-nil, length-append, digit_value_digit, digit_from_value, div-div-eq-div-mul, div-le_self, pow-succ', SpellsDecimal, places_of, units_of, DecimalIsSpelled, SpelledDecimalIsOnly, SpellsWhole, unsigned_part}
+use Rattle.ratio64.proofs.Common.{⊤, ◌≡◌, ◌≢◌, ◌+◌, ◌/◌, ◌%◌, ◌^◌, ◌<◌, ◌++◌, ◌==◌, ℕ, zero, suc, ℤ, pos, negsuc, List, [], ◌∷◌, false, true, length, unsigned_abs, digit_value, decimal, sign_text, is_negative, AllDigits, IsNumeral, digits_value, append_assoc, arith, ap, inl, inr, refl, subst, sym, ◌∙◌, cases_Bool, decimal_is_IsNumeral_wide, digits_value_push, append-nil, length-append, digit_value_digit, digit_from_value, div-div-eq-div-mul, div-le_self, pow-succ', SpellsDecimal, places_of, units_of, DecimalIsSpelled, SpelledDecimalIsOnly, SpellsWhole, unsigned_part}
 use Rattle.ratio64.specs.Decimal.{last_digits}
 use Rattle.ratio64.proofs.ReadTexts.{numeral_without_minus}
 
@@ -33,20 +33,12 @@ in_pieces (suc k) n small =
 
 -- ---- a decimal number is spelled by its string
 
-plain_sign : (n : ℕ) → is_negative (pos n) ≡ false
-plain_sign n = grind (arith, ints)
-
 whole_numeral : (units : ℤ) (m : ℕ) → m < 10 ^ 64 → IsNumeral 10 (unsigned_part (sign_text (is_negative units) ++ decimal m))
-whole_numeral (pos n) m small =
-    let h = (decimal_is_IsNumeral_wide m small).0 in
-    rw (plain_sign n, numeral_without_minus (decimal m) h) h
+whole_numeral (pos n) m small = grind (arith, decimal_is_IsNumeral_wide, numeral_without_minus)
 whole_numeral (negsuc n) m small = (decimal_is_IsNumeral_wide m small).0
 
 pieces_spelled : (units : ℤ) (k : ℕ) → unsigned_abs units < 10 ^ 64 → SpellsWhole (sign_text (is_negative units) ++ decimal (unsigned_abs units / 10 ^ k) ++ last_digits k (unsigned_abs units)) units
-pieces_spelled (pos n) k small =
-    let h = in_pieces k n small in
-    let plain = numeral_without_minus (decimal (n / 10 ^ k) ++ last_digits k n) h.0 in
-    rw (plain_sign n) (record { digits = rw plain h.0; value = rw plain (ap pos (sym h.1)) })
+pieces_spelled (pos n) k small = grind (arith, in_pieces, numeral_without_minus)
 pieces_spelled (negsuc n) k small =
     let h = in_pieces k (suc n) small in
     record { digits = h.0; value = rw h.1 refl }
@@ -79,13 +71,7 @@ digits_lack (c ∷ cs) h = (λ e. omega (arith, digit_from_value c h.0), digits_
 integer_lacks : (text : List ℕ) → IsNumeral 10 (unsigned_part text) → Lacks text
 unfolding Lacks
 integer_lacks [] h = tt
-integer_lacks (c ∷ cs) h = elim (cases_Bool (c == 45)) [
-  | inl minus ↦
-      let digits = rw minus at h in
-      let is : c ≡ 45 = grind (arith, nat_tests) in
-      (λ e. omega arith, digits_lack cs digits.1)
-  | inr plain ↦ let digits = rw plain at h in digits_lack (c ∷ cs) digits.1
-]
+integer_lacks (c ∷ cs) h = grind (arith, digits_lack)
 
 no_point : (w a : List ℕ) → ¬ (Lacks (w ++ (46 ∷ a)))
 unfolding Lacks
@@ -109,11 +95,7 @@ none_long (d ∷ ds) e = absurd (omega arith)
 
 module _ {text : List ℕ} {units : ℤ} {places : ℕ} (s : SpellsDecimal text units places) where
   alone : (places == 0) ≡ true → (text ≡ s.whole) × (s.part ≡ [])
-  alone none =
-      let zero_places : places ≡ 0 = grind (arith, nat_tests) in
-      let part = none_long s.part (s.part_places ∙ zero_places) in
-      let parts = rw (none, part) at s.parts in
-      (parts ∙ append-nil (s.whole ++ []) ∙ append-nil s.whole, part)
+  alone none = grind (arith, none_long, append-nil)
 
   pointed : (places == 0) ≡ false → text ≡ s.whole ++ (46 ∷ s.part)
   pointed some = rw some at s.parts ∙ append_assoc s.whole (46 ∷ []) s.part

@@ -34,10 +34,7 @@ pub product_below : (a b : ℤ) → FitsSigned w64 a → FitsSigned w64 b → un
 product_below a b a_fits b_fits = rw (unsigned_abs-mul a b) (omega (arith, mul-le-mul (part_size a a_fits) (part_size b b_fits)))
 
 pub product_by_positive : (a b : ℤ) → FitsSigned w64 a → FitsSigned w64 b → pos 0 <ℤ b → unsigned_abs (a *ℤ b) < 2 ^ 126
-product_by_positive a b a_fits b_fits up =
-    let below = (positive_size b b_fits up).1 in
-    let small : unsigned_abs b ≤ 2 ^ 63 - 1 = omega arith in
-    rw (unsigned_abs-mul a b) (omega (arith, mul-le-mul (part_size a a_fits) small))
+product_by_positive a b a_fits b_fits up = grind (arith, positive_size, unsigned_abs-mul)
 
 -- the product of two parts, as `i128` computes it
 pub wide_product : {a b x y : ℤ} → FitsSigned w64 a → FitsSigned w64 b → x ≡ to_z w64 (of_z w64 a) → y ≡ to_z w64 (of_z w64 b)

@@ -1,5 +1,4 @@
-use Rattle.applied.proofs.Common.{from_test}
-use Rattle.applied.proofs.FallingFactorials.{fewer_left, next_factor_fits, next_product_fits, product_first, product_last, product_next}
+use Rattle.applied.proofs.FallingFactorials.{next_factor_fits, next_product_fits, product_first, product_next}
 use Rattle.applied.proofs.counting.product_above.Goals as goal
 
 pub loop-high-init : goal.loop-high-init
@@ -19,12 +18,3 @@ loop-high-preserved g c =
     let next = c.successor-factor.ensures in
     let times = c.product_or-ways.ensures in
     rw (times.value, next.value) (product_next c.loop-high.invariant c.requires.from_zero (c.is_below.ensures.0 c.loop-high-test.true) (rw next.value at next.in_range) (rw (times.value, next.value) at times.in_range))
-
-pub loop-high-smaller : goal.loop-high-smaller
-loop-high-smaller g c = fewer_left c.loop-high.invariant c.requires.from_zero (c.is_below.ensures.0 c.loop-high-test.true) c.successor-factor.ensures.value
-
-pub returns : goal.returns
-returns g c = record {
-  in_range = c.loop-high.invariant.product_in_range;
-  product = product_last c.loop-high.invariant c.requires.from_zero (from_test c.is_below.ensures c.loop-high-test.false);
-}

@@ -11,14 +11,6 @@ ascending value xs up i j d le lt =
     (λ less. let is = int_cmp_is _ _ Less less in absurd cc)
     (λ fine. fine)
 
-pub loop-low-init : goal.loop-low-init
-loop-low-init g c = record {
-  ordered = omega (arith, ints);
-  within = omega (arith, ints);
-  below = λ k d from upto. absurd (omega (arith, upto));
-  from = λ k d from upto. absurd (omega (arith, from, upto));
-}
-
 pub loop-low-preserved-then-is_below : goal.loop-low-preserved-then-is_below
 loop-low-preserved-then-is_below g c =
     let middle = c.index-items-middle.is in

@@ -1,6 +1,6 @@
 use Rattle.std.specs.Prelude.{◌+ℤ◌}
 use Rattle.applied.proofs.Common.{from_test}
-use Rattle.applied.proofs.ItemRanges.{end_fits, item_after, item_answer, item_before, item_is_only, next_page_fits, own_item, page_fits, rest_fits}
+use Rattle.applied.proofs.ItemRanges.{end_fits, item_answer, item_before, item_is_only, next_page_fits, own_item, page_fits, rest_fits}
 use Rattle.applied.proofs.paging.item_at.Goals as goal
 
 pub successor-requires-clause-sum_fits : goal.successor-requires-clause-sum_fits
@@ -35,11 +35,3 @@ returns-in_ok-next_page-clause-place g c =
 
 pub returns-in_ok-next_page-clause-only : goal.returns-in_ok-next_page-clause-only
 returns-in_ok-next_page-clause-only g c = item_is_only g.T.Number.fits g.T.Number.value _ _ _ c.sum.result (returns-in_ok-next_page-clause-place g c)
-
-pub returns-in_ok-first-clause-place : goal.returns-in_ok-first-clause-place
-returns-in_ok-first-clause-place g c =
-    let value = g.T.Number.value in
-    item_answer g.T.Number.fits value (value c.args.page) (value c.args.place) (value c.args.page_size) {total = value c.in_ok-first.first +ℤ value c.args.place} c.sum-else-is_negative.result c.requires.place_from_zero c.requires.place_below (item_after (value c.args.page) (value c.args.place) (value c.args.page_size) c.in_ok-first.ensures.1.1) c.sum-else-is_negative.ensures
-
-pub returns-in_ok-first-clause-only : goal.returns-in_ok-first-clause-only
-returns-in_ok-first-clause-only g c = item_is_only g.T.Number.fits g.T.Number.value _ _ _ c.sum-else-is_negative.result (returns-in_ok-first-clause-place g c)

@@ -1,9 +1,6 @@
 use Rattle.applied.proofs.Common.{positive_quotient_fits}
-use Rattle.applied.proofs.ItemRanges.{only_part_range, part_fits, part_range, parts_positive, positive_is_other}
+use Rattle.applied.proofs.ItemRanges.{only_part_range, part_fits, part_range, parts_positive}
 use Rattle.applied.proofs.paging.range_of_part.Goals as goal
-
-pub div_mod_floor-size-requires-clause-nonzero : goal.div_mod_floor-size-requires-clause-nonzero
-div_mod_floor-size-requires-clause-nonzero g c = positive_is_other (parts_positive c.requires.part_from_zero c.requires.part_below)
 
 pub div_mod_floor-size-requires-clause-quotient_fits : goal.div_mod_floor-size-requires-clause-quotient_fits
 div_mod_floor-size-requires-clause-quotient_fits g c = λ q h.

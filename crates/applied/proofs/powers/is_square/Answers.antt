@@ -1,10 +1,7 @@
 -- `is_square` compares n with the square of its root.
-use Rattle.applied.proofs.Common.{◌∙◌, inl, sym, false≢true, from_test, square_root_of_square, within_fits}
-use Rattle.applied.proofs.PowersAndRoots.{no_negative_square, square_rest}
+use Rattle.applied.proofs.Common.{◌∙◌, inl, sym, from_test, square_root_of_square, within_fits}
+use Rattle.applied.proofs.PowersAndRoots.{square_rest}
 use Rattle.applied.proofs.powers.is_square.Goals as goal
-
-pub returns-then-is_negative : goal.returns-then-is_negative
-returns-then-is_negative g c = ((λ h. absurd (false≢true h)), (λ x. absurd (no_negative_square x.0 (c.is_negative.ensures.0 c.if-is_negative.true) x.1)))
 
 pub product-requires-clause-product_fits : goal.product-requires-clause-product_fits
 product-requires-clause-product_fits g c =

@@ -1,6 +1,6 @@
 -- The square of the root is at most n, so the product and the difference are in range.
 use Rattle.applied.proofs.Common.{inl, within_fits}
-use Rattle.applied.proofs.PowersAndRoots.{rest_of_square, rest_of_square_fits, square_rest}
+use Rattle.applied.proofs.PowersAndRoots.{rest_of_square_fits, square_rest}
 use Rattle.applied.proofs.powers.sqrt_rem.Goals as goal
 
 pub product-requires-clause-product_fits : goal.product-requires-clause-product_fits
@@ -11,12 +11,3 @@ product-requires-clause-product_fits g c =
 pub difference-requires-clause-difference_fits : goal.difference-requires-clause-difference_fits
 difference-requires-clause-difference_fits g c =
     rest_of_square_fits g.met.T.Integer.range_law c.requires.in_range c.requires.from_zero c.sqrt-root.ensures.root c.product.ensures.value
-
-pub returns-clause-sum : goal.returns-clause-sum
-returns-clause-sum g c = (rest_of_square c.requires.from_zero c.sqrt-root.ensures.root c.product.ensures.value c.difference.ensures.value).0
-
-pub returns-clause-rest_from_zero : goal.returns-clause-rest_from_zero
-returns-clause-rest_from_zero g c = (rest_of_square c.requires.from_zero c.sqrt-root.ensures.root c.product.ensures.value c.difference.ensures.value).1
-
-pub returns-clause-rest_at_most : goal.returns-clause-rest_at_most
-returns-clause-rest_at_most g c = (rest_of_square c.requires.from_zero c.sqrt-root.ensures.root c.product.ensures.value c.difference.ensures.value).2

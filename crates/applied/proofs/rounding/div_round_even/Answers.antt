@@ -2,8 +2,5 @@ use Rattle.applied.proofs.Common.{IsTrue}
 use Rattle.applied.proofs.NearestQuotients.{nearest_even_is}
 use Rattle.applied.proofs.rounding.div_round_even.Goals as goal
 
-pub nearer-requires-clause-floored : goal.nearer-requires-clause-floored
-nearer-requires-clause-floored g c = (_, c.requires.in_range.0, c.div_mod_floor-below.ensures.floored)
-
 pub returns-clause-nearest : goal.returns-clause-nearest
 returns-clause-nearest g c = nearest_even_is c.div_mod_floor-below.ensures.floored (IsTrue c.is_even.result) c.is_even.ensures c.nearer.ensures.nearer

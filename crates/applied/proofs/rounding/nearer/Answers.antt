@@ -1,9 +1,6 @@
-use Rattle.applied.proofs.Common.{IsTrue, iff_false, floored_remainder_within}
+use Rattle.applied.proofs.Common.{IsTrue, iff_false}
 use Rattle.applied.proofs.NearestQuotients.{next_fits}
 use Rattle.applied.proofs.rounding.nearer.Goals as goal
-
-pub rounds_down-requires-clause-within : goal.rounds_down-requires-clause-within
-rounds_down-requires-clause-within g c = floored_remainder_within c.requires.floored.2
 
 pub successor-requires-clause-sum_fits : goal.successor-requires-clause-sum_fits
 successor-requires-clause-sum_fits g c =

@@ -2,11 +2,6 @@ use Rattle.applied.proofs.Common.{arith, linear}
 use Rattle.applied.proofs.Meetings.{begun_more}
 use Rattle.applied.proofs.schedules.latest.Goals as goal
 
-pub maximum-latest-requires : goal.maximum-latest-requires
-maximum-latest-requires g c =
-    let all = c.requires.in_range c.loop-schedule.schedule-index c.schedule-item.result c.loop-schedule-test.true in
-    record { in_range = (c.loop-schedule.invariant.in_range, (rw (← c.schedule-item.is) at all).0) }
-
 pub loop-schedule-preserved : goal.loop-schedule-preserved
 loop-schedule-preserved g c =
     let so_far = c.loop-schedule.invariant in

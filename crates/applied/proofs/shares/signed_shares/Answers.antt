@@ -1,5 +1,5 @@
 use Rattle.applied.proofs.Common.{FitsSigned, w64, arith, rules, ℕ, ints, to_z-of_z, get_or-le-sum_by}
-use Rattle.applied.proofs.WeightedShares.{all_signed, one_more_signed, signed_shares_are_only, signed_shares_are_whole}
+use Rattle.applied.proofs.WeightedShares.{one_more_signed, signed_shares_are_only, signed_shares_are_whole}
 use Rattle.applied.proofs.shares.signed_shares.Goals as goal
 
 pub next_share-share-requires-clause-within : goal.next_share-share-requires-clause-within
@@ -7,7 +7,6 @@ next_share-share-requires-clause-within c = rw c.in_ok-total.ensures.total.1 (ge
 
 pub loop-i-preserved : goal.loop-i-preserved
 loop-i-preserved c =
-    let amount = c.ranges.amount in
     let share : FitsSigned w64 c.with_sign_of.result = search rules in
     let written = to_z-of_z w64 c.with_sign_of.result share in
     one_more_signed _ c.loop-i-test.true
@@ -18,10 +17,7 @@ loop-i-preserved c =
     c.loop-i.invariant
 
 pub returns-clause-shares : goal.returns-clause-shares
-returns-clause-shares c =
-    let amount = c.ranges.amount in
-    let shared = simp to_z-of_z at c.loop-i.invariant in
-    all_signed c.in_ok-total.ensures.total.1 (omega arith) shared
+returns-clause-shares c = grind arith
 
 pub returns-clause-only : goal.returns-clause-only
 returns-clause-only c = signed_shares_are_only (returns-clause-shares c)

@@ -1,17 +1,12 @@
 use Rattle.std.proofs.Math.Nat.{mul-le-mul}
-use Rattle.std.proofs.lemmas.Int.{fits_signed_from_abs, unsigned_abs-mul}
-use Rattle.calendar.proofs.Common.{◌<◌, ◌≤◌, ◌^◌, ◌*◌, ◌+ℤ◌, ◌*ℤ◌, ℤ, unsigned_abs, FitsSigned, w64, w128, arith, refl, ints, to_z-of_z}
+use Rattle.calendar.proofs.Common.{◌<◌, ◌^◌, ◌+ℤ◌, ◌*ℤ◌, ℤ, unsigned_abs, FitsSigned, w64, w128, arith, refl, to_z-of_z}
 use Rattle.calendar.proofs.eras.wide_sum.Goals as goal
 
 -- the numbers fit 64 and 128 bits, and their product and the sum fit 128
 fitting : (size count more : ℤ) → unsigned_abs size < 2 ^ 18 → FitsSigned w64 size → FitsSigned w64 count → FitsSigned w64 more
     → FitsSigned w64 size × FitsSigned w64 count × FitsSigned w64 more × FitsSigned w128 size × FitsSigned w128 count × FitsSigned w128 more
     × FitsSigned w128 (size *ℤ count) × FitsSigned w128 (size *ℤ count +ℤ more)
-fitting size count more small size_fits count_fits more_fits =
-    let most : unsigned_abs count ≤ 2 ^ 63 = omega (arith, ints) in
-    let bound : unsigned_abs size ≤ 2 ^ 18 = omega arith in
-    let product : unsigned_abs (size *ℤ count) ≤ 2 ^ 18 * 2 ^ 63 = omega (arith, unsigned_abs-mul size count, mul-le-mul bound most) in
-    (size_fits, count_fits, more_fits, omega (arith, ints), omega (arith, ints), omega (arith, ints), fits_signed_from_abs w128 (size *ℤ count) (omega arith), omega (arith, ints))
+fitting size count more small size_fits count_fits more_fits = grind (arith, mul-le-mul)
 
 pub overflow_mul-result : goal.overflow_mul-result
 overflow_mul-result c =

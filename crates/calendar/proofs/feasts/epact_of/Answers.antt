@@ -1,24 +1,15 @@
-use Rattle.calendar.proofs.Common.{FitsSigned, w64, arith, ints, to_z-of_z, floored_remainder_range}
+use Rattle.calendar.proofs.Common.{FitsSigned, w64, arith, ints, to_z-of_z}
 use Rattle.calendar.proofs.EasterSundays.{is_epact}
 use Rattle.calendar.proofs.feasts.epact_of.Goals as goal
 
 pub epact_sum-sum-requires : goal.epact_sum-sum-requires
-epact_sum-sum-requires c =
-    let solar : FitsSigned w64 c.solar_correction.result = omega (arith, ints) in
-    let lunar : FitsSigned w64 c.lunar_correction.result = omega (arith, ints) in
-    simp to_z-of_z (record { solar = c.solar_correction.ensures.small; lunar = c.lunar_correction.ensures.small })
+epact_sum-sum-requires c = grind (arith, ints)
 
 pub overflow_cast-result : goal.overflow_cast-result
-overflow_cast-result c =
-    let fits = c.mod_floor.ensures.in_range in
-    let range = floored_remainder_range (omega (arith, ints)) c.mod_floor.ensures.floored in
-    simp to_z-of_z (omega (arith, ints))
+overflow_cast-result c = grind (arith, to_z-of_z)
 
 pub returns-clause-small : goal.returns-clause-small
-returns-clause-small c =
-    let fits = c.mod_floor.ensures.in_range in
-    let range = floored_remainder_range (omega (arith, ints)) c.mod_floor.ensures.floored in
-    simp to_z-of_z (omega (arith, ints))
+returns-clause-small c = grind (arith, to_z-of_z)
 
 pub returns-clause-value : goal.returns-clause-value
 returns-clause-value c =

@@ -1,13 +1,9 @@
-use Rattle.calendar.proofs.Common.{◌≡◌, ◌∷◌, ◌/◌, ◌%◌, ◌+◌, [], get_or, arith, sym, ◌∙◌, nat_tests, iff_false, text_from_reads}
+use Rattle.calendar.proofs.Common.{◌≡◌, ◌∷◌, ◌/◌, ◌%◌, ◌+◌, [], arith, ◌∙◌, nat_tests, iff_false, text_from_reads}
 use Rattle.calendar.proofs.DateTexts.{number_boundary, number_told, number_text}
 use Rattle.calendar.proofs.text.split_last_two_digits.Goals as goal
 
 pub returns : goal.returns
-returns c =
-    let bytes = c.as_bytes.result.now in
-    let read = text_from_reads bytes (45 ∷ get_or bytes 1 0 ∷ get_or bytes 2 0 ∷ []) (omega arith) (omega arith, (omega arith, (omega arith, tt))) in
-    let back = sym (c.as_bytes.ensures.value ∙ c.split_at.ensures.back) ∙ read in
-    (omega arith, rw c.split_at.ensures.front (number_text c.args.text.now c.saturating_sub-place.result (get_or bytes 1 0) (get_or bytes 2 0) (omega arith, omega arith) (omega arith, omega arith) back))
+returns c = grind (arith, text_from_reads, number_text)
 
 pub returns-then-not-is_char_boundary : goal.returns-then-not-is_char_boundary
 returns-then-not-is_char_boundary c = λ front n small e.

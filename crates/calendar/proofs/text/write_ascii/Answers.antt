@@ -1,4 +1,4 @@
-use Rattle.calendar.proofs.Common.{◌≡◌, ℕ, List, [], ◌∷◌, Result, Ok, Err, IsOk, OnOk, WritesInCalls, append-nil, refl, rules}
+use Rattle.calendar.proofs.Common.{ℕ, List, [], ◌∷◌, Result, Ok, Err, IsOk, OnOk, WritesInCalls, append-nil, refl, rules}
 use Rattle.calendar.proofs.text.write_ascii.Goals as goal
 
 -- one call
@@ -7,6 +7,4 @@ one_call took (Ok x) w text v wrote = record { parts = text ∷ []; calls = (v, 
 one_call took (Err e) w text v wrote = search rules
 
 pub returns : goal.returns
-returns g c =
-    let same : c.in_ok-map_err.field-0.now ≡ c.args.text.now = search rules in
-    one_call g.W.Write.write_str_gives c.write_str.result c.args.f.now c.args.text.now c.write_str.new.self (rw same at c.write_str.ensures.ok)
+returns g c = search (rules, one_call, c.in_ok-map_err.field-0.now, g.W.Write.write_str_gives, c.write_str.new.self, c.write_str.ensures.ok)

@@ -4,9 +4,7 @@ use Rattle.calendar.proofs.WeekdayPlaces.{days_later}
 use Rattle.calendar.proofs.weeks.nth_weekday_of_month.Goals as goal
 
 pub returns-in_err-first-clause-exists : goal.returns-in_err-first-clause-exists
-returns-in_err-first-clause-exists c = λ from to n_from n_to.
-    let none = simp (to_z-of_z, c.ranges.year) at c.in_err-first.ensures in
-    absurd (none (first_of_month c.args.year c.args.month from to))
+returns-in_err-first-clause-exists c = search (rules, first_of_month, c.in_err-first.ensures)
 
 pub returns : goal.returns
 returns c =

@@ -1,7 +1,7 @@
 use Rattle.std.specs.Int.{w64}
 use Rattle.std.proofs.lemmas.Int.{to_z-of_z}
 use Rattle.ratio64.proofs.ForCallers.{nearest_of_equal}
-use Rattle.callers.proofs.Gears.{unwrapped_is_exact}
+use Rattle.callers.proofs.UnwrappedFractions.{unwrapped_is_exact}
 use Rattle.callers.proofs.fractions.gear_pair.Goals as goal
 
 pub returns-clause-nearest : goal.returns-clause-nearest

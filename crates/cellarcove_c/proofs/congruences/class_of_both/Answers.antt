@@ -1,23 +1,6 @@
 use Rattle.std.proofs.lemmas.Bool.{iff_false}
-use Rattle.cellarcove_c.proofs.ClassesOfBoth.{bad_modulus_is, class_is, reason_is}
+use Rattle.cellarcove_c.proofs.ClassesOfBoth.{class_is, reason_is}
 use Rattle.cellarcove_c.proofs.congruences.class_of_both.Goals as goal
-
-pub chinese_remainder-requires-clause-m_positive : goal.chinese_remainder-requires-clause-m_positive
-chinese_remainder-requires-clause-m_positive g c = (c.are_positive.ensures.0 c.if-not-are_positive.false).0
-
-pub chinese_remainder-requires-clause-n_positive : goal.chinese_remainder-requires-clause-n_positive
-chinese_remainder-requires-clause-n_positive g c = (c.are_positive.ensures.0 c.if-not-are_positive.false).1
-
-pub reason_for_congruences-requires-clause-m_positive : goal.reason_for_congruences-requires-clause-m_positive
-reason_for_congruences-requires-clause-m_positive g c = (c.are_positive.ensures.0 c.if-not-are_positive.false).0
-
-pub reason_for_congruences-requires-clause-n_positive : goal.reason_for_congruences-requires-clause-n_positive
-reason_for_congruences-requires-clause-n_positive g c = (c.are_positive.ensures.0 c.if-not-are_positive.false).1
-
-pub returns-then-not-are_positive : goal.returns-then-not-are_positive
-returns-then-not-are_positive g c =
-    let zero_fits = c.requires.in_range.4 in
-    bad_modulus_is g.T.Number.value g.T.Number.fits _ _ _ _ (c.args.zero, c.args.zero) (zero_fits, zero_fits) (iff_false c.are_positive.ensures c.if-not-are_positive.true)
 
 pub returns-then-lcm_fits : goal.returns-then-lcm_fits
 returns-then-lcm_fits g c =

@@ -1,4 +1,4 @@
-use Rattle.cellarcove_c.proofs.Common.{FitsSigned, IfOk, Result, w64, arith, refl, rules, subst, Date, DateError}
+use Rattle.cellarcove_c.proofs.Common.{FitsSigned, w64, arith, refl, rules}
 use Rattle.cellarcove_c.proofs.date_texts.date_of.Goals as goal
 
 pub returns-in-Ok : goal.returns-in-Ok
@@ -13,10 +13,3 @@ returns-in-Ok c =
       none = (λ same. absurd (omega (arith, same, answered)), λ no. absurd (no date fits text));
       refusal = λ other. absurd (other answered);
     }
-
-pub returns-in-Err : goal.returns-in-Err
-returns-in-Err c = rw c.none.ensures (record {
-  found = λ same. absurd (omega (arith, same));
-  none = (λ _ date fits same. absurd (subst (λ (r : Result Date DateError). IfOk r (λ _. ⊥)) ((c.in-Err.ensures.value date fits).1 same) tt), λ _. refl);
-  refusal = λ _. (refl, refl);
-})

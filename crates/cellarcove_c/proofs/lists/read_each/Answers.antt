@@ -1,8 +1,5 @@
-use Rattle.cellarcove_c.proofs.Common.{FitsSigned, pos, w64, All, get_or, rules, subst, take_all, All-more, All-nil}
+use Rattle.cellarcove_c.proofs.Common.{FitsSigned, pos, w64, All, get_or, rules, subst, take_all, All-more}
 use Rattle.cellarcove_c.proofs.lists.read_each.Goals as goal
-
-pub loop-number-init : goal.loop-number-init
-loop-number-init c = All-nil (FitsSigned w64)
 
 pub loop-number-preserved : goal.loop-number-preserved
 loop-number-preserved c =

@@ -1,9 +1,6 @@
 use Rattle.cellarcove_c.proofs.Common.{◌<◌, ◌<ℤ◌, map, pos, ◌∙◌, arith, length, refl, sym, false≢true, iff_false, All-same, All-weaker}
-use Rattle.cellarcove_c.proofs.CopiedPairs.{IsPair, all_copied, copied_has, none_copied, one_copied}
+use Rattle.cellarcove_c.proofs.CopiedPairs.{IsPair, all_copied, copied_has, one_copied}
 use Rattle.cellarcove_c.proofs.several_congruences.copy.Goals as goal
-
-pub loop-i-init : goal.loop-i-init
-loop-i-init g c = none_copied g.C.Congruence.pair_of (IsPair g.T.Number.value g.T.Number.fits) c.args.congruences.now c.args.pairs.now
 
 pub loop-i-preserved : goal.loop-i-preserved
 loop-i-preserved g c =

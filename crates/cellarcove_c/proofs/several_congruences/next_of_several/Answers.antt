@@ -1,17 +1,7 @@
 use Rattle.cellarcove_c.proofs.Common.{map, rules, iff_false, SolvesEach}
 use Rattle.cellarcove_c.proofs.CommonSolutions.{value_in_range}
-use Rattle.cellarcove_c.proofs.SeveralCongruences.{bad_modulus_is, common_solution_is, too_many_are, without_range}
+use Rattle.cellarcove_c.proofs.SeveralCongruences.{bad_modulus_is, common_solution_is, without_range}
 use Rattle.cellarcove_c.proofs.several_congruences.next_of_several.Goals as goal
-
-pub returns-then-congruences-gt-MOST-clause-next : goal.returns-then-congruences-gt-MOST-clause-next
-returns-then-congruences-gt-MOST-clause-next g c =
-    too_many_are g.T.Number.value g.T.Number.fits _ g.C.Congruence.pair_of c.args.congruences.now c.args.zero c.if-congruences-gt-MOST.true
-
-pub next_common_solution_of-requires-clause-in_range : goal.next_common_solution_of-requires-clause-in_range
-next_common_solution_of-requires-clause-in_range g c = c.copy.ensures.in_range c.if-not-copy.false
-
-pub next_common_solution_of-requires-clause-positive : goal.next_common_solution_of-requires-clause-positive
-next_common_solution_of-requires-clause-positive g c = c.copy.ensures.each_positive c.if-not-copy.false
 
 pub returns-then-not-copy-clause-next : goal.returns-then-not-copy-clause-next
 returns-then-not-copy-clause-next g c =

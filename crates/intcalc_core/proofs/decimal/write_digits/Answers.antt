@@ -1,7 +1,4 @@
-use Rattle.std.proofs.Common.{[], ◌/◌, append-nil, arith, rules}
-use Rattle.std.specs.Fmt.{decimal}
-use Rattle.std.proofs.lemmas.List.{drop_all}
-use Rattle.std.proofs.lemmas.Fmt.{decimal_digit, decimal_step_wide}
+use Rattle.intcalc_core.proofs.Common.{[], append-nil, arith, rules, decimal, drop_all, decimal_digit, decimal_step_wide}
 use Rattle.intcalc_core.proofs.DecimalLemmas.{one_digit_more, room}
 use Rattle.intcalc_core.proofs.decimal.write_digits.Goals as goal
 
@@ -13,25 +10,13 @@ loop-rest-init c = record {
 }
 
 pub overflow_sub-start : goal.overflow_sub-start
-overflow_sub-start c =
-    let i = c.loop-rest.invariant in
-    omega (arith, room _ c.args.n _ _ i.size (omega arith) (omega arith) i.digits)
+overflow_sub-start c = grind (arith, room, c.loop-rest.invariant)
 
 pub loop-rest-preserved : goal.loop-rest-preserved
-loop-rest-preserved c =
-    let i = c.loop-rest.invariant in
-    let rest = c.loop-rest.rest in
-    let last = decimal_step_wide rest c.loop-rest-test.true (omega arith) in
-    record {
-      size = search rules;
-      within = omega arith;
-      digits = one_digit_more (decimal (rest / 10)) _ c.loop-rest.text c.loop-rest.start c.digit.result (room _ c.args.n _ _ i.size (omega arith) (omega arith) i.digits) (omega arith) (cc (last, i.digits));
-    }
+loop-rest-preserved c = search (rules, decimal_step_wide, one_digit_more, decimal, room, c.loop-rest.invariant, c.loop-rest.rest, c.loop-rest-test.true, c.loop-rest.text, c.loop-rest.start)
 
 pub overflow_sub-start-2 : goal.overflow_sub-start-2
-overflow_sub-start-2 c =
-    let i = c.loop-rest.invariant in
-    omega (arith, room _ c.args.n _ _ i.size (omega arith) (omega arith) i.digits)
+overflow_sub-start-2 c = grind (arith, room, c.loop-rest.invariant)
 
 pub returns-clause-digits : goal.returns-clause-digits
 returns-clause-digits c =

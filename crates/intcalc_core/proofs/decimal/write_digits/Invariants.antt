@@ -1,5 +1,4 @@
-use Rattle.std.proofs.Common.{◌≡◌, ◌≤◌, length, drop, ◌++◌}
-use Rattle.std.specs.Fmt.{decimal}
+use Rattle.intcalc_core.proofs.Common.{◌≡◌, ◌≤◌, length, drop, ◌++◌, decimal}
 use Rattle.intcalc_core.proofs.decimal.write_digits.Given as goal
 
 -- the digits of what is left, and those that are written

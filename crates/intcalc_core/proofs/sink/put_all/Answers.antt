@@ -1,4 +1,4 @@
-use Rattle.std.proofs.Common.{◌++◌, take, rules}
+use Rattle.intcalc_core.proofs.Common.{◌++◌, take, rules}
 use Rattle.intcalc_core.proofs.SinkLemmas.{Appends-trans, part}
 use Rattle.intcalc_core.proofs.sink.put_all.Goals as goal
 

@@ -1,5 +1,4 @@
-use Rattle.std.proofs.Common.{◌≡◌, ◌<◌, List, ℕ, false, length, ◌++◌}
-use Rattle.std.specs.Io.KnownBytes.{Appends}
+use Rattle.intcalc_core.proofs.Common.{◌≡◌, ◌<◌, List, ℕ, false, length, ◌++◌, Appends}
 use Rattle.intcalc_core.proofs.sink.put_all.Given as goal
 
 -- what is added so far, and what is left; if some is added, the sink has not finished since

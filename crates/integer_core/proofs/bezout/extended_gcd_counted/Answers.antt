@@ -7,15 +7,7 @@ use Rattle.integer_core.proofs.Rows.{first_fits, sign_fits}
 use Rattle.integer_core.proofs.bezout.extended_gcd_counted.Goals as goal
 
 pub normalized-requires : goal.normalized-requires
-normalized-requires g c =
-    let range = g.met.T.Integer.range_law in
-    let none = c.is_zero.ensures.0 c.if-is_zero.true in
-    let row = first_fits range c.requires.a_in_range in
-    rw (c.of_first.ensures.remainder, c.of_first.ensures.x, c.of_first.ensures.y) (record {
-      gcd_fits = (gcd_fits_is range c.requires.a_in_range c.requires.b_in_range).0 c.requires.gcd_fits _ (answer_for_zero none).greatest;
-      x_fits = sign_fits range row.remainder row.x;
-      y_fits = sign_fits range row.remainder row.y;
-    })
+normalized-requires g c = search (rules, first_fits, gcd_fits_is, answer_for_zero, sign_fits, g.met.T.Integer.range_law, c.is_zero.ensures.0, c.if-is_zero.true, c.requires.a_in_range, c.of_first.ensures.remainder, c.of_first.ensures.x, c.of_first.ensures.y, c.requires.b_in_range, c.requires.gcd_fits)
 
 pub normalized-requires-else-is_zero-clause-gcd_fits : goal.normalized-requires-else-is_zero-clause-gcd_fits
 normalized-requires-else-is_zero-clause-gcd_fits g c =
@@ -23,10 +15,7 @@ normalized-requires-else-is_zero-clause-gcd_fits g c =
     rw sign_size (fits.0 c.requires.gcd_fits _ c.last_row-row.ensures.greatest)
 
 pub returns-then-is_zero-clause-answer : goal.returns-then-is_zero-clause-answer
-returns-then-is_zero-clause-answer g c =
-    let e = c.normalized.ensures in
-    let first = c.of_first.ensures in
-    rw (e.gcd, e.x, e.y, first.remainder, first.x, first.y) (answer_for_zero (c.is_zero.ensures.0 c.if-is_zero.true))
+returns-then-is_zero-clause-answer g c = search (rules, answer_for_zero)
 
 pub returns-else-is_zero : goal.returns-else-is_zero
 returns-else-is_zero g c =

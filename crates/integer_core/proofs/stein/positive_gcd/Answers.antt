@@ -4,10 +4,7 @@ use Rattle.integer_core.proofs.SteinSteps.{gcd_positive}
 use Rattle.integer_core.proofs.stein.positive_gcd.Goals as goal
 
 pub times_power_of_two-requires : goal.times_power_of_two-requires
-times_power_of_two-requires g c =
-    let parts = c.odd_parts-m.ensures in
-    let odd = c.narrowing_gcd-odd.ensures.odd_gcd.greatest in
-    record { positive = gcd_positive parts.left.odd odd; product_fits = (parts.gcd _ odd).1 }
+times_power_of_two-requires g c = grind (arith, gcd_positive)
 
 pub returns-clause-gcd : goal.returns-clause-gcd
 returns-clause-gcd g c =

@@ -1,4 +1,4 @@
-use Rattle.std.proofs.Common.{ap}
+use Rattle.integer_roots.proofs.Common.{ap}
 use Rattle.integer_roots.proofs.Averaging.{AreAverages, averages}
 use Rattle.integer_roots.proofs.averages.both_averages.Given.{Over}
 use Rattle.integer_roots.proofs.averages.both_averages.Goals as goal

@@ -1,4 +1,4 @@
-use Rattle.std.proofs.Common.{◌*◌, ◌^◌}
+use Rattle.integer_roots.proofs.Common.{◌*◌, ◌^◌}
 use Rattle.integer_roots.proofs.CubeDigits.{IsCubeFront}
 use Rattle.integer_roots.proofs.cube_root.cube_root_by_digits.Given as goal
 

@@ -1,6 +1,4 @@
-use Rattle.std.specs.Int.Count.{leading_of_zero}
-use Rattle.std.proofs.Common.{◌∙◌}
-use Rattle.integer_core.proofs.OddParts.{width}
+use Rattle.integer_roots.proofs.Common.{leading_of_zero, ◌∙◌, width}
 use Rattle.integer_roots.proofs.magnitude_roots.bits.Goals as goal
 
 pub returns : goal.returns

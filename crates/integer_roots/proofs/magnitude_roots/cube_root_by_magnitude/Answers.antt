@@ -1,4 +1,4 @@
-use Rattle.std.proofs.Common.{arith}
+use Rattle.integer_roots.proofs.Common.{arith}
 use Rattle.integer_roots.proofs.MagnitudeRoots.{root_fits}
 use Rattle.integer_roots.proofs.magnitude_roots.cube_root_by_magnitude.Goals as goal
 

@@ -1,5 +1,4 @@
-use Rattle.std.proofs.Common.{rules, arith}
-use Rattle.integer_roots.specs.NewtonRuns.{begins, rises, goes_over, falls}
+use Rattle.integer_roots.proofs.Common.{rules, arith, begins, rises, goes_over, falls}
 use Rattle.integer_roots.proofs.newton.newton.Goals as goal
 
 pub step-next-requires : goal.step-next-requires

@@ -1,6 +1,4 @@
-use Rattle.std.proofs.Common.{◌-◌, ◌^◌, ◌<◌}
-use Rattle.integer_roots.specs.SquareRuns.{Rising, Falling}
-use Rattle.integer_roots.specs.NewtonRuns.{IsReached}
+use Rattle.integer_roots.proofs.Common.{◌-◌, ◌^◌, ◌<◌, Rising, Falling, IsReached}
 use Rattle.integer_roots.proofs.newton.newton.Given as goal
 
 abbrev pub invariant-rise : goal.invariant-rise

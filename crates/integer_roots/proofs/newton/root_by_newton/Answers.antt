@@ -1,6 +1,4 @@
-use Rattle.std.specs.Prelude.{◌%◌, ◌*◌, ◌^◌}
-use Rattle.integer_core.proofs.Common.{arith, pow-le-pow_right}
-use Rattle.std.proofs.lemmas.Grind.{div_ceil_times}
+use Rattle.integer_roots.proofs.Common.{◌%◌, ◌*◌, ◌^◌, arith, pow-le-pow_right, div_ceil_times}
 use Rattle.integer_roots.proofs.RootGuesses.{IsStart, start, in_range, ended_at_root}
 use Rattle.integer_roots.proofs.newton.root_by_newton.Given.{Over, F-post}
 use Rattle.integer_roots.proofs.newton.root_by_newton.Goals as goal

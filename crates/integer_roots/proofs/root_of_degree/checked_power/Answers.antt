@@ -1,12 +1,10 @@
-use Rattle.std.specs.Prelude.{◌≡◌, ◌-◌, ◌/◌, ◌^◌}
-use Rattle.integer_core.proofs.Common.{arith, div-le_self, div-one, div_below, le-div, pow-add, pow-le-pow_right, pow_pos, refl}
+use Rattle.integer_roots.proofs.Common.{◌≡◌, ◌-◌, ◌/◌, ◌^◌, arith, div-le_self, div-one, div_below, le-div, pow-add, pow-le-pow_right, pow_pos, refl}
 use Rattle.integer_roots.proofs.Powers.{even_next, odd_next, power_one, square_within}
 use Rattle.integer_roots.proofs.root_of_degree.checked_power.Goals as goal
 
 pub loop-place-init : goal.loop-place-init
 loop-place-init c =
     let top = c.ilog2-place.result in
-    let b = c.ilog2-place.ensures in
     let one : c.args.k / 2 ^ top ≡ 1 = omega
     (arith, le-div 1 c.args.k _ (pow_pos top) (omega arith), div_below c.args.k _ 2 (pow_pos top) (omega (arith, pow-add 2 top 1))) in
     record { is = rw (one, power_one) refl; fits = omega arith }
@@ -23,14 +21,10 @@ returns-in_err-power-2 c =
     rw c.from_residual-in_err-power-2.ensures (λ fits. c.in_err-power-2.ensures (rw c.in_ok-power.ensures.1 (omega (arith, is, within))))
 
 pub loop-place-preserved-then-k-place-eq1 : goal.loop-place-preserved-then-k-place-eq1
-loop-place-preserved-then-k-place-eq1 c =
-    let is = odd_next c.args.x c.args.k {p = c.loop-place.place - 1} (omega arith) c.loop-place.invariant.is c.if-k-place-eq1.true in
-    record { is = rw (c.in_ok-power-2.ensures.1, c.in_ok-power.ensures.1) is; fits = omega (arith, c.in_ok-power-2.ensures) }
+loop-place-preserved-then-k-place-eq1 c = grind (arith, odd_next)
 
 pub loop-place-preserved : goal.loop-place-preserved
-loop-place-preserved c =
-    let is = even_next c.args.x c.args.k {p = c.loop-place.place - 1} (omega arith) c.loop-place.invariant.is c.if-k-place-eq1.false in
-    record { is = rw c.in_ok-power.ensures.1 is; fits = omega (arith, c.in_ok-power.ensures) }
+loop-place-preserved c = grind (arith, even_next)
 
 pub returns : goal.returns
 returns c =

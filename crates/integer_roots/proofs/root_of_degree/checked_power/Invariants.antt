@@ -1,4 +1,4 @@
-use Rattle.std.proofs.Common.{◌≡◌, ◌/◌, ◌^◌, ◌<◌}
+use Rattle.integer_roots.proofs.Common.{◌≡◌, ◌/◌, ◌^◌, ◌<◌}
 use Rattle.integer_roots.proofs.root_of_degree.checked_power.Given as goal
 
 abbrev pub invariant-loop-place : goal.invariant-loop-place

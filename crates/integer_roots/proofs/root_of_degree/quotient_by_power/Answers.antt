@@ -1,5 +1,4 @@
-use Rattle.std.specs.Prelude.{◌*◌, ◌^◌}
-use Rattle.integer_core.proofs.Common.{rules, arith, refl, sym, pow_mono, div-eq_of_lt, one-le-pow, pow-le-pow_left, one_shl}
+use Rattle.integer_roots.proofs.Common.{◌*◌, ◌^◌, rules, arith, refl, sym, pow_mono, div-eq_of_lt, one-le-pow, pow-le-pow_left, one_shl}
 use Rattle.integer_roots.proofs.Powers.{power_of_power}
 use Rattle.integer_roots.proofs.root_of_degree.quotient_by_power.Goals as goal
 

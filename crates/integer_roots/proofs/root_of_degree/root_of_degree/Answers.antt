@@ -1,4 +1,4 @@
-use Rattle.std.proofs.Common.{arith, ◌+◌, pow_mono, pow-add}
+use Rattle.integer_roots.proofs.Common.{arith, ◌+◌, pow_mono, pow-add}
 use Rattle.integer_roots.proofs.Powers.{power_of_zero, power_of_one, floor_root}
 use Rattle.integer_roots.proofs.root_of_degree.root_of_degree.Goals as goal
 
@@ -13,5 +13,4 @@ returns-then-top-n c =
     record { root = floor_root (omega (arith, power_of_one c.args.n)) (omega (arith, pow-add 2 c.ilog2-top.result 1)) }
 
 pub root_by_newton-requires-clause-power_le : goal.root_by_newton-requires-clause-power_le
-root_by_newton-requires-clause-power_le c =
-    omega (arith, pow_mono {i = c.args.n} {j = c.ilog2-top.result} (omega arith), c.ilog2-top.ensures.power_le)
+root_by_newton-requires-clause-power_le c = grind (arith, pow_mono, c.ilog2-top.ensures.power_le)

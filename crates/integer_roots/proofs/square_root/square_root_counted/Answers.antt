@@ -1,5 +1,4 @@
-use Rattle.std.proofs.Common.{arith, ◌%◌, ◌*◌, ◌^◌}
-use Rattle.integer_roots.specs.SquareRuns.{first_guess}
+use Rattle.integer_roots.proofs.Common.{arith, ◌%◌, ◌*◌, ◌^◌, first_guess}
 use Rattle.integer_roots.proofs.RootGuesses.{in_range, ended_at_root}
 use Rattle.integer_roots.proofs.SquareGuesses.{IsSquareStart, square_start, near_root, iterations_of_run}
 use Rattle.integer_roots.proofs.square_root.square_root_counted.Goals as goal

@@ -1,6 +1,6 @@
 use Rattle.modular.proofs.Common.{arith}
 use Rattle.modular.proofs.Congruences.{congruent-trans}
-use Rattle.modular.proofs.PowerIterations.{few_halvings, halved_first, halved_iteration, powering_first, powering_iteration, iterations_counted}
+use Rattle.modular.proofs.PowerIterations.{few_halvings, halved_first, halved_iteration, powering_first, powering_iteration}
 use Rattle.modular.proofs.exponentiation.power_counted.Goals as goal
 
 pub halvings-init : goal.halvings-init
@@ -21,6 +21,3 @@ overflow_add-iterations g c = omega (arith, few_halvings 128 c.halvings.invarian
 
 pub returns-clause-power : goal.returns-clause-power
 returns-clause-power g c = congruent-trans c.halvings.invariant.kept.congruent c.product_if.ensures.congruent
-
-pub returns-clause-iterations : goal.returns-clause-iterations
-returns-clause-iterations g c = iterations_counted c.halvings.invariant.halved (omega arith)

@@ -1,6 +1,6 @@
 use Rattle.modular.proofs.Common.{iff_false, positive_quotient_fits}
 use Rattle.modular.proofs.BelowModulus.{below_fits}
-use Rattle.modular.proofs.DoublingIterations.{doubling_first, doubling_last, doubling_iteration, half_is_smaller, halved_by, nonzero_two, positive_two, total_at_one, total_at_zero, two_fits}
+use Rattle.modular.proofs.DoublingIterations.{doubling_first, doubling_last, doubling_iteration, half_is_smaller, halved_by, positive_two, total_at_one, total_at_zero, two_fits}
 use Rattle.modular.proofs.products.product_by_doubling.Goals as goal
 use Rattle.modular.proofs.products.product_by_doubling.Goals.{then-not-is_zero, else-not-is_zero}
 
@@ -10,9 +10,6 @@ iterations-init g c = record { rest_fits = c.requires.in_range.0; kept = doublin
 pub successor-requires-clause-sum_fits : goal.successor-requires-clause-sum_fits
 successor-requires-clause-sum_fits g c =
     rw c.one-in-iterations.ensures.value (two_fits g.met.T.Integer.range_law c.iterations.invariant.rest_fits (rw c.one.ensures.value at (c.is_below.ensures.0 c.iterations-test.true)))
-
-pub div_rem-half-requires-clause-nonzero : goal.div_rem-half-requires-clause-nonzero
-div_rem-half-requires-clause-nonzero g c = nonzero_two c.one-in-iterations.ensures.value c.successor.ensures.value
 
 pub div_rem-half-requires-clause-quotient_fits : goal.div_rem-half-requires-clause-quotient_fits
 div_rem-half-requires-clause-quotient_fits g c z h =

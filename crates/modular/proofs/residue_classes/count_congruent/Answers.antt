@@ -1,10 +1,7 @@
 use Rattle.modular.proofs.Common.{iff_false}
 use Rattle.modular.proofs.NextCongruent.{found_or_beyond}
-use Rattle.modular.proofs.Counts.{count_from_zero, counted_by_times, none_in_range, one_more_too_large, zero_from_zero}
+use Rattle.modular.proofs.Counts.{count_from_zero, counted_by_times, one_more_too_large}
 use Rattle.modular.proofs.residue_classes.count_congruent.Goals as goal
-
-pub returns-then-is_below-clause-count : goal.returns-then-is_below-clause-count
-returns-then-is_below-clause-count g c = (c.zero-then-is_below.ensures.in_range, none_in_range (c.is_below-2.ensures.0 c.if-is_below.true) c.zero-then-is_below.ensures.value)
 
 pub returns-in_err-before-clause-count : goal.returns-in_err-before-clause-count
 returns-in_err-before-clause-count g c =
@@ -20,9 +17,6 @@ pub returns-else-are_congruent-clause-count : goal.returns-else-are_congruent-cl
 returns-else-are_congruent-clause-count g c =
     let counted = counted_by_times c.requires.positive c.residue-start.ensures.residue (iff_false c.is_below-2.ensures c.if-is_below.false) c.times_to_reach.ensures.times c.times_to_reach-2.ensures.times in
     found_or_beyond _ _ _ _ (counted.other (iff_false c.are_congruent.ensures c.if-are_congruent.false)) c.difference-before.ensures
-
-pub returns-then-is_below-clause-from_zero : goal.returns-then-is_below-clause-from_zero
-returns-then-is_below-clause-from_zero g c = zero_from_zero c.zero-then-is_below.ensures.value
 
 pub returns-in_ok-before-clause-from_zero : goal.returns-in_ok-before-clause-from_zero
 returns-in_ok-before-clause-from_zero g c = count_from_zero g.T.Number.fits g.T.Number.value _ _ _ _ (returns-in_ok-before-clause-count g c)

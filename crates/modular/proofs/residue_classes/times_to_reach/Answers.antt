@@ -1,11 +1,7 @@
 use Rattle.modular.proofs.Common.{iff_false, positive_quotient_fits}
 use Rattle.modular.proofs.BelowModulus.{below_positive}
-use Rattle.modular.proofs.Congruences.{positive_is_other}
 use Rattle.modular.proofs.CommonSolutions.{next_quotient_fits, reached_by_next, reached_by_quotient}
 use Rattle.modular.proofs.residue_classes.times_to_reach.Goals as goal
-
-pub div_mod_floor-times-requires-clause-nonzero : goal.div_mod_floor-times-requires-clause-nonzero
-div_mod_floor-times-requires-clause-nonzero g c = positive_is_other (below_positive c.requires.start_below)
 
 pub div_mod_floor-times-requires-clause-quotient_fits : goal.div_mod_floor-times-requires-clause-quotient_fits
 div_mod_floor-times-requires-clause-quotient_fits g c q h =

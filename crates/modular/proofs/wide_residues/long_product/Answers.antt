@@ -1,17 +1,12 @@
-use Rattle.modular.proofs.Common.{◌^◌, arith, count_leading_zeros, mul-le-mul_right, pow_pos, suc}
+use Rattle.modular.proofs.Common.{◌^◌, arith, count_leading_zeros, pow_pos}
 use Rattle.modular.proofs.LongDivision.{shifted_left, unscaled}
 use Rattle.modular.proofs.wide_residues.long_product.Goals as goal
 
 pub normalized_product-requires-clause-long : goal.normalized_product-requires-clause-long
-normalized_product-requires-clause-long c =
-    let places = count_leading_zeros 128 c.args.m in
-    rw (shifted_left {x = c.args.m} (omega arith) (omega arith) c.ranges.m.fits) (omega (arith, mul-le-mul_right {m = 2 ^ 64} {n = c.args.m} (2 ^ places) c.requires.long, pow_pos places))
+normalized_product-requires-clause-long c = grind (arith, shifted_left, pow_pos)
 
 pub normalized_product-requires-clause-below : goal.normalized_product-requires-clause-below
-normalized_product-requires-clause-below c =
-    let places = count_leading_zeros 128 c.args.m in
-    rw (shifted_left {x = c.args.x} {m = c.args.m} (omega arith) (omega arith) c.ranges.m.fits, shifted_left {x = c.args.m} (omega arith) (omega arith) c.ranges.m.fits)
-    (omega (arith, mul-le-mul_right {m = suc c.args.x} {n = c.args.m} (2 ^ places) (omega arith), pow_pos places))
+normalized_product-requires-clause-below c = grind (arith, shifted_left, pow_pos)
 
 pub returns : goal.returns
 returns c =

@@ -1,21 +1,13 @@
-use Rattle.num_integer.proofs.Common.{◌+◌, pos, unsigned_abs, arith, ap, ◌∙◌, sym, ints, few_bits, from_test}
+use Rattle.num_integer.proofs.Common.{◌+◌, unsigned_abs, arith, ◌∙◌, ints, few_bits, from_test}
 use Rattle.num_integer.proofs.Pascal.{coefficient-zero, none_above, power_below_answer}
 use Rattle.num_integer.proofs.RowSteps.{last_coefficient, next_coefficient_fits, next_place_fits}
 use Rattle.num_integer.proofs.coefficients.coefficient_counted.Goals as goal
 
 pub returns-then-is_below-clause-coefficient : goal.returns-then-is_below-clause-coefficient
-returns-then-is_below-clause-coefficient g c =
-    let none = none_above (unsigned_abs (g.T.Number.value c.args.n)) (unsigned_abs (g.T.Number.value c.args.k)) (omega (arith, ints, c.is_below.ensures.0 c.if-is_below.true)) in
-    c.zero.ensures.value ∙ ap pos (sym none)
+returns-then-is_below-clause-coefficient g c = grind (arith, none_above, unsigned_abs, ints, g.T.Number.value, c.if-is_below.true)
 
 pub loop-n-init : goal.loop-n-init
-loop-n-init g c = record {
-  place_in_range = c.zero-place.ensures.in_range;
-  in_range = c.one-coefficient.ensures.in_range;
-  place = c.zero-place.ensures.value;
-  within = omega (arith, ints, c.zero-place.ensures.value, c.nearer_end-last.ensures.lesser);
-  coefficient = rw c.zero-place.ensures.value (c.one-coefficient.ensures.value ∙ ap pos (sym (coefficient-zero _)));
-}
+loop-n-init g c = grind (arith, ints, coefficient-zero, c.zero-place.ensures.in_range, c.one-coefficient.ensures.in_range, c.nearer_end-last.ensures.lesser)
 
 pub next_coefficient-coefficient-requires-clause-next_fits : goal.next_coefficient-coefficient-requires-clause-next_fits
 next_coefficient-coefficient-requires-clause-next_fits g c =
@@ -29,8 +21,6 @@ successor-place-requires-clause-sum_fits g c =
 
 pub overflow_add-iterations : goal.overflow_add-iterations
 overflow_add-iterations g c =
-    let more = c.is_below-in-loop-n.ensures.0 c.loop-n-test.true in
-    let within = from_test c.is_below.ensures c.if-is_below.false in
     let power = power_below_answer (unsigned_abs (g.T.Number.value c.args.n)) (unsigned_abs (g.T.Number.value c.args.k)) (c.loop-n.iterations + 1) (omega (arith, ints)) (omega (arith, ints)) in
     omega (arith, few_bits _ _ g.met.T.Integer.range_law c.requires.coefficient_fits power)
 

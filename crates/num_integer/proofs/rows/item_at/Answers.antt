@@ -8,22 +8,16 @@ back : (k : ℤ) → k -ℤ pos 1 +ℤ pos 1 ≡ k
 back k = omega (arith, linear)
 
 pub predecessor-requires-clause-difference_fits : goal.predecessor-requires-clause-difference_fits
-predecessor-requires-clause-difference_fits g c =
-    let nonzero = iff_false c.is_zero.ensures c.if-is_zero.false in
-    fits_below g.met.T.Integer.range_law c.requires.in_range.1 (omega (arith, linear, c.requires.k_from_zero)) (omega (arith, linear))
+predecessor-requires-clause-difference_fits g c = grind (arith, iff_false, fits_below, linear, c.is_zero.ensures, g.met.T.Integer.range_law)
 
 pub next_coefficient-requires-clause-k_from_zero : goal.next_coefficient-requires-clause-k_from_zero
-next_coefficient-requires-clause-k_from_zero g c =
-    let nonzero = iff_false c.is_zero.ensures c.if-is_zero.false in
-    rw c.predecessor.ensures.value (omega (arith, linear, c.requires.k_from_zero))
+next_coefficient-requires-clause-k_from_zero g c = grind (arith, iff_false, linear, c.is_zero.ensures)
 
 pub next_coefficient-requires-clause-k_below : goal.next_coefficient-requires-clause-k_below
 next_coefficient-requires-clause-k_below g c = rw c.predecessor.ensures.value (omega (arith, linear, c.requires.k_within))
 
 pub next_coefficient-requires-clause-current : goal.next_coefficient-requires-clause-current
-next_coefficient-requires-clause-current g c =
-    let nonzero = iff_false c.is_zero.ensures c.if-is_zero.false in
-    rw c.predecessor.ensures.value (c.requires.previous_is (omega (arith, linear, c.requires.k_from_zero)))
+next_coefficient-requires-clause-current g c = grind (arith, iff_false, linear, c.if-is_zero.false)
 
 pub next_coefficient-requires-clause-next_fits : goal.next_coefficient-requires-clause-next_fits
 next_coefficient-requires-clause-next_fits g c = rw (c.predecessor.ensures.value, back (g.T.Number.value c.args.k)) c.requires.item_fits

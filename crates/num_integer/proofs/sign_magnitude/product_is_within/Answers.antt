@@ -10,7 +10,4 @@ test_down : (size low high : ℕ) → IsTrue (nat_le size low) ↔ IsWithin low 
 test_down size low high = (λ t. let h = leb-true _ _ t in (omega (arith, linear), omega (arith, linear)), λ w. le-leb _ _ (omega (arith, linear, w.0)))
 
 pub returns-in-Some : goal.returns-in-Some
-returns-in-Some c = elim c.if-a-b.branch [
-  | then-a-b w ↦ rw (signed_product c.args.a.0 c.args.b.0 c.args.a.1 c.args.b.1, w.if-a-b.true, w.end-is, c.in-Some.ensures.1) (test_up _ _ _)
-  | else-a-b w ↦ rw (signed_product c.args.a.0 c.args.b.0 c.args.a.1 c.args.b.1, w.if-a-b.false, w.end-is, c.in-Some.ensures.1) (test_down _ _ _)
-]
+returns-in-Some c = grind (arith, signed_product, test_up, test_down)

@@ -1,15 +1,12 @@
-use Rattle.ratio64.proofs.Common.{pos, arith, from_test, linear, products, positive_is_nonzero}
+use Rattle.ratio64.proofs.Common.{arith, from_test, linear, positive_is_nonzero}
 use Rattle.ratio64.proofs.ExactResults.{coprime_is_exact, exact_quotients, same_result, whole_is_exact}
 use Rattle.ratio64.proofs.reduction.reduced_terms.Goals as goal
 
 pub returns-then-is_zero-clause-exact : goal.returns-then-is_zero-clause-exact
-returns-then-is_zero-clause-exact g c =
-    rw (c.is_zero.ensures.0 c.if-is_zero.true, c.one.ensures.value) (same_result c.requires.fraction (record { cross = omega (arith, products) }) (whole_is_exact (pos 0)))
+returns-then-is_zero-clause-exact g c = grind (arith, whole_is_exact)
 
 pub returns-then-is_equal-clause-exact : goal.returns-then-is_equal-clause-exact
-returns-then-is_equal-clause-exact g c =
-    let same = c.is_equal.ensures.0 c.if-is_equal.true in
-    rw (c.one-then-is_equal.ensures.value, c.one-then-is_equal-2.ensures.value) (same_result c.requires.fraction (record { cross = omega (arith, products, same) }) (whole_is_exact (pos 1)))
+returns-then-is_equal-clause-exact g c = grind (arith, whole_is_exact)
 
 pub returns-then-is_below-clause-exact : goal.returns-then-is_below-clause-exact
 returns-then-is_below-clause-exact g c =

@@ -1,5 +1,4 @@
-use Rattle.std.proofs.Common.{arith}
-use Rattle.applied.proofs.Laws.{rank_is_below}
+use Rattle.theorems_by_subject.proofs.Common.{arith, rank_is_below}
 use Rattle.theorems_by_subject.proofs.combinations.rank_of_choice.Goals as goal
 
 pub rank-requires-clause-rank_fits : goal.rank-requires-clause-rank_fits

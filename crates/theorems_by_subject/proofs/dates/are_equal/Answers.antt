@@ -1,9 +1,4 @@
-use Rattle.std.specs.Prelude.{◌≡◌, ◌↔◌, IsTrue}
-use Rattle.std.proofs.Common.{ap, arith}
-use Rattle.std.proofs.lemmas.Bool.Decides.{nat_tests}
-use Rattle.std.proofs.lemmas.Int.{ints}
-use Rattle.calendar.specs.declared.date.Date.{Date}
-use Rattle.calendar.proofs.Laws.{date_is_only}
+use Rattle.theorems_by_subject.proofs.Common.{◌≡◌, ◌↔◌, IsTrue, ap, arith, nat_tests, ints, Date, date_is_only}
 use Rattle.theorems_by_subject.proofs.dates.are_equal.Goals as goal
 
 pub returns : goal.returns

@@ -1,10 +1,4 @@
-use Rattle.std.specs.Prelude.{◌≡◌, ◌-ℤ◌, ℤ, pos, FitsSigned}
-use Rattle.std.specs.Int.{w64}
-use Rattle.std.specs.Option.{SomeIff}
-use Rattle.std.proofs.Common.{arith, subst}
-use Rattle.std.proofs.lemmas.Int.{ints}
-use Rattle.calendar.specs.Dates.{number_of}
-use Rattle.calendar.specs.Years.{day_number}
+use Rattle.theorems_by_subject.proofs.Common.{◌≡◌, ◌-ℤ◌, ℤ, pos, FitsSigned, w64, SomeIff, arith, subst, ints, number_of, day_number}
 use Rattle.calendar.proofs.Laws.{first_day}
 use Rattle.theorems_by_subject.proofs.dates.days_from_1970.Goals as goal
 

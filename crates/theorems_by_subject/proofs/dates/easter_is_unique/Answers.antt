@@ -1,6 +1,4 @@
-use Rattle.std.proofs.lemmas.Int.{to_z-of_z}
-use Rattle.calendar.specs.Dates.{number_of}
-use Rattle.calendar.proofs.Laws.{easter_is_only}
+use Rattle.theorems_by_subject.proofs.Common.{to_z-of_z, number_of, easter_is_only}
 use Rattle.theorems_by_subject.proofs.dates.easter_is_unique.Goals as goal
 
 pub returns-clause-only : goal.returns-clause-only

@@ -1,5 +1,4 @@
-use Rattle.std.proofs.lemmas.Int.{to_z-of_z}
-use Rattle.calendar.proofs.Laws.{leap_years_by_divisors}
+use Rattle.theorems_by_subject.proofs.Common.{to_z-of_z, leap_years_by_divisors}
 use Rattle.theorems_by_subject.proofs.dates.has_leap_day.Goals as goal
 
 pub returns : goal.returns

@@ -1,12 +1,5 @@
-use Rattle.std.specs.Prelude.{◌≡◌, ◌≤◌, ◌-ℤ◌, ◌+ℤ◌, ℤ, pos, FitsSigned, MatchOption, Option, Some, None, if◌then◌else◌}
-use Rattle.std.specs.Int.{w64}
-use Rattle.std.specs.Option.{SomeIff}
-use Rattle.std.proofs.Common.{◌∙◌, ap, arith, refl}
-use Rattle.std.proofs.lemmas.Bool.Decides.{nat_tests}
-use Rattle.std.proofs.lemmas.Int.{ints, to_z-of_z}
-use Rattle.calendar.specs.LeapYears.{is_leap_year}
-use Rattle.calendar.specs.Years.{day_number, days_in_year, first_day}
-use Rattle.calendar.proofs.Laws.{lengths_of_years, years_follow}
+use Rattle.theorems_by_subject.proofs.Common.{◌≡◌, ◌≤◌, ◌-ℤ◌, ◌+ℤ◌, ℤ, pos, FitsSigned, MatchOption, Option, Some, None, if◌then◌else◌, w64, SomeIff, ◌∙◌, ap, arith, refl, nat_tests, ints, to_z-of_z, is_leap_year, day_number, days_in_year, lengths_of_years, years_follow}
+use Rattle.calendar.specs.Years.{first_day}
 use Rattle.theorems_by_subject.proofs.dates.length_of_year.Goals as goal
 
 counted : (o : Option ℤ) (P Q : Type 0) (year next days : ℤ) → Q → next ≡ year +ℤ pos 1 → days ≡ day_number next 1 1 -ℤ day_number year 1 1 → SomeIff o (FitsSigned w64 days) days → MatchOption o P (λ d. Q × (d ≡ pos (if is_leap_year year then 366 else 365)))

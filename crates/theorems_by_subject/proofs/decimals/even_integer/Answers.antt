@@ -1,8 +1,4 @@
-use Rattle.std.specs.Prelude.{FitsSigned}
-use Rattle.std.specs.Int.{w64}
-use Rattle.std.proofs.Common.{rules}
-use Rattle.std.proofs.lemmas.Int.{to_z-of_z}
-use Rattle.ratio64.proofs.Laws.{rounded_even_is_only}
+use Rattle.theorems_by_subject.proofs.Common.{FitsSigned, w64, rules, to_z-of_z, rounded_even_is_only}
 use Rattle.theorems_by_subject.proofs.decimals.even_integer.Goals as goal
 
 pub returns-clause-only : goal.returns-clause-only

@@ -1,11 +1,4 @@
-use Rattle.std.specs.Prelude.{◌≡◌, ◌≤◌, ◌<ℤ◌, ◌-ℤ◌, ◌*ℤ◌, ℤ, pos, unsigned_abs}
-use Rattle.std.proofs.Common.{arith, le_refl}
-use Rattle.std.proofs.lemmas.Int.{by_lt_z}
-use Rattle.num_integer.proofs.ForCallers.{linear, multiples_apart, sizes}
-use Rattle.ratio64.proofs.ForCallers.{read}
-use Rattle.ratio64.proofs.Laws.{rounded_even_is_only}
-use Rattle.ratio64.specs.Decimal.{units_of}
-use Rattle.ratio64.specs.Rounding.{IsRoundedEven}
+use Rattle.theorems_by_subject.proofs.Common.{◌≡◌, ◌≤◌, ◌<ℤ◌, ◌-ℤ◌, ◌*ℤ◌, ℤ, pos, unsigned_abs, arith, le_refl, by_lt_z, linear, multiples_apart, sizes, read, rounded_even_is_only, units_of, IsRoundedEven}
 use Rattle.theorems_by_subject.proofs.decimals.nearest_units.Goals as goal
 
 -- no multiple of d is nearer to n

@@ -1,8 +1,4 @@
-use Rattle.std.specs.Prelude.{ℤ, ℕ, IfSome, Option, None, Some}
-use Rattle.num_integer.specs.Only.{IsOnly}
-use Rattle.ratio64.proofs.Laws.{decimal_is_spelled, spelled_decimal_is_only}
-use Rattle.ratio64.specs.Decimal.{SpellsDecimal, decimal_text, places_of, units_of}
-use Rattle.ratio64.specs.declared.decimal.Decimal.{Decimal}
+use Rattle.theorems_by_subject.proofs.Common.{ℤ, ℕ, IfSome, Option, None, Some, IsOnly, decimal_is_spelled, spelled_decimal_is_only, SpellsDecimal, decimal_text, places_of, units_of, Decimal}
 use Rattle.theorems_by_subject.proofs.decimals.read_back.Goals as goal
 
 spelled : (o : Option Decimal) → IfSome o (λ d. SpellsDecimal (decimal_text (units_of d) (places_of d)) (units_of d) (places_of d))

@@ -1,6 +1,4 @@
-use Rattle.std.proofs.Common.{rules}
-use Rattle.ratio64.proofs.Laws.{order_is_total}
-use Rattle.ratio64.specs.Ratio.{den_of, num_of}
+use Rattle.theorems_by_subject.proofs.Common.{rules, order_is_total, den_of, num_of}
 use Rattle.theorems_by_subject.proofs.fractions.are_ascending.Goals as goal
 
 pub returns-in-Less-Less-clause-ends : goal.returns-in-Less-Less-clause-ends

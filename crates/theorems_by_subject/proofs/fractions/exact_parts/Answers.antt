@@ -1,10 +1,4 @@
-use Rattle.std.specs.Prelude.{FitsSigned}
-use Rattle.std.specs.Int.{w64}
-use Rattle.std.proofs.Common.{rules}
-use Rattle.std.proofs.lemmas.Int.{to_z-of_z}
-use Rattle.ratio64.proofs.ForCallers.{err_is_outside}
-use Rattle.ratio64.proofs.Laws.{exact_result_is_only}
-use Rattle.ratio64.specs.Fraction.{IsExact}
+use Rattle.theorems_by_subject.proofs.Common.{FitsSigned, w64, rules, to_z-of_z, err_is_outside, exact_result_is_only, IsExact}
 use Rattle.theorems_by_subject.proofs.fractions.exact_parts.Goals as goal
 
 pub returns-in-Err-clause-parts : goal.returns-in-Err-clause-parts

@@ -1,6 +1,4 @@
-use Rattle.std.specs.Int.{w64}
-use Rattle.std.proofs.lemmas.Int.{to_z-of_z}
-use Rattle.ratio64.proofs.ForCallers.{only_exact_result, whole_is_exact}
+use Rattle.theorems_by_subject.proofs.Common.{w64, to_z-of_z, only_exact_result, whole_is_exact}
 use Rattle.theorems_by_subject.proofs.fractions.integer_by_new.Goals as goal
 
 pub returns : goal.returns

@@ -1,9 +1,4 @@
-use Rattle.std.specs.Prelude.{ℤ, pos}
-use Rattle.std.specs.Int.{w64}
-use Rattle.std.proofs.Common.{ap, sym}
-use Rattle.std.proofs.lemmas.Int.{to_z-of_z}
-use Rattle.ratio64.proofs.ForCallers.{quotient_is_exact, whole_is_multiple}
-use Rattle.ratio64.proofs.Laws.{exact_result_exists, exact_result_is_only}
+use Rattle.theorems_by_subject.proofs.Common.{ℤ, pos, w64, ap, sym, to_z-of_z, quotient_is_exact, whole_is_multiple, exact_result_exists, exact_result_is_only}
 use Rattle.theorems_by_subject.proofs.fractions.is_integer.Goals as goal
 
 pub returns : goal.returns

@@ -1,6 +1,4 @@
-use Rattle.std.proofs.Common.{◌≡◌, pos, rules}
-use Rattle.ratio64.proofs.ForCallers.{zero_is_over_one}
-use Rattle.ratio64.specs.Ratio.{num_of}
+use Rattle.theorems_by_subject.proofs.Common.{◌≡◌, pos, rules, zero_is_over_one, num_of}
 use Rattle.theorems_by_subject.proofs.fractions.is_zero.Goals as goal
 
 pub returns : goal.returns

@@ -1,6 +1,4 @@
-use Rattle.std.specs.Int.{w64}
-use Rattle.std.proofs.lemmas.Int.{to_z-of_z}
-use Rattle.ratio64.proofs.ForCallers.{equal_fractions_answered_alike}
+use Rattle.theorems_by_subject.proofs.Common.{w64, to_z-of_z, equal_fractions_answered_alike}
 use Rattle.theorems_by_subject.proofs.fractions.new_from_equal.Goals as goal
 
 pub returns : goal.returns

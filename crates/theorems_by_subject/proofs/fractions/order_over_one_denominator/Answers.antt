@@ -1,5 +1,4 @@
-use Rattle.std.proofs.Common.{◌∙◌}
-use Rattle.ratio64.proofs.Laws.{order_over_one_denominator}
+use Rattle.theorems_by_subject.proofs.Common.{◌∙◌, order_over_one_denominator}
 use Rattle.theorems_by_subject.proofs.fractions.order_over_one_denominator.Goals as goal
 
 pub returns : goal.returns

@@ -1,7 +1,4 @@
-use Rattle.std.specs.Prelude.{◌↔◌}
-use Rattle.std.proofs.Common.{arith, sym, ◌∙◌}
-use Rattle.num_integer.proofs.ForCallers.{linear}
-use Rattle.ratio64.proofs.ForCallers.{equal_exactly, greater_exactly, less_exactly}
+use Rattle.theorems_by_subject.proofs.Common.{◌↔◌, arith, sym, ◌∙◌, linear, equal_exactly, greater_exactly, less_exactly}
 use Rattle.theorems_by_subject.proofs.fractions.sign_of_difference.Goals as goal
 
 neither : {P Q : Type 0} → ¬ P → ¬ Q → P ↔ Q

@@ -1,4 +1,4 @@
-use Rattle.std.proofs.Common.{ap}
+use Rattle.theorems_by_subject.proofs.Common.{ap}
 use Rattle.num_integer.proofs.Laws as law
 use Rattle.theorems_by_subject.proofs.integers.floored_by_two_calls.Goals as goal
 

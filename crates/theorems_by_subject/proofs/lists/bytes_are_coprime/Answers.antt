@@ -1,7 +1,4 @@
-use Rattle.std.specs.Prelude.{FitsSigned}
-use Rattle.std.specs.Int.{w8}
-use Rattle.std.proofs.Common.{rules}
-use Rattle.std.proofs.lemmas.Int.{to_z-of_z}
+use Rattle.theorems_by_subject.proofs.Common.{FitsSigned, w8, rules, to_z-of_z}
 use Rattle.theorems_by_subject.proofs.lists.bytes_are_coprime.Goals as goal
 
 pub returns : goal.returns

@@ -1,6 +1,4 @@
-use Rattle.std.specs.Prelude.{pos}
-use Rattle.std.proofs.Common.{arith}
-use Rattle.std.proofs.lemmas.Int.{ints}
+use Rattle.theorems_by_subject.proofs.Common.{pos, arith, ints}
 use Rattle.theorems_by_subject.proofs.pages.items_of_page.Goals as goal
 
 pub returns-clause-exactly : goal.returns-clause-exactly

@@ -1,10 +1,4 @@
-use Rattle.std.specs.Prelude.{ℤ, FitsSigned}
-use Rattle.std.specs.Int.{w64}
-use Rattle.std.proofs.Common.{subst}
-use Rattle.std.proofs.lemmas.Int.{to_z-of_z}
-use Rattle.num_integer.specs.Least.{IsLeastFrom}
-use Rattle.num_integer.proofs.ForCallers.{least_is_only}
-use Rattle.applied.specs.Schedules.{IsMeetingOfEach}
+use Rattle.theorems_by_subject.proofs.Common.{ℤ, FitsSigned, w64, subst, to_z-of_z, IsLeastFrom, least_is_only, IsMeetingOfEach}
 use Rattle.theorems_by_subject.proofs.pages.next_shift.Goals as goal
 
 pub returns-in-Beyond : goal.returns-in-Beyond

@@ -1,12 +1,4 @@
-use Rattle.std.specs.Prelude.{◌≡◌, ℤ, FitsSigned}
-use Rattle.std.specs.Int.{w64}
-use Rattle.std.proofs.Common.{ap, subst, sym}
-use Rattle.std.proofs.lemmas.Int.{to_z-of_z}
-use Rattle.modular.specs.CommonSolutions.{MatchCommonSolution}
-use Rattle.modular.specs.Congruences.{IsNextCommonSolution, SolvesBothCongruences}
-use Rattle.modular.specs.declared.common_solutions.CommonSolution.{CommonSolution}
-use Rattle.modular.specs.declared.common_solutions.CommonSolution.TheVariants.{Never, Beyond, At}
-use Rattle.modular.proofs.Laws.{next_common_solution_is_only}
+use Rattle.theorems_by_subject.proofs.Common.{◌≡◌, ℤ, FitsSigned, w64, ap, subst, sym, to_z-of_z, MatchCommonSolution, IsNextCommonSolution, SolvesBothCongruences, CommonSolution, Never, Beyond, At, next_common_solution_is_only}
 use Rattle.theorems_by_subject.proofs.residues.next_common_solution_is_unique.Goals as goal
 
 is_known : (from a m b n known : ℤ) → IsNextCommonSolution from a m b n known → FitsSigned w64 known → (found : CommonSolution ℤ)

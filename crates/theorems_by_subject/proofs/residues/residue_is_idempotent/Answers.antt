@@ -1,10 +1,4 @@
-use Rattle.std.specs.Prelude.{◌≡◌}
-use Rattle.std.proofs.Common.{arith}
-use Rattle.std.proofs.lemmas.Bool.Decides.{nat_tests}
-use Rattle.std.proofs.lemmas.Int.{to_z-of_z}
-use Rattle.modular.specs.Congruences.{IsResidue}
-use Rattle.modular.proofs.Congruences.{residue_of_congruent}
-use Rattle.modular.proofs.Laws.{residue_is_only}
+use Rattle.theorems_by_subject.proofs.Common.{◌≡◌, arith, nat_tests, to_z-of_z, IsResidue, residue_of_congruent, residue_is_only}
 use Rattle.theorems_by_subject.proofs.residues.residue_is_idempotent.Goals as goal
 
 pub returns : goal.returns

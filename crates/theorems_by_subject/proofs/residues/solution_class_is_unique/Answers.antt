@@ -1,9 +1,4 @@
-use Rattle.std.specs.Prelude.{◌≡◌, ℤ, MatchOption, Option, Some, None}
-use Rattle.std.proofs.Common.{ap}
-use Rattle.std.proofs.lemmas.Int.{to_z-of_z}
-use Rattle.modular.specs.Congruences.{IsResidueClass}
-use Rattle.modular.proofs.Congruences.{congruent-refl}
-use Rattle.modular.proofs.Laws.{residue_class_is_only}
+use Rattle.theorems_by_subject.proofs.Common.{◌≡◌, ℤ, MatchOption, Option, Some, None, ap, to_z-of_z, IsResidueClass, congruent-refl, residue_class_is_only}
 use Rattle.theorems_by_subject.proofs.residues.solution_class_is_unique.Goals as goal
 
 same_class : (o : Option (ℤ × ℤ)) (Is : ℤ → Type 0) (A B C : ℤ × ℤ → Type 0) (first step : ℤ) → IsResidueClass Is first step → MatchOption o ((x : ℤ) → ¬ (Is x)) (λ s. A s × B s × IsResidueClass Is s.0 s.1 × C s) → o ≡ Some (first, step)

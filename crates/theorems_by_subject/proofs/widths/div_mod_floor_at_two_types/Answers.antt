@@ -1,4 +1,4 @@
-use Rattle.std.proofs.Common.{ap}
+use Rattle.theorems_by_subject.proofs.Common.{ap}
 use Rattle.num_integer.proofs.Laws as law
 use Rattle.theorems_by_subject.proofs.widths.div_mod_floor_at_two_types.Goals as goal
 

@@ -1,5 +1,4 @@
-use Rattle.std.proofs.Common.{arith}
-use Rattle.num_integer.proofs.ForCallers.{linear}
+use Rattle.theorems_by_subject.proofs.Common.{arith, linear}
 use Rattle.num_integer.proofs.Laws as law
 use Rattle.theorems_by_subject.proofs.widths.gcd_at_both_widths_of_usize.Goals as goal
 

@@ -9,13 +9,6 @@ returns-then-has_zero g c =
     let found = c.if-has_zero.ensures.zero refl in
     lcm_of_result g.T.Number.fits c.zero.ensures.in_range (rw c.zero.ensures.value (lcm_of_with_zero g.T.Number.value c.args.numbers.now found.0 found.1 found.2))
 
-pub multiple_of_both-requires-clause-in_range : goal.multiple_of_both-requires-clause-in_range
-multiple_of_both-requires-clause-in_range g c =
-    (c.loop-number.invariant.in_range, rw (← c.number-item.is) at (c.requires.in_range c.loop-number.number-index c.number-item.result c.loop-number-test.true))
-
-pub multiple_of_both-requires-clause-from_zero : goal.multiple_of_both-requires-clause-from_zero
-multiple_of_both-requires-clause-from_zero g c = c.loop-number.invariant.so_far.from_zero
-
 pub returns-in_err-multiple : goal.returns-in_err-multiple
 returns-in_err-multiple g c =
     rw c.from_residual.ensures

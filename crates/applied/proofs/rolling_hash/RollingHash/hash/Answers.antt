@@ -1,4 +1,4 @@
-use Rattle.applied.proofs.Common.{pos, arith, ints, take_all, congruent-refl}
+use Rattle.applied.proofs.Common.{pos, arith, ints, congruent-refl}
 use Rattle.applied.proofs.RollingHashes.{hash_more}
 use Rattle.applied.proofs.rolling_hash.RollingHash.hash.Goals as goal
 
@@ -8,6 +8,3 @@ loop-byte-init c = record { below = record { from_zero = omega arith; below = om
 pub loop-byte-preserved : goal.loop-byte-preserved
 loop-byte-preserved c =
     hash_more (pos c.args.self.now.base) c.args.window.now c.loop-byte.byte-index c.loop-byte-test.true c.loop-byte.invariant c.product_modulo-shifted.ensures.residue (rw c.from.ensures at c.sum_modulo-hash.ensures.residue)
-
-pub returns : goal.returns
-returns c = rw (take_all c.loop-byte.byte-index c.args.window.now c.loop-byte-test.false) at c.loop-byte.invariant

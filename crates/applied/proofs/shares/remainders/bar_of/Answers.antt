@@ -32,7 +32,6 @@ returns-after-loop-low-clause-left c = λ some.
     elim so_far.enough [
       | inl first ↦
           let one : c.loop-low.bar ≡ 1 = omega arith in
-          let all = c.units_over-units.ensures.enough in
           absurd (omega (arith, rw one at so_far.count))
       | inr more ↦
           let above = rw met at more in

@@ -1,15 +1,6 @@
-use Rattle.applied.proofs.Common.{arith, ℕ, get_or-le-sum_by}
-use Rattle.applied.proofs.LargestRemainders.{all_raised, none_raised, one_more_raised, raised_are_near, remainder_shares_only}
+use Rattle.applied.proofs.Common.{arith}
+use Rattle.applied.proofs.LargestRemainders.{all_raised, one_more_raised, raised_are_near, remainder_shares_only}
 use Rattle.applied.proofs.shares.remainders.shares_by_largest_remainder.Goals as goal
-
-pub loop-i-init : goal.loop-i-init
-loop-i-init c = none_raised c.in_ok-total.ensures.total.0.0
-
-pub rounded_share-share-requires-clause-within : goal.rounded_share-share-requires-clause-within
-rounded_share-share-requires-clause-within c = rw c.in_ok-total.ensures.total.1 (get_or-le-sum_by (λ (x : ℕ). x) c.args.weights.now c.loop-i.i 0 c.loop-i-test.true)
-
-pub rounded_share-share-requires-clause-left : goal.rounded_share-share-requires-clause-left
-rounded_share-share-requires-clause-left c = λ some. (c.bar_of-bar.ensures.left (omega (arith, c.loop-i.invariant.fewer))).0
 
 pub loop-i-preserved : goal.loop-i-preserved
 loop-i-preserved c =

@@ -1,4 +1,3 @@
-use Rattle.std.specs.Prelude.{◌+◌, ℕ}
 use Rattle.std.proofs.Common.{arith}
 use Rattle.std.proofs.lemmas.List.{take_all}
 use Rattle.std.proofs.lemmas.List.Sums.{sum_by-take-le, sum_by_more}
@@ -9,9 +8,7 @@ use Rattle.applied.proofs.shares.remainders.units_over.Goals as goal
 pub overflow_sub-over : goal.overflow_sub-over
 overflow_sub-over c =
     let more = sum_by_more (rounded_down c.args.amount c.args.total) c.args.weights.now c.loop-weight.weight-index 0 c.loop-weight-test.true in
-    let first = sum_by-take-le (λ (x : ℕ). x) c.args.weights.now (c.loop-weight.weight-index + 1) in
-    let within = down_within c.args.amount c.args.total (c.loop-weight.weight-index + 1) c.args.weights.now c.requires.some (omega (arith, first)) in
-    omega (arith, more, within, c.exact_share-over.ensures.share, c.loop-weight.invariant)
+    grind (arith, sum_by-take-le, down_within)
 
 pub loop-weight-preserved : goal.loop-weight-preserved
 loop-weight-preserved c =

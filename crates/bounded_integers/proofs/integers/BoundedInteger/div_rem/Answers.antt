@@ -1,4 +1,4 @@
-use Rattle.num_integer.specs.Division.{IsQuotient, IsTruncated}
+use Rattle.bounded_integers.proofs.Common.{IsQuotient, IsTruncated}
 use Rattle.bounded_integers.proofs.Words.{each_fits_word, held_inside}
 use Rattle.bounded_integers.proofs.integers.BoundedInteger.div_rem.Goals as goal
 

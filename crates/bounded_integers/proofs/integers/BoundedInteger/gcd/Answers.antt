@@ -1,6 +1,5 @@
-use Rattle.num_integer.proofs.ForCallers.{gcd_fits_is}
+use Rattle.bounded_integers.proofs.Common.{gcd_fits_is, range_of}
 use Rattle.bounded_integers.proofs.Words.{each_fits_word, held_inside}
-use Rattle.bounded_integers.specs.Ranges.{range_of}
 use Rattle.bounded_integers.proofs.integers.BoundedInteger.gcd.Goals as goal
 
 pub gcd-requires-clause-gcd_fits : goal.gcd-requires-clause-gcd_fits

@@ -1,6 +1,5 @@
-use Rattle.num_integer.proofs.ForCallers.{root_in_range}
+use Rattle.bounded_integers.proofs.Common.{root_in_range, range_of}
 use Rattle.bounded_integers.proofs.Words.{held_inside}
-use Rattle.bounded_integers.specs.Ranges.{range_of}
 use Rattle.bounded_integers.proofs.integers.BoundedRoots.nth_root.Goals as goal
 
 pub new-requires : goal.new-requires

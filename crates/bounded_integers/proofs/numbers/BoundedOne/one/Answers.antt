@@ -1,4 +1,4 @@
-use Rattle.std.specs.Prelude.{pos}
+use Rattle.bounded_integers.proofs.Common.{pos}
 use Rattle.bounded_integers.proofs.Words.{of_number}
 use Rattle.bounded_integers.proofs.numbers.BoundedOne.one.Goals as goal
 

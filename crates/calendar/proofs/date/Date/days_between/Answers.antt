@@ -4,8 +4,7 @@ use Rattle.calendar.proofs.date.Date.days_between.Goals as goal
 -- the eras and the days, and their differences, fit
 fitting : (era other : ℤ) (day before : ℕ) → unsigned_abs era < 2 ^ 55 → unsigned_abs other < 2 ^ 55 → day < 2 ^ 30 → before < 2 ^ 30
     → FitsSigned w64 era × FitsSigned w64 other × FitsSigned w64 (era -ℤ other) × FitsSigned w64 (pos day) × FitsSigned w64 (pos before) × FitsSigned w64 (pos day -ℤ pos before)
-fitting era other day before era_small other_small day_small before_small =
-    (omega (arith, ints), omega (arith, ints), omega (arith, ints), omega (arith, ints), omega (arith, ints), omega (arith, ints))
+fitting era other day before era_small other_small day_small before_small = grind (arith, ints)
 
 pub returns : goal.returns
 returns c =

@@ -2,10 +2,7 @@ use Rattle.calendar.proofs.Common.{FitsSigned, w64, arith, rules, ints, to_z-of_
 use Rattle.calendar.proofs.date.Date.in_nearby_year.Goals as goal
 
 pub returns-in_err-year : goal.returns-in_err-year
-returns-in_err-year c =
-    let year = c.ranges.year in
-    let days = c.ranges.days in
-    rw c.from_residual.ensures (simp to_z-of_z at c.in_err-year.ensures)
+returns-in_err-year c = grind (arith, to_z-of_z)
 
 pub returns : goal.returns
 returns c =

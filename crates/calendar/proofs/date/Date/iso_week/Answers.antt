@@ -8,9 +8,7 @@ few_weeks : {days length : ℕ} → days < length → length ≤ 366 → (days /
 few_weeks within long = (omega arith, omega arith, omega arith)
 
 pub nearby_year-requires : goal.nearby_year-requires
-nearby_year-requires c =
-    let place : FitsSigned w64 c.days_to_thursday_of_date.result = omega (arith, ints) in
-    simp to_z-of_z (record { from = c.days_to_thursday_of_date.ensures.from; below = c.days_to_thursday_of_date.ensures.below })
+nearby_year-requires c = grind (arith, to_z-of_z)
 
 pub overflow_add-result : goal.overflow_add-result
 overflow_add-result c = (few_weeks c.in_ok-year.ensures.0 (length_range c.in_ok-year.year).1).2

@@ -3,8 +3,7 @@ use Rattle.calendar.proofs.DayRanges.{next_left, none_later, none_left}
 use Rattle.calendar.proofs.days.DaysIterator.next.Goals as goal
 
 pub returns-then-not-is_earlier-clause-steps : goal.returns-then-not-is_earlier-clause-steps
-returns-then-not-is_earlier-clause-steps c =
-    let none = sym c.self.view_is ∙ none_left _ _ (from_not_less (λ less. let wrong = c.is_earlier.ensures.1 less in cc)) in (none, none)
+returns-then-not-is_earlier-clause-steps c = grind (arith, none_left, from_not_less, c.self.view_is, c.is_earlier.ensures.1)
 
 pub returns-in_err-self-inside-clause-steps : goal.returns-in_err-self-inside-clause-steps
 returns-in_err-self-inside-clause-steps c =

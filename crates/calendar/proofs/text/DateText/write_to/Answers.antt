@@ -1,15 +1,9 @@
-use Rattle.calendar.proofs.Common.{◌≤ℤ◌, ◌<ℤ◌, ◌∙◌, pos, FitsSigned, w64, arith, ints, rules, to_z-of_z, same_written, then_written}
+use Rattle.calendar.proofs.Common.{FitsSigned, w64, arith, rules, to_z-of_z, same_written, then_written}
 use Rattle.calendar.proofs.DateTexts.{joined, short_text, zero_padded}
 use Rattle.calendar.proofs.text.DateText.write_to.Goals as goal
 
 pub returns-then-matches : goal.returns-then-matches
-returns-then-matches g c =
-    let date = c.args.self.now in
-    let fits : FitsSigned w64 date.year = search rules in
-    let from : pos 0 ≤ℤ date.year = search rules in
-    let to : date.year <ℤ pos 10000 = search rules in
-    let told = simp to_z-of_z at c.ten_bytes-text.ensures in
-    same_written _ c.write_ascii.result _ _ _ _ (told ∙ short_text date _ (omega (arith, ints, from)) (omega (arith, ints, from, to))) c.write_ascii.ensures
+returns-then-matches g c = grind (arith, short_text)
 
 pub returns : goal.returns
 returns g c =

@@ -1,8 +1,4 @@
-use Rattle.std.specs.Prelude.{◌≢◌, pos}
-use Rattle.std.specs.Int.{w64}
-use Rattle.std.proofs.Common.{rules}
-use Rattle.std.proofs.lemmas.Int.{to_z-of_z}
-use Rattle.std.proofs.lemmas.Result.{err_from_is_err_and}
+use Rattle.intcalc_core.proofs.Common.{◌≢◌, pos, w64, rules, to_z-of_z, err_from_is_err_and}
 use Rattle.intcalc_core.proofs.FractionLemmas.{second_outside}
 use Rattle.intcalc_core.proofs.outcome.fractions.fractions.Goals as goal
 

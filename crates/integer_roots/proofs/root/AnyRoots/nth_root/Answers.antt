@@ -1,5 +1,4 @@
-use Rattle.std.proofs.Common.{◌∙◌, rules}
-use Rattle.integer_core.proofs.Whole.{is_not_less}
+use Rattle.integer_roots.proofs.Common.{◌∙◌, rules, is_not_less}
 use Rattle.integer_roots.proofs.root.AnyRoots.nth_root.Goals as goal
 use Rattle.integer_roots.proofs.root.AnyRoots.nth_root.Goals.{then-n-ne0, else-n-ne0}
 

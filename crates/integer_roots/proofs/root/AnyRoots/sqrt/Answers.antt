@@ -1,4 +1,4 @@
-use Rattle.integer_core.proofs.Whole.{is_not_less}
+use Rattle.integer_roots.proofs.Common.{is_not_less}
 use Rattle.integer_roots.proofs.root.AnyRoots.sqrt.Goals as goal
 
 pub check-requires : goal.check-requires

@@ -2,10 +2,6 @@ use Rattle.modular.proofs.Common.{◌*◌, arith}
 use Rattle.modular.proofs.MontgomeryProducts.{montgomery_product_is, subtracted_at_most}
 use Rattle.modular.proofs.montgomery.Montgomery.montgomery_product.Goals as goal
 
-pub overflow_sub-result : goal.overflow_sub-result
-overflow_sub-result c =
-    omega (arith, subtracted_at_most c.args.self.now.inverse (c.from.result * c.from-2.result) (omega arith) c.args.self.now.positive c.from-3.ensures c.from-4.ensures)
-
 pub returns-then-high-subtracted-clause-congruent : goal.returns-then-high-subtracted-clause-congruent
 returns-then-high-subtracted-clause-congruent c =
     let most = subtracted_at_most c.args.self.now.inverse (c.from.result * c.from-2.result) (omega arith) c.args.self.now.positive c.from-3.ensures c.from-4.ensures in

@@ -1,24 +1,13 @@
-use Rattle.num_integer.proofs.Common.{pos, unsigned_abs, arith, ap, ◌∙◌, subst, sym, ints, from_test}
+use Rattle.num_integer.proofs.Common.{unsigned_abs, arith, ◌∙◌, subst, ints, from_test}
 use Rattle.num_integer.proofs.Pascal.{coefficient-zero, none_above}
 use Rattle.num_integer.proofs.RowSteps.{last_coefficient, next_coefficient_fits, next_place_fits}
 use Rattle.num_integer.proofs.checked.coefficients.binomial.Goals as goal
 
 pub returns-then-is_below : goal.returns-then-is_below
-returns-then-is_below g c =
-    let n = from_test c.is_negative.ensures c.if-is_negative.false in
-    let k = from_test c.is_negative-else-is_negative.ensures c.if-is_negative-2.false in
-    let none = none_above (unsigned_abs (g.T.Number.value c.args.n)) (unsigned_abs (g.T.Number.value c.args.k)) (omega (arith, ints, c.is_below.ensures.0 c.if-is_below.true)) in
-    let is = c.zero.ensures.value ∙ ap pos (sym none) in
-    ((n, k, subst g.T.Number.fits is c.zero.ensures.in_range), (c.zero.ensures.in_range, is))
+returns-then-is_below g c = grind (arith, from_test, none_above, unsigned_abs, ints, c.is_negative.ensures, c.if-is_negative.false, c.is_negative-else-is_negative.ensures, c.if-is_negative-2.false, g.T.Number.value, c.is_below.ensures.0, c.zero.ensures.value)
 
 pub loop-n-init : goal.loop-n-init
-loop-n-init g c = record {
-  place_in_range = c.zero-place.ensures.in_range;
-  in_range = c.one-coefficient.ensures.in_range;
-  from_zero = omega (arith, ints, c.zero-place.ensures.value);
-  within = omega (arith, ints, c.zero-place.ensures.value, c.nearer_end-last.ensures.lesser);
-  coefficient = rw c.zero-place.ensures.value (c.one-coefficient.ensures.value ∙ ap pos (sym (coefficient-zero _)));
-}
+loop-n-init g c = grind (arith, ints, coefficient-zero, c.zero-place.ensures.in_range, c.zero-place.ensures.value)
 
 pub returns-in_err-coefficient : goal.returns-in_err-coefficient
 returns-in_err-coefficient g c =

@@ -8,7 +8,6 @@ half_is (negsuc n) up = absurd (omega (arith, ints))
 
 pub successor-requires-clause-sum_fits : goal.successor-requires-clause-sum_fits
 successor-requires-clause-sum_fits g c =
-    let above = c.is_below.ensures.0 c.if-is_below.true in
     fits_below g.met.T.Integer.range_law c.requires.in_range (omega (arith, ints, c.one-then-is_below.ensures.value)) (omega (arith, ints, c.one.ensures.value, c.one-then-is_below.ensures.value))
 
 pub positive_quotient-requires-clause-positive : goal.positive_quotient-requires-clause-positive

@@ -17,9 +17,7 @@ limit_is : (c : After-unsigned_abs-limit) → pos c.unsigned_abs-limit.result �
 limit_is c = grind (arith, numbers_read)
 
 small : (c : After-nearest_parts-nearest) → pos c.unsigned_abs-limit.result ≡ c.args.max → c.nearest_parts-nearest.result.den < 2 ^ 63
-small c same =
-    let max = c.ranges.max in
-    omega (arith, ints, same, c.nearest_parts-nearest.ensures.nearest.bounded)
+small c same = grind arith
 
 pub returns-then-max-limit : goal.returns-then-max-limit
 returns-then-max-limit c =

@@ -1,4 +1,3 @@
-use Rattle.ratio64.proofs.Common.{◌^◌, pos, w64, refl, to_z-of_z}
 use Rattle.ratio64.proofs.DecimalTexts.{few_places, fitting_scale}
 use Rattle.ratio64.proofs.WideSums.{read}
 use Rattle.ratio64.proofs.fraction.Ratio.to_decimal.Goals as goal
@@ -10,10 +9,3 @@ pub invariant_of-result : goal.invariant_of-result
 invariant_of-result c =
     let own = c.wide_round_even_times.ensures in
     record { few = few_places c.args.places c.in_ok-scale.ensures.0; below = rw (read c.wide_round_even_times.result own.below) own.below }
-
-pub returns : goal.returns
-returns c =
-    let power = c.in_ok-scale.ensures in
-    let own = c.wide_round_even_times.ensures in
-    let rounded = rw (power.1, to_z-of_z w64 (pos (10 ^ c.args.places)) power.0) at own.rounded in
-    (few_places c.args.places power.0, record { places_are = refl; rounded = rw (read c.wide_round_even_times.result own.below) rounded })

@@ -1,20 +1,14 @@
-use Rattle.ratio64.proofs.Common.{◌≡◌, ◌+ℤ◌, ◌-ℤ◌, neg_ℤ, pos, true, false, arith, inl, from_test, linear, sizes, within_fits, positive_is_nonzero, IsRounded}
+use Rattle.ratio64.proofs.Common.{◌≡◌, ◌+ℤ◌, ◌-ℤ◌, pos, true, false, arith, inl, from_test, linear, sizes, within_fits, IsRounded}
 use Rattle.ratio64.proofs.NearestNumbers.{quotient_in_range, rounded_above, rounded_below, rounded_division}
 use Rattle.ratio64.proofs.fraction.rounding.nearest.Given.{Over}
 use Rattle.ratio64.proofs.fraction.rounding.nearest.Goals as goal
 use Rattle.ratio64.proofs.fraction.rounding.nearest.Goals.{After-is_below, After-is_below-else-is_negative}
 
-pub div_rem-whole-requires-clause-nonzero : goal.div_rem-whole-requires-clause-nonzero
-div_rem-whole-requires-clause-nonzero g c = positive_is_nonzero c.requires.positive
-
 pub div_rem-whole-requires-clause-quotient_fits : goal.div_rem-whole-requires-clause-quotient_fits
 div_rem-whole-requires-clause-quotient_fits g c = λ q h. quotient_in_range c.requires.positive h.division.division g.met.T.Integer.range_law c.requires.in_range.0
 
 pub negated-requires-clause-negation_fits : goal.negated-requires-clause-negation_fits
-negated-requires-clause-negation_fits g c =
-    let h = c.div_rem-whole.ensures.truncated in
-    let below = c.is_negative.ensures.0 c.if-is_negative.true in
-    within_fits {z = neg_ℤ (g.T.Number.value c.div_rem-whole.result.1)} g.met.T.Integer.range_law c.requires.in_range.1 (inl (omega (arith, sizes), omega (arith, sizes)))
+negated-requires-clause-negation_fits g c = grind (arith, sizes, g.met.T.Integer.range_law)
 
 pub difference-requires-clause-difference_fits : goal.difference-requires-clause-difference_fits
 difference-requires-clause-difference_fits g c =

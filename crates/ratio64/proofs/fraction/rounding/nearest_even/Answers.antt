@@ -9,22 +9,18 @@ div_mod_floor-below-requires-clause-quotient_fits g c = λ q h. quotient_in_rang
 
 pub returns-then-is_even-clause-rounded : goal.returns-then-is_even-clause-rounded
 returns-then-is_even-clause-rounded g c =
-    let missing = c.difference-missing.ensures.value in
     rounded_even_below c.requires.positive c.div_mod_floor-below.ensures.floored (elim c.if-is_below.branch [
       | then-is_below w ↦ let less = c.is_below.ensures.0 w.if-is_below.true in inl (omega (arith, linear))
       | else-is_below+then-is_equal w ↦
-          let same = w.is_equal.ensures.0 w.if-is_equal.true in
           inr (omega (arith, linear), w.is_even.ensures.0 (sym w.value-is ∙ c.if-is_even.true))
       | else-is_below+else-is_equal w ↦ absurd cc
     ])
 
 above : (g : Over) (c : Else-is_even g) → IsRoundedEven (g.T.Number.value c.args.num) (g.T.Number.value c.args.den) (g.T.Number.value c.div_mod_floor-below.result.0 +ℤ pos 1)
 above g c =
-    let missing = c.difference-missing.ensures.value in
     elim c.if-is_below.branch [
       | then-is_below w ↦ absurd cc
       | else-is_below+then-is_equal w ↦
-          let same = w.is_equal.ensures.0 w.if-is_equal.true in
           rounded_even_above c.requires.positive c.div_mod_floor-below.ensures.floored (omega (arith, linear)) (λ _. iff_false w.is_even.ensures (sym w.value-is ∙ c.if-is_even.false))
       | else-is_below+else-is_equal w ↦
           let large = from_test c.is_below.ensures w.if-is_below.false in
