@@ -3,7 +3,7 @@ pub use Rattle.std.specs.Prelude.{FitsSigned, IfSome, IsTrue, MatchOption, None,
 pub use Rattle.std.proofs.Common.{ap, arith, le_refl, refl, rules, subst, sym, ◌∙◌}
 pub use Rattle.std.proofs.lemmas.Bool.Decides.{nat_tests}
 pub use Rattle.std.proofs.lemmas.Int.{by_lt_z, ints, to_z-of_z}
-pub use Rattle.std.specs.Int.{w64, w8}
+pub use Rattle.std.specs.Int.{w64}
 pub use Rattle.std.specs.Option.{SomeIff}
 pub use Rattle.applied.proofs.Laws.{rank_is_below}
 pub use Rattle.applied.specs.Schedules.{IsMeetingOfEach}
@@ -21,7 +21,7 @@ pub use Rattle.modular.specs.declared.common_solutions.CommonSolution.TheVariant
 pub use Rattle.num_integer.proofs.ForCallers.{least_is_only, linear, multiples_apart, sizes}
 pub use Rattle.num_integer.specs.Least.{IsLeastFrom}
 pub use Rattle.num_integer.specs.Only.{IsOnly}
-pub use Rattle.ratio64.proofs.ForCallers.{equal_exactly, equal_fractions_answered_alike, err_is_outside, greater_exactly, less_exactly, only_exact_result, quotient_is_exact, read, whole_is_exact, whole_is_multiple, zero_is_over_one}
+pub use Rattle.ratio64.proofs.ForCallers.{equal_fractions_answered_alike, err_is_outside, only_exact_result, quotient_is_exact, read, whole_is_exact, whole_is_multiple, zero_is_over_one}
 pub use Rattle.ratio64.proofs.Laws.{decimal_is_spelled, exact_result_exists, exact_result_is_only, nearest_is_only, order_is_total, order_over_one_denominator, rounded_even_is_only, spelled_decimal_is_only}
 pub use Rattle.ratio64.specs.Decimal.{SpellsDecimal, decimal_text, places_of, units_of}
 pub use Rattle.ratio64.specs.Fraction.{IsExact}

@@ -1,12 +1,9 @@
-use Rattle.theorems_by_subject.proofs.Common.{◌≡◌, ◌≤◌, ◌-ℤ◌, ◌+ℤ◌, ℤ, pos, FitsSigned, MatchOption, Option, Some, None, if◌then◌else◌, w64, SomeIff, ◌∙◌, ap, arith, refl, nat_tests, ints, to_z-of_z, is_leap_year, day_number, days_in_year, lengths_of_years, years_follow}
+use Rattle.theorems_by_subject.proofs.Common.{◌≡◌, ◌-ℤ◌, ◌+ℤ◌, ℤ, pos, FitsSigned, MatchOption, Option, Some, None, if◌then◌else◌, w64, SomeIff, ◌∙◌, ap, arith, refl, ints, to_z-of_z, is_leap_year, day_number, days_in_year, lengths_of_years, years_follow}
 use Rattle.calendar.specs.Years.{first_day}
 use Rattle.theorems_by_subject.proofs.dates.length_of_year.Goals as goal
 
 counted : (o : Option ℤ) (P Q : Type 0) (year next days : ℤ) → Q → next ≡ year +ℤ pos 1 → days ≡ day_number next 1 1 -ℤ day_number year 1 1 → SomeIff o (FitsSigned w64 days) days → MatchOption o P (λ d. Q × (d ≡ pos (if is_leap_year year then 366 else 365)))
-counted None P Q year next days below after e h =
-    let length = lengths_of_years year in
-    let short : days_in_year year ≤ 366 = grind (arith, nat_tests) in
-    absurd (h (omega (arith, ints, years_follow year, ap first_day after)))
+counted None P Q year next days below after e h = grind (arith, lengths_of_years, ints, years_follow)
 counted (Some d) P Q year next days below after e h =
     let length : days ≡ pos (days_in_year year) = omega (arith, ints, years_follow year, ap first_day after) in
     (below, h.1 ∙ (length ∙ ap pos (lengths_of_years year)))

@@ -2,9 +2,7 @@ use Rattle.theorems_by_subject.proofs.Common.{FitsSigned, w64, rules, to_z-of_z,
 use Rattle.theorems_by_subject.proofs.fractions.exact_parts.Goals as goal
 
 pub returns-in-Err-clause-parts : goal.returns-in-Err-clause-parts
-returns-in-Err-clause-parts c =
-    let answer = rw (to_z-of_z w64 _ c.ranges.num, to_z-of_z w64 _ c.ranges.den) at c.in-Err.ensures.fraction in
-    err_is_outside c.in-Err.field-0 c.requires answer
+returns-in-Err-clause-parts c = search (rules, to_z-of_z, err_is_outside)
 
 pub returns-in-Ok-clause-only : goal.returns-in-Ok-clause-only
 returns-in-Ok-clause-only c =
