@@ -1,8 +1,6 @@
 -- Bezout's coefficients: one pair alone is small, a row of the loop gives the answer, and each pair of numbers has one answer.
-use Rattle.integer_core.proofs.Common.{◌≡◌, ◌≢◌, ◌<◌, ◌*ℤ◌, ◌⊎◌, ◌≤◌, ◌+◌, ◌*◌, ◌-ℤ◌, IsBezoutAnswer, IsSmallPair, NeedsBoth, SecondDividesFirst, sign, FirstDividesSecond, ℤ, pos, negsuc, unsigned_abs, arith, inl, inr, sym, ◌∙◌, ap, zero-*ℤ, *ℤ-zero, +ℤ_idl, +ℤ_idr, ints, unsigned_abs-mul, abs_is, linear, products, expand, comm, Divides, IsGreatestCommonDivisor, IsOnly, refl, mul-le-mul_left, eq_of_mul-eq-mul_left, lt_of_mul-lt-mul_right, cases_lt}
-use Rattle.integer_core.proofs.Divisibility.{Divides-zero, cancel, divides_decided, divides_or_not, only_gcd, gcd-divisor, gcd-swap, gcd-nonzero, gcd-zero}
-use Rattle.integer_core.proofs.Quotients.{small_multiple, zero_or_not}
-use Rattle.integer_core.proofs.Whole.{mul-one}
+use Rattle.integer_core.proofs.Common.{◌≡◌, ◌≢◌, ◌<◌, ◌*ℤ◌, ◌⊎◌, ◌≤◌, ◌+◌, ◌*◌, ◌-ℤ◌, IsBezoutAnswer, IsSmallPair, NeedsBoth, SecondDividesFirst, sign, FirstDividesSecond, ℤ, pos, unsigned_abs, arith, inl, inr, sym, ◌∙◌, ap, zero-*ℤ, *ℤ-zero, +ℤ_idl, +ℤ_idr, ints, unsigned_abs-mul, abs_is, linear, products, expand, comm, Divides, IsGreatestCommonDivisor, IsOnly, refl, mul-le-mul_left, eq_of_mul-eq-mul_left, lt_of_mul-lt-mul_right, cases_lt}
+use Rattle.integer_core.proofs.Divisibility.{Divides-zero, cancel, divides_decided, divides_or_not, only_gcd, gcd-divisor, gcd-swap, gcd-nonzero, gcd-zero, small_multiple, zero_or_not, mul-one}
 use Rattle.integer_core.proofs.Rows.{rows_first, last_rows, last_gcd, last_at_once, last_after_iterations}
 
 small_pair_swapped : {a b g x y : ℤ} → IsSmallPair a b g x y → IsSmallPair b a g y x
@@ -11,9 +9,7 @@ small_pair_swapped h = record { equation = let e = h.equation in omega (arith, l
 -- by Cramer's rule the pairs' determinant times b is g times what the first coefficients differ by
 cramer : {a b g x y z w : ℤ} → IsSmallPair a b g x y → IsSmallPair a b g z w → (x *ℤ w -ℤ y *ℤ z) *ℤ b ≡ g *ℤ (x -ℤ z)
 cramer {x = x} {z = z} h i =
-    let onto_x = simp expand at (ap (λ (t : ℤ). x *ℤ t) i.equation) in
-    let onto_z = simp expand at (ap (λ (t : ℤ). z *ℤ t) h.equation) in
-    simp expand (omega (arith, linear))
+    simp expand (omega (arith, linear, simp expand at (ap (λ (t : ℤ). x *ℤ t) i.equation), simp expand at (ap (λ (t : ℤ). z *ℤ t) h.equation)))
 
 -- the determinant k of two small pairs is 0, 1 or -1, and says how their first coefficients x and z differ
 record IsDeterminant (b x z k : ℤ) : Type 0 where
@@ -40,10 +36,6 @@ determinant {a} {b} {g} {x} {y} {z} {w} nonzero h i =
           eq_of_mul-eq-mul_left (unsigned_abs g) positive (unsigned_abs x) (unsigned_abs z) (omega (arith, h.x_small, i.x_small));
     }
 
--- two numbers of one magnitude differ by an even number, and not by 1
-differ_by_even : (m n : ℤ) → unsigned_abs m ≡ unsigned_abs n → unsigned_abs (m -ℤ n) ≢ 1
-differ_by_even m n e one = omega (arith, linear, abs_is)
-
 pub only_small : {a b g x y : ℤ} → b ≢ pos 0 → g ≢ pos 0 → IsSmallPair a b g x y → IsOnly (λ (z, w). IsSmallPair a b g z w) (x, y)
 only_small {a} {b} {g} {x} {y} b_nonzero g_nonzero h (z, w) i =
     let first = determinant g_nonzero h i in
@@ -54,19 +46,18 @@ only_small {a} {b} {g} {x} {y} b_nonzero g_nonzero h (z, w) i =
           let one : unsigned_abs (x *ℤ w -ℤ y *ℤ z) ≡ 1 = omega (arith, first.at_most_one b_nonzero) in
           let same : unsigned_abs (x *ℤ w) ≡ unsigned_abs (y *ℤ z) =
           simp (unsigned_abs-mul, first.of_one one, second.of_one (opposite ∙ one)) (omega arith) in
-          absurd (differ_by_even (x *ℤ w) (y *ℤ z) same one)
+          -- two numbers of one magnitude differ by an even number
+          absurd (omega (arith, linear, abs_is))
       | inr none ↦ rw (first.of_zero (omega arith), second.of_zero (omega (arith, opposite))) refl
     ]
 
 -- ---- a row r, x, y under the sign of r
 
 pub sign_size : (r : ℤ) → sign r *ℤ r ≡ pos (unsigned_abs r)
-sign_size (pos n) = omega (arith, ints)
-sign_size (negsuc n) = omega (arith, ints)
+sign_size r = grind (arith, ints, sign)
 
 pub sign_keeps : (r z : ℤ) → unsigned_abs (sign r *ℤ z) ≡ unsigned_abs z
-sign_keeps (pos n) z = omega (arith, products, abs_is)
-sign_keeps (negsuc n) z = omega (arith, products, abs_is)
+sign_keeps r z = grind (arith, products, abs_is, sign)
 
 small_signed : {a b r x y : ℤ} → IsSmallPair a b r x y → IsSmallPair a b (sign r *ℤ r) (sign r *ℤ x) (sign r *ℤ y)
 small_signed {r = r} {x = x} {y = y} h = grind (arith, expand, linear, sign_keeps)
@@ -75,8 +66,7 @@ small_signed {r = r} {x = x} {y = y} h = grind (arith, expand, linear, sign_keep
 small_alone : {a b g x y : ℤ} → IsGreatestCommonDivisor a b g → Divides a b → a ≢ pos 0 → IsSmallPair a b g x y → (x ≡ sign a) × (y ≡ pos 0)
 small_alone {a} {b} {g} {x} {y} greatest divides nonzero h =
     let is : g ≡ pos (unsigned_abs a) = only_gcd greatest (gcd-swap (gcd-divisor divides)) in
-    let less : unsigned_abs (y *ℤ a) < unsigned_abs a = omega (arith, linear, abs_is, unsigned_abs-mul y a, rw is at h.y_small) in
-    let none = small_multiple y a less in
+    let none = small_multiple y a (omega (arith, linear, abs_is, unsigned_abs-mul y a, rw is at h.y_small)) in
     let size : x *ℤ a ≡ pos (unsigned_abs a) = omega (arith, products, rw (none, is) at h.equation) in
     (cancel a x (sign a) nonzero (comm a x ∙ size ∙ sym (sign_size a) ∙ comm (sign a) a), none)
 
@@ -135,11 +125,7 @@ bezout_answer_exists a b = elim (zero_or_not b) [
 
 -- a pair is in one of the three cases of an answer
 three_cases : (a b : ℤ) → SecondDividesFirst a b ⊎ (((¬ (SecondDividesFirst a b)) × FirstDividesSecond a b) ⊎ NeedsBoth a b)
-three_cases a b =
-    let zero = zero_or_not b in
-    let second = divides_decided b a in
-    let first = divides_decided a b in
-    grind arith
+three_cases a b = grind (arith, zero_or_not b, divides_decided b a, divides_decided a b)
 
 pub bezout_answer_is_only : (a b g x y : ℤ) → IsBezoutAnswer a b g x y → IsOnly (λ (h, z, w). IsBezoutAnswer a b h z w) (g, x, y)
 bezout_answer_is_only a b g x y p (h, z, w) q =

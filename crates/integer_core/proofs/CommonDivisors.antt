@@ -1,22 +1,14 @@
 -- Greatest common divisors and least common multiples.
-use Rattle.integer_core.proofs.Common.{◌≡◌, ◌≢◌, ◌⊎◌, ◌<◌, ◌≤ℤ◌, ◌*ℤ◌, ◌↔◌, ℤ, pos, unsigned_abs, int_div, arith, inl, inr, sym, ints, unsigned_abs-mul, linear, sizes, products, comm, left_comm, dist-left, Divides, IsGreatestCommonDivisor, IsLeastCommonMultiple, negsuc, GcdFits, IsRange, EachFits}
-use Rattle.integer_core.proofs.Quotients.{zero_or_not}
-use Rattle.integer_core.proofs.Divisibility.{Divides-trans, Divides-zero, Divides-antisym, magnitude_divides, divides_magnitude, Divides-sum, Divides-times, Divides-cancel, exact_quotient, divisor_size}
-use Rattle.integer_core.proofs.Ranges.{within_fits}
+use Rattle.integer_core.proofs.Common.{rules, ◌≡◌, ◌≢◌, ◌⊎◌, ◌<◌, ◌≤ℤ◌, ◌*ℤ◌, ◌↔◌, ℤ, pos, unsigned_abs, int_div, arith, inl, inr, sym, ints, unsigned_abs-mul, linear, sizes, products, comm, left_comm, dist-left, Divides, IsGreatestCommonDivisor, IsLeastCommonMultiple, GcdFits, IsRange, EachFits}
+pub use Rattle.integer_core.proofs.Divisibility.{Divides-trans, Divides-zero, Divides-antisym, magnitude_divides, divides_magnitude, Divides-sum, Divides-times, Divides-cancel, exact_quotient, divisor_size, only_gcd, gcd-swap, gcd-nonzero, gcd-positive, gcd-divisor, gcd-zero, gcd-remainder, zero_or_not, cancel, zero_divides, from_natural, to_natural, Divides-minus_one, divides_from_exact, exact_from_divides, mul-one}
+pub use Rattle.integer_core.proofs.Ranges.{within_fits, no_minus_one, lcm_is_magnitude, magnitude_by_distance}
 use Rattle.integer_core.proofs.BezoutAnswers.{bezout_answer_exists}
-pub use Rattle.integer_core.proofs.Divisibility.{only_gcd, gcd-swap, gcd-nonzero, gcd-positive, gcd-divisor, gcd-zero, gcd-remainder}
-pub use Rattle.integer_core.proofs.Ranges.{no_minus_one}
 
 -- ---- greatest common divisors
 
 -- two numbers have that of their magnitudes
 pub gcd-magnitudes : {a b m n g : ℤ} → m ≡ pos (unsigned_abs a) → n ≡ pos (unsigned_abs b) → IsGreatestCommonDivisor m n g → IsGreatestCommonDivisor a b g
-gcd-magnitudes {a} {b} e f x = record {
-  from_zero = x.from_zero;
-  divides_left = Divides-trans (rw e at x.divides_left) (magnitude_divides a);
-  divides_right = Divides-trans (rw f at x.divides_right) (magnitude_divides b);
-  greatest = λ d h k. x.greatest d (rw e (Divides-trans h (divides_magnitude a))) (rw f (Divides-trans k (divides_magnitude b)));
-}
+gcd-magnitudes e f x = let y = rw (e, f) at x in search (rules, Divides-trans, magnitude_divides, divides_magnitude, y.greatest)
 
 pub gcd_exists : (a b : ℤ) → (g : ℤ) × IsGreatestCommonDivisor a b g
 gcd_exists a b = let h = bezout_answer_exists a b in (h.0, h.3.greatest)
@@ -29,12 +21,7 @@ divides_multiple {a = a} {b = b} k x h m =
 
 -- a common factor comes out
 pub gcd-times : {a b g : ℤ} (k : ℤ) → pos 0 ≤ℤ k → IsGreatestCommonDivisor a b g → IsGreatestCommonDivisor (k *ℤ a) (k *ℤ b) (k *ℤ g)
-gcd-times k up x = record {
-  from_zero = grind (arith, products);
-  divides_left = Divides-times k x.divides_left;
-  divides_right = Divides-times k x.divides_right;
-  greatest = λ d. divides_multiple k x;
-}
+gcd-times {g = g} k up x = let from_zero : pos 0 ≤ℤ (k *ℤ g) = grind (arith, products) in search (rules, Divides-times, divides_multiple)
 
 -- ---- least common multiples
 
@@ -47,12 +34,7 @@ lcm_is_symmetric a b l x = record { from_zero = x.from_zero; left_divides = x.ri
 
 -- the lcm with 0 is 0
 pub lcm-zero : {a b : ℤ} → (a ≡ pos 0) ⊎ (b ≡ pos 0) → IsLeastCommonMultiple a b (pos 0)
-lcm-zero with_zero = record {
-  from_zero = omega (arith, ints);
-  left_divides = Divides-zero _;
-  right_divides = Divides-zero _;
-  least = λ m h k. elim with_zero [ inl none ↦ rw none at h | inr none ↦ rw none at k ];
-}
+lcm-zero with_zero = grind (arith, ints, Divides-zero)
 
 -- a number that times the gcd is the magnitude of the product is the lcm
 pub lcm-product : {a b g l : ℤ} → IsGreatestCommonDivisor a b g → b ≢ pos 0 → pos (unsigned_abs (a *ℤ b)) ≡ g *ℤ l → IsLeastCommonMultiple a b l
@@ -63,9 +45,8 @@ lcm-product {a} {b} {g} {l} x b_nonzero e =
       left_divides = Divides-cancel g nonzero (rw (← e, comm g a) (Divides-trans (Divides-times a x.divides_right) (divides_magnitude _)));
       right_divides = Divides-cancel g nonzero (rw (← e, comm g b, comm a b) (Divides-trans (Divides-times b x.divides_left) (divides_magnitude _)));
       least = λ u h k.
-          let left : Divides (a *ℤ b) (u *ℤ a) = rw (comm u a) (Divides-times a k) in
-          let right : Divides (a *ℤ b) (u *ℤ b) = rw (comm u b, comm a b) (Divides-times b h) in
-          Divides-cancel g nonzero (rw (← e, comm g u) (Divides-trans (magnitude_divides _) (divides_multiple u x left right)));
+          let multiple = divides_multiple {d = a *ℤ b} u x (rw (comm u a) (Divides-times a k)) (rw (comm u b, comm a b) (Divides-times b h)) in
+          Divides-cancel g nonzero (rw (← e, comm g u) (Divides-trans (magnitude_divides _) multiple));
     }
 
 -- computed on the magnitudes by a quotient
@@ -81,12 +62,7 @@ lcm-of-sizes a_up b_up b_positive x u v = lcm-computed (omega (arith, sizes, a_u
 
 -- two numbers have that of their magnitudes
 pub lcm-magnitudes : {a b m n l : ℤ} → m ≡ pos (unsigned_abs a) → n ≡ pos (unsigned_abs b) → IsLeastCommonMultiple m n l → IsLeastCommonMultiple a b l
-lcm-magnitudes {a} {b} e f x = record {
-  from_zero = x.from_zero;
-  left_divides = Divides-trans (rw e (divides_magnitude a)) x.left_divides;
-  right_divides = Divides-trans (rw f (divides_magnitude b)) x.right_divides;
-  least = λ u h k. x.least u (rw e (Divides-trans (magnitude_divides a) h)) (rw f (Divides-trans (magnitude_divides b) k));
-}
+lcm-magnitudes e f x = let y = rw (e, f) at x in search (rules, Divides-trans, magnitude_divides, divides_magnitude, y.least)
 
 -- every pair has one, and times the gcd it is the magnitude of the product
 lcm_of_gcd : {a b g : ℤ} → IsGreatestCommonDivisor a b g → (l : ℤ) × IsLeastCommonMultiple a b l × (g *ℤ l ≡ pos (unsigned_abs (a *ℤ b)))
@@ -116,9 +92,6 @@ module _ {fits : ℤ → Type 0} {low high : ℤ} (range : IsRange fits low high
 
   pub gcd_fits_is : {a b : ℤ} → fits a → fits b → GcdFits fits a b ↔ EachFits fits (IsGreatestCommonDivisor a b)
   gcd_fits_is a_fits b_fits = (
-    λ h. elim (zero_or_not low) [
-      | inl none ↦ unsigned_gcd_fits none a_fits b_fits
-      | inr signed ↦ h ((range.between (negsuc 0)).1 (grind (arith, linear)))
-    ],
+    λ h. elim (zero_or_not low) [ inl none ↦ unsigned_gcd_fits none a_fits b_fits | inr signed ↦ h ((range.between _).1 (grind (arith, linear))) ],
     λ h _. h,
   )

@@ -1,8 +1,8 @@
 -- Divisors of integers, and the greatest common one.
-use Rattle.integer_core.proofs.Common.{mod-eq_of_lt, mul-div_cancel', quot-rem, ◌<ℤ◌, IsGreatestCommonDivisor, ◌≡◌, ◌≢◌, ◌/◌, ◌≤ℤ◌, ◌+ℤ◌, ◌-ℤ◌, ◌*ℤ◌, ◌⊎◌, ◌≤◌, ℤ, pos, negsuc, neg_ℤ, unsigned_abs, int_div, arith, sym, ◌∙◌, ap, ints, unsigned_abs-mul, dvd_antisymm, mod-eq-zero_of_dvd, ◌∣◌, linear, sizes, products, expand, assoc, IsDivision, Divides, abs_is, le_of_dvd}
+use Rattle.integer_core.proofs.Common.{rules, dvd_refl, mod-eq_of_lt, mul-div_cancel', quot-rem, ◌<ℤ◌, IsGreatestCommonDivisor, ◌≡◌, ◌≢◌, ◌/◌, ◌≤ℤ◌, ◌+ℤ◌, ◌-ℤ◌, ◌*ℤ◌, ◌⊎◌, ◌≤◌, ℤ, pos, negsuc, neg_ℤ, unsigned_abs, int_div, arith, sym, ◌∙◌, ap, ints, unsigned_abs-mul, dvd_antisymm, mod-eq-zero_of_dvd, ◌∣◌, linear, sizes, products, expand, assoc, IsDivision, Divides, abs_is, le_of_dvd}
 use Rattle.std.proofs.Math.Decide.{dec_dvd}
-use Rattle.integer_core.proofs.Whole.{mul-one}
-use Rattle.integer_core.proofs.Quotients.{small_multiple, truncated_is}
+pub use Rattle.integer_core.proofs.Whole.{mul-one}
+pub use Rattle.integer_core.proofs.Quotients.{small_multiple, truncated_is, zero_or_not, only_truncated}
 
 pub to_natural : {u v : ℤ} → Divides u v → unsigned_abs u ∣ unsigned_abs v
 to_natural {u} h = ∣ (unsigned_abs h.factor, ap unsigned_abs h.product ∙ unsigned_abs-mul u h.factor) ∣₁
@@ -62,8 +62,7 @@ abs_zero z h = omega (arith, ints)
 
 -- a number leaves no remainder exactly if the divisor divides it
 pub exact_from_divides : {n d q r : ℤ} → IsDivision n d q r → Divides d n → r ≡ pos 0
-exact_from_divides {d = d} x h =
-    abs_zero _ (sym (mod-eq_of_lt x.small) ∙ mod-eq-zero_of_dvd _ (to_natural (divides_remainder x h (Divides-refl d))))
+exact_from_divides {d = d} x h = abs_zero _ (sym (mod-eq_of_lt x.small) ∙ mod-eq-zero_of_dvd _ (to_natural (divides_remainder x h (Divides-refl d))))
 
 pub divides_from_exact : {n d q r : ℤ} → IsDivision n d q r → r ≡ pos 0 → Divides d n
 divides_from_exact {q = q} x exact = record { factor = q; product = omega (arith, products) }
@@ -122,12 +121,7 @@ gcd-positive x nonzero = let g_nonzero = gcd-nonzero x nonzero in omega (arith, 
 
 -- the gcd of a number and a divisor is the magnitude of the divisor
 pub gcd-divisor : {d n : ℤ} → Divides d n → IsGreatestCommonDivisor n d (pos (unsigned_abs d))
-gcd-divisor {d} h = record {
-  from_zero = omega (arith, ints);
-  divides_left = Divides-trans (magnitude_divides d) h;
-  divides_right = magnitude_divides d;
-  greatest = λ c left right. Divides-trans right (divides_magnitude d);
-}
+gcd-divisor h = grind (arith, ints, to_natural, from_natural, dvd_refl)
 
 -- the gcd with 0 is the magnitude
 pub gcd-zero : (a : ℤ) → IsGreatestCommonDivisor a (pos 0) (pos (unsigned_abs a))
@@ -135,9 +129,4 @@ gcd-zero a = gcd-swap (gcd-divisor (Divides-zero a))
 
 -- a number and a divisor have that of the divisor and the remainder
 pub gcd-remainder : {g n d q r : ℤ} → IsDivision n d q r → IsGreatestCommonDivisor d r g → IsGreatestCommonDivisor n d g
-gcd-remainder x y = record {
-  from_zero = y.from_zero;
-  divides_left = divides_number x y.divides_left y.divides_right;
-  divides_right = y.divides_left;
-  greatest = λ u h k. y.greatest u k (divides_remainder x h k);
-}
+gcd-remainder x y = search (rules, divides_number, divides_remainder, y.greatest)

@@ -1,9 +1,6 @@
 -- How large divisors and multiples are.
 use Rattle.integer_core.proofs.Common.{◌≡◌, ◌≢◌, ◌<◌, ◌≤◌, ◌≤ℤ◌, ◌<ℤ◌, ◌*ℤ◌, ℤ, ℕ, pos, unsigned_abs, arith, ◌∙◌, from_not_less, inl, inr, refl, ints, IsRange, Divides, IsGreatestCommonDivisor, IsLeastCommonMultiple, comm, linear, products, sizes}
-use Rattle.integer_core.proofs.CommonDivisors.{gcd-swap, gcd-zero, only_gcd}
-use Rattle.integer_core.proofs.Divisibility.{cancel, zero_divides, divisor_size}
-use Rattle.integer_core.proofs.Quotients.{zero_or_not}
-use Rattle.integer_core.proofs.Ranges.{within_fits}
+use Rattle.integer_core.proofs.CommonDivisors.{gcd-swap, gcd-zero, only_gcd, cancel, zero_divides, divisor_size, zero_or_not, within_fits}
 
 -- a divisor of a positive number is at most that number
 pub divisor_at_most : {u v : ℤ} → pos 0 <ℤ v → Divides u v → u ≤ℤ v
@@ -28,11 +25,10 @@ small_multiple_is_zero {u} {v} h small = grind (arith, sizes, divisor_size)
 pub lcm_at_most_product : {a b l : ℤ} → IsLeastCommonMultiple a b l → l ≤ℤ pos (unsigned_abs (a *ℤ b))
 lcm_at_most_product {a} {b} {l} h = from_not_less (λ more.
     let x = h.least (a *ℤ b) (record { factor = b; product = refl }) (record { factor = a; product = comm a b }) in
-    let none : a *ℤ b ≡ pos 0 = small_multiple_is_zero x (omega (arith, sizes)) in
     elim (zero_or_not a) [
       | inl zero ↦ omega (arith, linear, zero_divides (rw zero at h.left_divides))
       | inr nonzero ↦
-          let zero = cancel a b (pos 0) nonzero (none ∙ omega (arith, products)) in
+          let zero = cancel a b (pos 0) nonzero (small_multiple_is_zero x (omega (arith, sizes)) ∙ omega (arith, products)) in
           omega (arith, sizes, zero_divides (rw zero at h.right_divides))
     ])
 

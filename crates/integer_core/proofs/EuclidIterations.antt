@@ -1,7 +1,6 @@
 -- Iterations of Euclid's loop: what a division says of magnitudes, that each state has one iteration at most, and that the iterations are few.
 use Rattle.integer_core.proofs.Common.{◌≡◌, ◌≢◌, ◌⊎◌, ◌<◌, ◌≤◌, ◌+◌, ◌*◌, ◌^◌, ◌∷◌, AreEuclidIterations, IsEuclidIteration, Remainders, EuclidEnds, ℤ, ℕ, pos, zero, suc, unsigned_abs, arith, inl, inr, sym, ◌∙◌, ap, lt_of_not-le, unsigned_abs-mul, abs_is, linear, IsTruncated, Divides, IsOnly, List, [], length, subst, pow-succ', IsRun, RunHasIterations}
-use Rattle.integer_core.proofs.Divisibility.{Divides-trans, divides_magnitude, divides_from_exact, divides_remainder, divisor_size, one_divides}
-use Rattle.integer_core.proofs.Quotients.{zero_or_not, only_truncated}
+use Rattle.integer_core.proofs.Divisibility.{Divides-trans, divides_magnitude, divides_from_exact, divides_remainder, divisor_size, one_divides, zero_or_not, only_truncated}
 use Rattle.integer_core.proofs.Runs.{only_iterations}
 use Rattle.integer_core.specs.Fibonacci.{fibonacci}
 
@@ -28,8 +27,7 @@ not_one {n} {d} goes_on nonzero = lt_of_not-le (λ less.
 
 -- a larger multiple is at least twice as large
 pub twice : {d n : ℤ} → Divides d n → unsigned_abs d < unsigned_abs n → 2 * unsigned_abs d ≤ unsigned_abs n
-twice {d} h less =
-    omega (arith, ap unsigned_abs h.product, unsigned_abs-mul d h.factor, multiple_size (unsigned_abs h.factor) (unsigned_abs d))
+twice {d} h less = omega (arith, ap unsigned_abs h.product, unsigned_abs-mul d h.factor, multiple_size (unsigned_abs h.factor) (unsigned_abs d))
 
 -- ---- the iterations are the only ones
 
@@ -77,13 +75,10 @@ lame {b = b} g nonzero makes left right =
 
 -- ---- so the iterations are fewer than twice the bits of b
 
-fibonacci_positive : (n : ℕ) → 1 ≤ fibonacci (suc n)
-fibonacci_positive zero = omega arith
-fibonacci_positive (suc n) = omega (arith, fibonacci_positive n)
-
 -- a Fibonacci number is at least twice the one two before it
 fibonacci_doubled : (k n : ℕ) → k + k ≤ n → 2 ^ k ≤ fibonacci (suc (suc n))
-fibonacci_doubled zero n h = fibonacci_positive (suc n)
+fibonacci_doubled zero zero h = omega arith
+fibonacci_doubled zero (suc n) h = omega (arith, fibonacci_doubled zero n (omega arith))
 fibonacci_doubled (suc k) zero h = absurd (omega arith)
 fibonacci_doubled (suc k) (suc zero) h = absurd (omega arith)
 fibonacci_doubled (suc k) (suc (suc n)) h = rw pow-succ' (omega (arith, fibonacci_doubled k n (omega arith)))

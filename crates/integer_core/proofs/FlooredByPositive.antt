@@ -1,9 +1,8 @@
 -- Quotients, remainders and multiples by a positive number.
-use Rattle.integer_core.proofs.Common.{◌≡◌, ◌≢◌, ◌≤ℤ◌, ◌<ℤ◌, ◌+ℤ◌, ◌-ℤ◌, ◌*ℤ◌, ℤ, pos, int_div, arith, ◌∙◌, subst, from_not_less, IsCeiled, IsDivision, IsFloored, IsMultiple, IsQuotient, IsRemainder, EachFits, IsRange, Divides, comm, expand, linear, products, sizes}
+use Rattle.integer_core.proofs.Common.{◌≡◌, ◌≢◌, ◌≤ℤ◌, ◌<ℤ◌, ◌+ℤ◌, ◌-ℤ◌, ◌*ℤ◌, ℤ, pos, int_div, arith, subst, from_not_less, IsCeiled, IsDivision, IsFloored, IsMultiple, IsQuotient, IsRemainder, EachFits, IsRange, Divides, comm, expand, linear, products, sizes}
 use Rattle.integer_core.proofs.OrderedProducts.{multiples_apart}
-use Rattle.integer_core.proofs.Quotients.{only_floored, other_quotient_fits, truncated_is}
-use Rattle.integer_core.proofs.Coprimes.{Divides-difference}
-use Rattle.integer_core.proofs.DivisorSizes.{divisor_at_most}
+pub use Rattle.integer_core.proofs.Quotients.{only_floored, other_quotient_fits, truncated_is}
+use Rattle.integer_core.proofs.Coprimes.{Divides-difference, divisor_at_most}
 
 -- the remainder of a floored division lies from 0 to below the divisor
 pub floored_range : {n d q r : ℤ} → pos 0 <ℤ d → IsFloored n d q r → (pos 0 ≤ℤ r) × (r <ℤ d)
@@ -15,8 +14,7 @@ floored_remainder_range up h = floored_range up h.division
 
 -- a remainder from 0 to below the divisor is that of the quotient rounded down
 pub floored_by_range : {n d q r : ℤ} → n ≡ q *ℤ d +ℤ r → pos 0 ≤ℤ r → r <ℤ d → IsFloored n d q r
-floored_by_range equation from_zero below =
-    record { division = record { equation = equation; small = omega (arith, sizes) }; sign = grind (arith, linear) }
+floored_by_range equation from_zero below = grind (arith, sizes)
 
 -- the pair of a floored quotient and remainder is the only one whose remainder lies from 0 to below the divisor
 pub only_pair_by_range : {n d q r p s : ℤ} → IsFloored n d q r → n ≡ p *ℤ d +ℤ s → pos 0 ≤ℤ s → s <ℤ d → (p ≡ q) × (s ≡ r)
@@ -32,31 +30,24 @@ ceiled_remainder_range up h = (omega (arith, sizes, h.sign, h.division.small), o
 
 -- a remainder from above the divisor's negation to 0 is that of the quotient rounded up
 pub ceiled_by_range : {n d q r : ℤ} → n ≡ q *ℤ d +ℤ r → r ≤ℤ pos 0 → pos 0 <ℤ (r +ℤ d) → IsCeiled n d q r
-ceiled_by_range equation to_zero above =
-    record { division = record { equation = equation; small = omega (arith, sizes) }; sign = grind (arith, linear) }
+ceiled_by_range equation to_zero above = grind (arith, sizes)
 
 -- a ceiled quotient is the smallest number whose multiple is not below the dividend
 pub ceiled_quotient_least : {n d q : ℤ} → pos 0 <ℤ d → IsQuotient IsCeiled n d q → (n ≤ℤ (q *ℤ d)) × ((m : ℤ) → n ≤ℤ (m *ℤ d) → q ≤ℤ m)
 ceiled_quotient_least {n} {d} {q} up h =
-    let range = ceiled_remainder_range up h.division in
-    let equation = h.division.division.equation in (
-      omega (arith, linear),
-      λ m above. from_not_less (λ less. omega (arith, linear, multiples_apart m q d up less)),
-    )
+    let near : (n ≤ℤ (q *ℤ d)) × ((q *ℤ d) <ℤ (n +ℤ d)) = grind (arith, linear, ceiled_remainder_range) in
+    (near.0, λ m above. from_not_less (λ less. omega (arith, linear, near.1, multiples_apart m q d up less)))
 
 -- the next multiple is the smallest one that is at least the number
 pub next_multiple_least : {n d m : ℤ} → pos 0 <ℤ d → IsMultiple IsCeiled n d m
     → (n ≤ℤ m) × (m <ℤ (n +ℤ d)) × Divides d m × ((u : ℤ) → n ≤ℤ u → Divides d u → m ≤ℤ u)
 next_multiple_least {n} {d} {m} up h =
-    let range = ceiled_remainder_range up h.is.division in
-    let equation = h.is.division.division.equation in
-    let divides : Divides d m = record { factor = h.quotient; product = h.product ∙ comm h.quotient d } in
-    let product = h.product in (
-      omega (arith, linear),
-      omega (arith, linear),
-      divides,
+    let near : (n ≤ℤ m) × (m <ℤ (n +ℤ d)) × Divides d m = grind (arith, linear, ceiled_remainder_range, comm) in (
+      near.0,
+      near.1,
+      near.2,
       λ u above x. from_not_less (λ less.
-          omega (arith, linear, divisor_at_most {v = m -ℤ u} (omega (arith, linear)) (Divides-difference divides x))),
+          omega (arith, linear, divisor_at_most {v = m -ℤ u} (omega (arith, linear)) (Divides-difference near.2 x))),
     )
 
 -- if that multiple does not fit, no smallest multiple that is at least the number does

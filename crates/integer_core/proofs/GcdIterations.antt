@@ -1,13 +1,12 @@
 -- That the iterations of Stein's loop are the only ones, and that each number has a bit length.
-use Rattle.integer_core.proofs.Common.{◌≡◌, ◌⊎◌, ◌^◌, ◌<◌, ◌≤◌, AreGcdIterations, GcdEnds, IsBitLength, IsGcdIteration, IsOddPart, IsZeroOrLeast, MakesGcdRun, OddPair, ℤ, ℕ, zero, suc, unsigned_abs, arith, inl, inr, sym, ◌∙◌, subst, pow_mono, dvd-mul_right, lt_of_not-le, pow-succ', cases_lt, dvd_antisymm, ◌∣◌, linear, IsOnly}
+use Rattle.integer_core.proofs.Common.{◌≡◌, ◌⊎◌, ◌^◌, ◌<◌, ◌≤◌, AreGcdIterations, IsBitLength, IsGcdIteration, IsOddPart, IsZeroOrLeast, MakesGcdRun, OddPair, ℤ, ℕ, zero, suc, unsigned_abs, arith, inl, inr, sym, ◌∙◌, subst, pow_mono, dvd-mul_right, lt_of_not-le, pow-succ', cases_lt, dvd_antisymm, ◌∣◌, linear, IsOnly}
 use Rattle.integer_core.proofs.NaturalGcd.{odd_divides}
 use Rattle.integer_core.proofs.Runs.{only_iterations}
 
 -- ---- the iterations are the only ones
 
 odd_part_divides : {n k m : ℕ} → IsOddPart n k → IsOddPart n m → k ∣ m
-odd_part_divides {n} {k} {m} h i =
-    odd_divides k m i.twos h.odd (subst (λ (x : ℕ). k ∣ x) (sym h.product ∙ i.product) (dvd-mul_right k (2 ^ h.twos)))
+odd_part_divides {n} {k} {m} h i = odd_divides k m i.twos h.odd (subst (λ (x : ℕ). k ∣ x) (sym h.product ∙ i.product) (dvd-mul_right k (2 ^ h.twos)))
 
 only_odd_part : {n m k : ℕ} → IsOddPart n m → IsOddPart n k → k ≡ m
 only_odd_part h i = dvd_antisymm (odd_part_divides i h) (odd_part_divides h i)
@@ -22,13 +21,10 @@ only_gcd_iteration s t (inl left) u (inr other) = absurd (omega (arith, left.abo
 only_gcd_iteration s t (inr right) u (inl other) = absurd (omega (arith, right.above, other.above))
 only_gcd_iteration s t (inr right) u (inr other) = same_pair (other.m ∙ sym right.m) (only_odd_part right.n other.n)
 
-no_gcd_iteration : (s t : OddPair) → GcdEnds s → ¬ (IsGcdIteration s t)
-no_gcd_iteration s t ends h = grind arith
-
 only_gcd_run : {a b n : ℕ} → MakesGcdRun a b n → IsOnly (MakesGcdRun a b) n
 only_gcd_run h m i =
     let first : i.first ≡ h.first = same_pair (only_odd_part h.left i.left) (only_odd_part h.right i.right) in
-    only_iterations only_gcd_iteration no_gcd_iteration h.run m (rw first at i.run)
+    only_iterations only_gcd_iteration (λ s t ends iteration. grind arith) h.run m (rw first at i.run)
 
 zero_or_least : (low a b : ℤ) → (IsZeroOrLeast low a ⊎ IsZeroOrLeast low b) ⊎ ((¬ (IsZeroOrLeast low a)) × (¬ (IsZeroOrLeast low b)))
 zero_or_least low a b = grind (arith, linear)

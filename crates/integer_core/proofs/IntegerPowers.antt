@@ -11,13 +11,10 @@ pub power_of_zero : (n : ℕ) → 0 < n → 0 ^ n ≡ 0
 power_of_zero n h = omega (arith, pow-lt-pow_left {a = 0} {b = 1} {n = n} (omega arith) (omega arith), power_of_one n)
 
 pub even_power : (k : ℤ) (n : ℕ) → n % 2 ≡ 0 → int_pow k n ≡ pos (unsigned_abs k ^ n)
-even_power (pos a) n even = refl
-even_power (negsuc a) n even = rw even refl
+even_power k n even = grind (arith, int_pow, unsigned_abs)
 
 pub odd_power : (k : ℤ) (n : ℕ) → n % 2 ≡ 1 → int_pow (neg_ℤ k) n ≡ neg_ℤ (int_pow k n)
-odd_power (pos zero) n odd = let none = power_of_zero n (omega arith) in rw none refl
-odd_power (pos (suc a)) n odd = rw odd refl
-odd_power (negsuc a) n odd = rw odd (omega (arith, ints))
+odd_power k n odd = grind (arith, ints, power_of_zero, int_pow)
 
 pub even_or_odd : (n : ℕ) → (n % 2 ≡ 0) ⊎ (n % 2 ≡ 1)
 even_or_odd n = elim (cases_lt (n % 2) 1) [ inl even ↦ inl (omega arith) | inr odd ↦ inr (omega arith) ]
@@ -27,8 +24,7 @@ power_size (pos a) n = refl
 power_size (negsuc a) n = grind arith
 
 pub int_pow-zero : (x : ℤ) → int_pow x 0 ≡ pos 1
-int_pow-zero (pos a) = ap pos (pow-zero a)
-int_pow-zero (negsuc a) = ap pos (pow-zero (suc a))
+int_pow-zero x = grind (arith, ints, int_pow, pow-zero)
 
 pub int_pow-suc : (x : ℤ) (n : ℕ) → int_pow x (suc n) ≡ x *ℤ int_pow x n
 int_pow-suc (pos a) n = ap pos (pow-succ' a n)

@@ -22,3 +22,4 @@ pub mod DivisionKinds
 pub mod IntegerPowers
 pub mod WrittenTexts
 pub mod PaddedTexts
+pub mod ForAnswers

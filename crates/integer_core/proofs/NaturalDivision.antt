@@ -1,8 +1,7 @@
 -- Division of natural numbers, as `/` and `%` say it.
-use Rattle.integer_core.proofs.Common.{◌≡◌, ◌↔◌, ◌<◌, ◌≤◌, ◌+◌, ◌-◌, ◌*◌, ◌/◌, ◌%◌, ◌^◌, ◌≤ℤ◌, ◌<ℤ◌, ◌+ℤ◌, ◌*ℤ◌, ℤ, ℕ, pos, unsigned_abs, FitsUnsignedBits, arith, ap, ints, div-add-mod', div_below, le-div, mul-lt, div-le_self, IsFloored, IsQuotient, IsRemainder, EachFits, Divides, IsLeastCommonMultiple, products, suc, IsCeiled, linear}
-use Rattle.integer_core.proofs.Divisibility.{Divides-trans, divides_magnitude, magnitude_divides}
-use Rattle.integer_core.proofs.Quotients.{only_floored}
-use Rattle.integer_core.proofs.FlooredByPositive.{floored_by_range, ceiled_remainder_range, floored_range}
+use Rattle.integer_core.proofs.Common.{◌≡◌, ◌↔◌, ◌<◌, ◌≤◌, ◌+◌, ◌-◌, ◌*◌, ◌/◌, ◌%◌, ◌^◌, ◌≤ℤ◌, ◌<ℤ◌, ◌+ℤ◌, ◌*ℤ◌, ℤ, ℕ, pos, unsigned_abs, FitsUnsignedBits, arith, ap, ints, div-add-mod', div_below, le-div, mul-lt, mul-sub, mul-le-mul_left, div-le_self, dvd_of_mod-eq-zero, mod-eq-zero_of_dvd, IsFloored, IsQuotient, IsRemainder, EachFits, Divides, IsLeastCommonMultiple, suc, IsCeiled, linear}
+use Rattle.integer_core.proofs.Divisibility.{from_natural, to_natural}
+use Rattle.integer_core.proofs.FlooredByPositive.{floored_by_range, ceiled_remainder_range, floored_range, only_floored}
 use Rattle.integer_core.proofs.DivisorSizes.{divisor_at_most, lcm-positive}
 
 -- the quotient and the remainder of natural numbers are floored
@@ -27,19 +26,13 @@ natural_quotient_fits bits {n} {d} small up q h = rw (only_floored h.division (n
 
 -- d divides n exactly if the remainder of `%` is 0
 pub divides_is_natural : {d n : ℕ} → 0 < d → Divides (pos d) (pos n) ↔ (n % d ≡ 0)
-divides_is_natural {d} {n} up = (
-  λ h.
-      let own : IsRemainder IsFloored (pos n) (pos d) (pos 0) = record { quotient = h.factor; division = floored_by_range (omega (arith, products, h.product)) (omega (arith, ints)) (omega (arith, ints)) } in
-      omega (arith, ints, remainder_is_natural up own),
-  λ e. record { factor = pos (n / d); product = omega (arith, ints) },
-)
+divides_is_natural up = (λ h. mod-eq-zero_of_dvd _ (to_natural h), λ e. from_natural (dvd_of_mod-eq-zero _ e))
 
 -- l / a and l / b, where l is the lcm, are the least turns of wheels of a and b teeth that end where they began
 pub least_turns : {a b l : ℕ} → 0 < a → 0 < b → IsLeastCommonMultiple (pos a) (pos b) (pos l)
     → (0 < l / a) × (l / a * a ≡ l / b * b) × ((x y : ℕ) → 0 < x → x * a ≡ y * b → (l / a ≤ x) × (l / b ≤ y))
 least_turns {a} {b} {l} a_up b_up h =
-    let up : pos 0 <ℤ pos l = lcm-positive h (λ e. omega (arith, ints)) (λ e. omega (arith, ints)) in
-    let most : pos a ≤ℤ pos l = divisor_at_most up h.left_divides in (
+    let most : pos a ≤ℤ pos l = divisor_at_most (lcm-positive h (λ e. omega (arith, ints)) (λ e. omega (arith, ints))) h.left_divides in (
       le-div 1 l a a_up (omega (arith, ints)),
       omega (arith, (divides_is_natural a_up).0 h.left_divides, (divides_is_natural b_up).0 h.right_divides),
       λ x y x_up e.
@@ -55,24 +48,18 @@ least_turns {a} {b} {l} a_up b_up h =
 pub quotients_grow : {m n : ℕ} (d : ℕ) → 0 < d → m ≤ n → m / d ≤ n / d
 quotients_grow {m} {n} d up grow = le-div (m / d) n d up (omega (arith, div-add-mod' m d))
 
-difference_near : (p q m n w r s d : ℕ) → p ≤ q → p * d + r ≡ m → q * d + s ≡ n → m + w ≡ n → r < d → s < d → ((q - p) * d < w + d) × (w < (q - p) * d + d)
-difference_near p q m n w r s d grow before after more r_small s_small =
-    let back : (q - p) + p ≡ q = omega arith in
-    let gap : ((q - p) + p) * d ≡ q * d = ap (λ (t : ℕ). t * d) back in
-    (omega arith, omega arith)
-
 -- If n is w more than m, the difference of their quotients by d is off w / d by less than 1.
 pub near : (m w d : ℕ) {n : ℕ} → 0 < d → m + w ≡ n → ((n / d - m / d) * d < w + d) × (w < (n / d - m / d) * d + d)
 near m w d {n} up more =
-    difference_near (m / d) (n / d) m n w (m % d) (n % d) d (quotients_grow d up (omega arith)) (div-add-mod' m d) (div-add-mod' n d) more (omega arith) (omega arith)
+    let gap = mul-sub d (n / d) (m / d) in
+    let grow = mul-le-mul_left d (quotients_grow {m = m} {n = n} d up (omega arith)) in
+    (omega arith, omega arith)
 
 -- ---- division by literals
 
 -- a floored quotient by inequalities
 pub floored_quotient_range : {n q : ℤ} {d : ℕ} → IsQuotient IsFloored n (pos (suc d)) q → ((q *ℤ pos (suc d)) ≤ℤ n) × (n <ℤ (q *ℤ pos (suc d) +ℤ pos (suc d)))
-floored_quotient_range h =
-    let range = floored_range (omega (arith, ints)) h.division in
-    (omega (arith, linear, h.division.division.equation), omega (arith, linear, h.division.division.equation))
+floored_quotient_range h = grind (arith, ints, linear, floored_range)
 
 -- a ceiled quotient by inequalities
 pub ceiled_quotient_range : {n q : ℤ} {d : ℕ} → IsQuotient IsCeiled n (pos (suc d)) q → (n ≤ℤ (q *ℤ pos (suc d))) × ((q *ℤ pos (suc d)) <ℤ (n +ℤ pos (suc d)))
@@ -82,6 +69,4 @@ ceiled_quotient_range h =
 
 -- d divides an integer exactly if the remainder of its magnitude is 0
 pub divides_by_magnitude : (z : ℤ) (d : ℕ) → 0 < d → Divides (pos d) z ↔ (unsigned_abs z % d ≡ 0)
-divides_by_magnitude z d up =
-    let natural = divides_is_natural {d = d} {n = unsigned_abs z} up in
-    (λ h. natural.0 (Divides-trans h (divides_magnitude z)), λ e. Divides-trans (natural.1 e) (magnitude_divides z))
+divides_by_magnitude z d up = (λ h. mod-eq-zero_of_dvd _ (to_natural h), λ e. from_natural (dvd_of_mod-eq-zero _ e))

@@ -1,5 +1,5 @@
 -- Odd parts: what a shift by `trailing_zeros` leaves, and what the iterations of Stein's loop keep.
-use Rattle.integer_core.proofs.Common.{le-div_iff_mul-le, div-mul-le_self, cases_lt, ◌≡◌, ◌+◌, ◌-◌, ◌*◌, ◌/◌, ◌%◌, ◌^◌, ◌<◌, ◌≤◌, w8, w16, w32, IsOddPart, IsOrderedIteration, ℕ, zero, suc, inl, inr, refl, sym, ◌∙◌, ap, arith, mul-one, div-one, add-one, mul-le-mul_right, mul-pos, pow_mono, pow_pos, pow-add, le-mul_of_pos_right, pow-succ', div-div-eq-div-mul, lt_of_not-le, IsGcd, Width, w64, w128, trailing_zeros, mul-lt, IsGcd-from_sub, IsGcd-swap, bit_xor, xor_lt, xor_mod, and_le_l, and_le_r, div-add-mod', mul-mod_left, mul-div_cancel}
+use Rattle.integer_core.proofs.Common.{le-div_iff_mul-le, div-mul-le_self, cases_lt, ◌≡◌, ◌+◌, ◌-◌, ◌*◌, ◌/◌, ◌%◌, ◌^◌, ◌<◌, ◌≤◌, IsOddPart, IsOrderedIteration, ℕ, zero, suc, inl, inr, refl, sym, ◌∙◌, ap, arith, mul-one, div-one, add-one, mul-le-mul_right, mul-pos, pow_mono, pow_pos, pow-add, le-mul_of_pos_right, pow-succ', div-div-eq-div-mul, lt_of_not-le, IsGcd, Width, trailing_zeros, mul-lt, IsGcd-from_sub, IsGcd-swap, bit_xor, xor_lt, xor_mod, and_le_l, and_le_r, div-add-mod', mul-mod_left, mul-div_cancel}
 use lib.Count.{count_trailing_zeros, under}
 use Rattle.std.proofs.lemmas.Nat.Bits.{bit_at-trailing_zeros, bit_at_xor}
 use mir.Val.{bits}
@@ -8,8 +8,7 @@ use Rattle.integer_core.proofs.NaturalGcd.{gcd_strip}
 use Rattle.std.specs.Int.Bits.{xor_add_and}
 
 back_under : (n d t : ℕ) → n % 2 ≡ d → n / 2 / 2 ^ t * 2 ^ t ≡ n / 2 → n / 2 ^ under d t * 2 ^ under d t ≡ n
-back_under n zero t e h =
-    rw (pow-succ' 2 t, ← div-div-eq-div-mul n 2 (2 ^ t)) (omega arith)
+back_under n zero t e h = rw (pow-succ' 2 t, ← div-div-eq-div-mul n 2 (2 ^ t)) (omega arith)
 back_under n (suc d) t e h = mul-one (n / 1) ∙ div-one n
 
 -- the power of two that is shifted out divides n
@@ -19,14 +18,7 @@ shift_back zero n = mul-one (n / 1) ∙ div-one n
 shift_back (suc k) n = back_under n (n % 2) (count_trailing_zeros k (n / 2)) refl (shift_back k (n / 2))
 
 pub width : (w : Width) → bits w ≡ bit_len w
-width w8 = refl
-width w16 = refl
-width w32 = refl
-width w64 = refl
-width w128 = refl
-
-pub twos_few : (w : Width) {n : ℕ} → 0 < n → n < 2 ^ bit_len w → trailing_zeros w n < bit_len w
-twos_few w positive fits = rw (width w) at ((bit_at-trailing_zeros w _ positive (rw (width w) fits)).0)
+width w = grind (arith, bits, bit_len)
 
 -- a shift by the trailing zeros leaves the odd part
 pub odd_part_by_shift : (w : Width) {n k : ℕ} → 0 < n → n < 2 ^ bit_len w → k ≡ trailing_zeros w n → (n / 2 ^ k % 2 ≡ 1) × (n ≡ n / 2 ^ k * 2 ^ k)
@@ -118,7 +110,6 @@ difference_by_shift w {m} {n} {k} m_fits n_fits less twos =
     let x : ℕ = bit_xor m n in
     let fits = xor_lt _ _ _ m_fits n_fits in
     let none : x % 2 ^ k ≡ 0 = rw twos (ap (λ (y : ℕ). y % 2 ^ trailing_zeros w x) (sym (shift_back (bits w) x)) ∙ mul-mod_left (x / 2 ^ trailing_zeros w x) (2 ^ trailing_zeros w x)) in
-    let shared = all_shared (m % 2 ^ k) (n % 2 ^ k) (sym (xor_mod m n k) ∙ none) in
     let first = sym (bit_at_xor m n k) ∙ rw twos (odd_part_by_shift w (apart less) fits refl).0 in
-    let parts = difference_by (pow_pos k) less shared first in
-    (rw twos (twos_few w (apart less) fits), record { odd = parts.0; twos = k; product = parts.1 })
+    let parts = difference_by (pow_pos k) less (all_shared (m % 2 ^ k) (n % 2 ^ k) (sym (xor_mod m n k) ∙ none)) first in
+    (rw (twos, ← width w) (bit_at-trailing_zeros w _ (apart less) (rw (width w) fits)).0, record { odd = parts.0; twos = k; product = parts.1 })

@@ -1,19 +1,12 @@
 -- Texts and numbers under the options of a format.
-use Rattle.std.proofs.Common.{◌≡◌, ◌≢◌, ◌∙◌, ◌-◌, ◌++◌, ◌+◌, ℕ, zero, suc, Bool, false, List, [], ◌∷◌, Option, Some, None, Result, arith, length, refl, sym, ap, subst, add-one}
-use Rattle.std.proofs.Math.Bool.{cond}
-use Rattle.std.proofs.Output.{has_written_styled_append, has_written_styled_of_eq}
-use Rattle.std.proofs.Math.Dec.{eqb}
-use Rattle.std.proofs.lemmas.Bool.{eqb-true}
+use Rattle.std.proofs.Common.{◌≡◌, ◌≢◌, ◌∙◌, ◌-◌, ◌++◌, ◌+◌, ℕ, zero, suc, Bool, false, List, [], ◌∷◌, Result, arith, length, sym, ap, subst, add-one, cond, eqb, eqb-true, append-nil, append_assoc, unwrap_or}
+pub use Rattle.std.proofs.Output.{has_written_styled_append, has_written_styled_of_eq}
 use Rattle.std.proofs.lemmas.Fmt.{contents_after_writes}
-use Rattle.std.proofs.lemmas.List.{append-nil, append_assoc}
-use Rattle.std.specs.Fmt.{HasWrittenStyled, IsDefaultSpec, IsPlainFormatter, WritesInCalls, WritesOnOk, WritesStyledOnOk, fill_text, padded_integral, sign_text, spec_align, spec_width}
-use Rattle.std.specs.List.{repeat}
-use Rattle.std.specs.Option.{unwrap_or}
-use Rattle.std.specs.declared.fmt.Alignment.{Alignment}
-use Rattle.std.specs.declared.fmt.Alignment.TheVariants.{Left, Right, Center}
+pub use Rattle.std.specs.Fmt.{HasWrittenStyled, IsDefaultSpec, IsPlainFormatter, WritesInCalls, WritesOnOk, WritesStyledOnOk, fill_text, padded_integral, sign_text, spec_align, spec_width, IsFlush}
+pub use Rattle.std.specs.List.{repeat}
 use Rattle.std.specs.declared.fmt.Error.{Error}
 use Rattle.std.specs.declared.fmt.Formatter.{Formatter}
-use Rattle.integer_core.specs.Padded.{FormatOptions, fill_before, padded_number, padded_text}
+pub use Rattle.integer_core.specs.Padded.{FormatOptions, fill_before, padded_number, padded_text}
 
 -- one more time, at the end
 pub repeat_more : (n : ℕ) (xs : List ℕ) → repeat n xs ++ xs ≡ repeat (n + 1) xs
@@ -27,13 +20,6 @@ repeat_more n xs = rw add-one (by n)
 pub width_or_zero : (s : FormatOptions) → unwrap_or (spec_width s) 0 ≡ s.width
 width_or_zero s = grind arith
 
--- nothing stands before a text without padding
-none_before : (side : Option Alignment) → fill_before side 0 ≡ 0
-none_before None = refl
-none_before (Some Left) = refl
-none_before (Some Right) = refl
-none_before (Some Center) = refl
-
 -- without a width a text is written as it is
 pub padded_text_plain : (s : FormatOptions) (text : List ℕ) → IsDefaultSpec s → padded_text s text ≡ text
 unfolding padded_text
@@ -46,13 +32,11 @@ padded_integral_plain s negative digits plain = grind (arith, append-nil)
 
 -- without options a number is written as it is
 pub padded_number_plain : (s : FormatOptions) (text : List ℕ) → IsDefaultSpec s → padded_number s text ≡ text
-padded_number_plain s [] plain = padded_integral_plain s false [] plain
-padded_number_plain s (first ∷ rest) plain = grind (arith, eqb, cond, padded_integral, padded_integral_plain, eqb-true)
+padded_number_plain s text plain = grind (arith, eqb, cond, padded_integral, padded_integral_plain, eqb-true)
 
 -- a number without `-` at its front
 pub number_without_minus : (s : FormatOptions) (text : List ℕ) → ((rest : List ℕ) → text ≢ 45 ∷ rest) → padded_integral s false [] text ≡ padded_number s text
-number_without_minus s [] other = refl
-number_without_minus s (first ∷ rest) other = grind arith
+number_without_minus s text other = grind arith
 
 module _ {W : Type 0} (took : W → List ℕ → W → Type 0) where
   -- what an empty writer has kept is what was written into it

@@ -1,5 +1,5 @@
 -- Quotients, remainders and multiples by their definition: they exist, they are the only ones, and when they fit.
-use Rattle.integer_core.proofs.Common.{◌≡◌, ◌≢◌, ◌⊎◌, ◌<◌, ◌≤◌, ◌+ℤ◌, ◌-ℤ◌, ◌*ℤ◌, ◌↔◌, quot-rem, rem_below, ℤ, pos, negsuc, neg_ℤ, unsigned_abs, suc, int_div, int_rem, arith, ◌∙◌, inl, inr, subst, ints, unsigned_abs-mul, mul-le, mod-le, le-mul_of_pos_right, linear, sizes, products, expand, dist, neg-mul, IsDivision, IsTruncated, IsFloored, IsCeiled, IsQuotient, IsRemainder, EachKind, HaveSameSign, HaveOppositeSigns, IsRange, EachFits, IsMultiple, IsOnly}
+use Rattle.integer_core.proofs.Common.{◌≡◌, ◌≢◌, ◌⊎◌, ◌<◌, ◌≤◌, ◌+ℤ◌, ◌-ℤ◌, ◌*ℤ◌, ◌↔◌, quot-rem, rem_below, ℤ, pos, negsuc, neg_ℤ, unsigned_abs, int_div, int_rem, arith, ◌∙◌, inl, inr, subst, ints, unsigned_abs-mul, mul-le, mod-le, le-mul_of_pos_right, linear, sizes, products, expand, dist, neg-mul, IsDivision, IsTruncated, IsFloored, IsCeiled, IsQuotient, IsRemainder, EachKind, HaveSameSign, HaveOppositeSigns, IsRange, EachFits, IsMultiple, IsOnly}
 use Rattle.integer_core.proofs.Ranges.{LiesWithin, within_fits}
 
 pub zero_or_not : (z : ℤ) → (z ≡ pos 0) ⊎ (z ≢ pos 0)
@@ -62,8 +62,7 @@ floored_by_minus_one n d e = grind (arith, products, sizes)
 -- ---- they exist
 
 pub remainder_within : (n d : ℤ) → LiesWithin n (int_rem n d)
-remainder_within (pos a) d = grind (arith, ints, mod-le a (unsigned_abs d))
-remainder_within (negsuc a) d = grind (arith, ints, mod-le (suc a) (unsigned_abs d))
+remainder_within n d = grind (arith, ints, int_rem, mod-le)
 
 -- what `/` and `%` return
 pub truncated_is : (n d : ℤ) → d ≢ pos 0 → IsTruncated n d (int_div n d) (int_rem n d)
@@ -81,10 +80,7 @@ floored_exists n d nonzero = elim (same_or_opposite (int_rem n d) d nonzero) [
 pub ceiled_exists : (n d : ℤ) → d ≢ pos 0 → (q r : ℤ) × IsCeiled n d q r
 ceiled_exists n d nonzero =
     let h = floored_exists n d nonzero in
-    elim (zero_or_not h.1) [
-      | inl exact ↦ (_, _, ceiled_exact h.2 exact)
-      | inr inexact ↦ (_, _, ceiled_above h.2 inexact)
-    ]
+    elim (zero_or_not h.1) [ inl exact ↦ (_, _, ceiled_exact h.2 exact) | inr inexact ↦ (_, _, ceiled_above h.2 inexact) ]
 
 pub division_exists : EachKind (λ Kind. (n d : ℤ) → d ≢ pos 0 → (q r : ℤ) × Kind n d q r)
 division_exists = (λ n d nonzero. (_, _, truncated_is n d nonzero), floored_exists, ceiled_exists)

@@ -23,10 +23,6 @@ one_fits range = (range.between (pos 1)).1 (omega (arith, linear, range.low_end,
 pub no_minus_one : {fits : ℤ → Type 0} {low high : ℤ} → IsRange fits low high → low ≡ pos 0 → ¬ (fits (negsuc 0))
 no_minus_one range none fits_it = omega (arith, linear, (range.between (negsuc 0)).0 fits_it)
 
--- the distance of a negative number from -1
-pub distance_fits : {fits : ℤ → Type 0} {low high x : ℤ} → IsRange fits low high → fits x → x <ℤ pos 0 → fits (pos 0 -ℤ (x +ℤ pos 1))
-distance_fits {x = x} range x_fits negative = (range.between _).1 (omega (arith, linear, range.low_end, (range.between x).0 x_fits))
-
 module _ {w : Width} {number : ℕ → ℤ} {fits wide : ℤ → Type 0} {low high : ℤ} (native : IsNative w number fits low high wide) where
   -- a number of the type that is not negative is a magnitude
   natural_is_magnitude : {z : ℤ} → pos 0 ≤ℤ z → fits z → wide z
@@ -40,5 +36,4 @@ module _ {w : Width} {number : ℕ → ℤ} {fits wide : ℤ → Type 0} {low hi
   pub magnitude_by_distance : {wrap : ℤ → ℤ} {x d m : ℤ} → ((z : ℤ) → wide z → wrap z ≡ z) → d ≡ (pos 0 -ℤ (x +ℤ pos 1)) → fits d → x <ℤ pos 0 → m ≡ wrap d
       → (m +ℤ pos 1) ≡ pos (unsigned_abs x)
   magnitude_by_distance {d = d} wraps d_is d_fits negative m_is =
-      let same = m_is ∙ wraps d (natural_is_magnitude (omega (arith, linear, d_is)) d_fits) in
-      omega (arith, sizes, same, d_is)
+      omega (arith, sizes, m_is ∙ wraps d (natural_is_magnitude (omega (arith, linear, d_is)) d_fits), d_is)

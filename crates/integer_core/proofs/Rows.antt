@@ -1,8 +1,7 @@
 -- The rows of the extended Euclidean algorithm after some iterations of its loop, how large their coefficients grow, and that they fit.
 use Rattle.integer_core.proofs.Common.{◌≡◌, ◌≢◌, ◌⊎◌, ◌<◌, ◌≤◌, ◌+◌, ◌+ℤ◌, ◌-ℤ◌, ◌*ℤ◌, ◌*◌, ◌^◌, ◌≤ℤ◌, EuclidEnds, IsEuclidIteration, IsSmallPair, HasPair, sign, ℤ, ℕ, pos, zero, suc, unsigned_abs, arith, refl, inl, inr, ints, abs_is, linear, expand, IsTruncated, Divides, IsGreatestCommonDivisor, ap, mul-le-mul_left, unsigned_abs-mul, products, negsuc, ◌∙◌, zero-*ℤ, +ℤ_idr, IsRange}
-use Rattle.integer_core.proofs.Divisibility.{rest_is, divides_or_not, divisor_size, gcd-divisor, gcd-remainder}
+use Rattle.integer_core.proofs.Divisibility.{rest_is, divides_or_not, divisor_size, gcd-divisor, gcd-remainder, truncated_is, zero_or_not, small_multiple}
 use Rattle.integer_core.proofs.EuclidIterations.{inexact, truncated_size, twice, not_one, few_iterations}
-use Rattle.integer_core.proofs.Quotients.{truncated_is, zero_or_not, small_multiple}
 use Rattle.integer_core.proofs.Ranges.{no_minus_one}
 use Rattle.integer_core.proofs.Runs.{Reaches, reaches_first, reaches_iteration, reaches_last}
 
@@ -112,11 +111,7 @@ module _ {a b : ℤ} {current previous : Row} {t : ℕ} (h : Rows a b current pr
   pub last_after_iterations : Divides current.remainder previous.remainder → ¬ (Divides b a) → IsSmallPair a b current.remainder current.x current.y
   last_after_iterations ends not_second = elim h.start [
     | inl first ↦ absurd (not_second (rw (first.0, first.1) at ends))
-    | inr later ↦ record {
-      equation = h.equation;
-      x_small = last_half h.x_weighed ends later.1;
-      y_small = last_half h.y_weighed ends later.1;
-    }
+    | inr later ↦ record { equation = h.equation; x_small = last_half h.x_weighed ends later.1; y_small = last_half h.y_weighed ends later.1 }
   ]
 
 -- the rows at which the loop ends
@@ -178,9 +173,7 @@ module _ {fits : ℤ → Type 0} {low high : ℤ} (range : IsRange fits low high
 
 -- what the loop keeps of the rows and their range
 pub record RowsFit (fits : ℤ → Type 0) (low high a b : ℤ) (current previous : Row) (t : ℕ) : Type 0 where
-  pub range : IsRange fits low high
-  pub a_fits : fits a
-  pub b_fits : fits b
+  pub given : IsRange fits low high × fits a × fits b
   pub rows : Rows a b current previous t
   pub current_fits : CoefficientsFit fits high current
   pub previous_fits : CoefficientsFit fits high previous
@@ -189,9 +182,7 @@ pub record RowsFit (fits : ℤ → Type 0) (low high a b : ℤ) (current previou
 pub rows_fit_first : {fits : ℤ → Type 0} {low high a b : ℤ} → IsRange fits low high → fits a → fits b → b ≢ pos 0 → HasPair fits a b
     → RowsFit fits low high a b (of_second b) (of_first a) 0
 rows_fit_first {a = a} {b = b} range a_fits b_fits nonzero pair = record {
-  range = range;
-  a_fits = a_fits;
-  b_fits = b_fits;
+  given = (range, a_fits, b_fits);
   rows = rows_first a b nonzero;
   current_fits = record { remainder = b_fits; x = zero_or_one_fits range (inl refl); y = zero_or_one_fits range (inr refl) };
   previous_fits = first_fits range a_fits;
@@ -219,21 +210,19 @@ module _ {fits : ℤ → Type 0} {low high a b q r : ℤ} {current previous : Ro
       → IsCoefficient fits high previous_x → StepFits fits high q x previous_x
   row_step_fits m_fits weighed previous_fits = elim (zero_or_not low) [
     | inl unsigned ↦
-        let none = no_quotient (no_minus_one h.range unsigned) in
-        record { product = rw (none, zero-*ℤ) (zero_or_one_fits h.range (inl refl)).in_range; next = rw (none, zero-*ℤ, +ℤ_idr) previous_fits }
+        let none = no_quotient (no_minus_one h.given.0 unsigned) in
+        record { product = rw (none, zero-*ℤ) (zero_or_one_fits h.given.0 (inl refl)).in_range; next = rw (none, zero-*ℤ, +ℤ_idr) previous_fits }
     | inr signed ↦
         let half = halves weighed row (not_one goes_on h.rows.nonzero) in
-        record { product = (half_fits h.range signed m_fits half.0).in_range; next = half_fits h.range signed m_fits half.1 }
+        record { product = (half_fits h.given.0 signed m_fits half.0).in_range; next = half_fits h.given.0 signed m_fits half.1 }
   ]
 
   pub iteration_fits : StepFits fits high q current.x previous.x × StepFits fits high q current.y previous.y
-  iteration_fits = (row_step_fits h.b_fits h.rows.x_weighed h.previous_fits.x, row_step_fits h.a_fits h.rows.y_weighed h.previous_fits.y)
+  iteration_fits = (row_step_fits h.given.2 h.rows.x_weighed h.previous_fits.x, row_step_fits h.given.1 h.rows.y_weighed h.previous_fits.y)
 
   pub rows_fit_iteration : fits r → RowsFit fits low high a b (next_row current previous q r) current (t + 1)
   rows_fit_iteration r_fits = record {
-    range = h.range;
-    a_fits = h.a_fits;
-    b_fits = h.b_fits;
+    given = h.given;
     rows = rows_iteration h.rows goes_on row;
     current_fits = record { remainder = r_fits; x = iteration_fits.0.next; y = iteration_fits.1.next };
     previous_fits = h.current_fits;
@@ -244,9 +233,9 @@ module _ {fits : ℤ → Type 0} {low high a b q r : ℤ} {current previous : Ro
       same unsigned = rest_is row.division ∙ simp (no_quotient unsigned, zero-*ℤ, +ℤ_idr)
 
 -- the iterations are few, and fit their counter
-pub iterations_fit : {fits : ℤ → Type 0} {low high a b : ℤ} {current previous : Row} {t : ℕ} → b ≢ pos 0
+pub rows_few : {fits : ℤ → Type 0} {low high a b : ℤ} {current previous : Row} {t : ℕ} → b ≢ pos 0
     → RowsFit fits low high a b current previous t → t < 258
-iterations_fit {b = b} nonzero h =
+rows_few {b = b} nonzero h =
     let last = last_rows h.rows in
-    let small : unsigned_abs b < 2 ^ 129 = omega (arith, linear, abs_is, h.range.low_end, h.range.positive, h.range.bounded, (h.range.between b).0 h.b_fits) in
+    let small : unsigned_abs b < 2 ^ 129 = omega (arith, linear, abs_is, h.given.0.low_end, h.given.0.positive, h.given.0.bounded, (h.given.0.between b).0 h.given.2) in
     omega (arith, last.1, few_iterations 129 nonzero (reaches_last last.0.rows.run last.0.ends) small)

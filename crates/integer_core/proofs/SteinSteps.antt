@@ -1,5 +1,5 @@
 -- Stein's method on the values of an unsigned type, and what its loops keep.
-use Rattle.integer_core.proofs.Common.{◌≡◌, ◌≢◌, ◌↔◌, ◌⊎◌, ◌≤ℤ◌, ◌*◌, ◌%◌, ◌^◌, ◌<◌, ◌+◌, ◌∷◌, IsPowerOfTwo, AreWithinBits, IsCountedGcd, IsOddPart, MakesGcdRun, exchanged, GcdEnds, IsGcdIteration, IsOddGcd, IsOrderedIteration, OddPair, natural, ℤ, pos, unsigned_abs, IsGcd, ℕ, refl, sym, subst, arith, inl, inr, abs_is, linear, eq-one_of_dvd-one, one-dvd, dvd_refl, le_of_dvd, IsGreatestCommonDivisor, List, [], map, ◌∙◌, IsRun, RunHasIterations}
+use Rattle.integer_core.proofs.Common.{rules, ◌≡◌, ◌≢◌, ◌↔◌, ◌⊎◌, ◌≤ℤ◌, ◌%◌, ◌^◌, ◌<◌, ◌+◌, ◌∷◌, IsPowerOfTwo, AreWithinBits, IsCountedGcd, IsOddPart, MakesGcdRun, exchanged, GcdEnds, IsGcdIteration, IsOddGcd, IsOrderedIteration, OddPair, natural, ℤ, pos, unsigned_abs, IsGcd, ℕ, sym, subst, arith, inl, inr, abs_is, linear, eq-one_of_dvd-one, one-dvd, dvd_refl, le_of_dvd, IsGreatestCommonDivisor, List, [], map, ◌∙◌, IsRun, RunHasIterations}
 use Rattle.integer_core.proofs.CommonDivisors.{gcd-magnitudes, gcd-zero}
 use Rattle.integer_core.proofs.NaturalGcd.{odd_divisor, odd_divides}
 use Rattle.std.proofs.lemmas.List.{length-map}
@@ -22,15 +22,12 @@ gcd_fits within up positive h = grind (arith, le_of_dvd)
 -- the odd part of a power of two is 1
 odd_of_power : {n m : ℕ} → IsPowerOfTwo n → IsOddPart n m → m ≡ 1
 odd_of_power {m = m} h part =
-    let whole : 1 * 2 ^ h.0 ≡ m * 2 ^ part.twos = omega (arith, h.1, part.product) in
-    eq-one_of_dvd-one (odd_divides m 1 h.0 part.odd (∣ (2 ^ part.twos, whole) ∣₁))
+    eq-one_of_dvd-one (odd_divides m 1 h.0 part.odd (∣ (2 ^ part.twos, omega (arith, h.1, part.product)) ∣₁))
 
 -- so if one of two numbers is a power of two, their odd parts have the gcd 1
 pub gcd_of_power : {a b m n : ℕ} {one : ℤ} → IsPowerOfTwo a ⊎ IsPowerOfTwo b → one ≡ pos 1 → IsOddPart a m → IsOddPart b n → IsGcd m n (unsigned_abs one)
-gcd_of_power {m = m} {n = n} h is a_part b_part = rw is (elim h [
-  | inl left ↦ rw (odd_of_power left a_part) (dvd_refl 1, one-dvd n, λ d u v. u)
-  | inr right ↦ rw (odd_of_power right b_part) (one-dvd m, dvd_refl 1, λ d u v. v)
-])
+gcd_of_power (inl left) is a_part b_part = rw (is, odd_of_power left a_part) (search (rules, dvd_refl, one-dvd))
+gcd_of_power (inr right) is a_part b_part = rw (is, odd_of_power right b_part) (search (rules, dvd_refl, one-dvd))
 
 -- the magnitude of the smallest number of a type, if it is not 0, is a power of two
 pub power_of_smallest : {low a m : ℤ} → (low ≡ pos 0) ⊎ IsPowerOfTwo (unsigned_abs low) → a ≡ low → m ≡ pos (unsigned_abs a) → m ≢ pos 0 → IsPowerOfTwo (unsigned_abs m)
@@ -60,11 +57,8 @@ exchanged_run s [] h = sym h
 exchanged_run s (t ∷ rest) h = (exchanged_iteration s t h.0, exchanged_run t rest h.1)
 
 exchanged_makes : {s : OddPair} {n : ℕ} → RunHasIterations IsGcdIteration GcdEnds s n → RunHasIterations IsGcdIteration GcdEnds (exchanged s) n
-exchanged_makes {s} h = record {
-  rest = map exchanged h.rest;
-  run = exchanged_run s h.rest h.run;
-  iterations = length-map h.rest exchanged ∙ h.iterations;
-}
+exchanged_makes {s} h =
+    record { rest = map exchanged h.rest; run = exchanged_run s h.rest h.run; iterations = length-map h.rest exchanged ∙ h.iterations }
 
 reaches_ordered : {first s t : OddPair} {n : ℕ} → Reaches IsGcdIteration GcdEnds first s n → IsOrderedIteration s t → Reaches IsGcdIteration GcdEnds first t (n + 1)
 reaches_ordered {t = t} h iteration = elim iteration [
@@ -92,11 +86,7 @@ module _ {a b : ℕ} where
 
     -- another count of iterations begins with these
     pub loop_handed_on : {g r : ℕ} → IsOddGcd m n g r → IsOddGcd a b g (t + r)
-    loop_handed_on rest = record {
-      greatest = v.kept.same _ rest.greatest;
-      run = v.reached.onward _ _ refl rest.run;
-      few = turning_small _ v.kept rest.few;
-    }
+    loop_handed_on rest = grind (arith, turning_small)
 
     pub loop_ends : m ≡ n → IsOddGcd a b m t
     loop_ends same = record {

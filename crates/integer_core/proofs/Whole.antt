@@ -1,8 +1,6 @@
 -- The ring of the integers, for `omega` and `simp`.
-use Rattle.std.specs.Prelude.{◌≡◌, ◌+◌, ◌*◌, ◌<ℤ◌, ◌≤ℤ◌, ◌+ℤ◌, ◌*ℤ◌, ℤ, pos, neg_ℤ, unsigned_abs, ◌↔◌, Bool, false, IsTrue, Option, Some}
 use Rattle.std.specs.Ordering.{int_cmp, is_ge, is_lt, is_some_and}
-use Rattle.std.specs.declared.cmp.Ordering.{Ordering}
-use Rattle.std.proofs.Common.{arith, ap, mul-pos, rules}
+use Rattle.std.proofs.Common.{arith, ap, mul-pos, rules, ◌≡◌, ◌+◌, ◌*◌, ◌<ℤ◌, ◌≤ℤ◌, ◌+ℤ◌, ◌*ℤ◌, ℤ, pos, neg_ℤ, unsigned_abs, ◌↔◌, Bool, false, IsTrue, Option, Some, Ordering}
 use Rattle.std.proofs.lemmas.Bool.{iff_false}
 use Rattle.std.proofs.lemmas.Int.{ints}
 use borrow.Author.Differences.{up, down, same_in, same_out, sum_is_lem, neg_is, product_is, abs_is, lt_out, le_out, below_in, at_most_in, Apart-out}
@@ -45,11 +43,7 @@ pub left_comm : (a b c : ℤ) → a *ℤ (b *ℤ c) ≡ b *ℤ (a *ℤ c)
 left_comm a b c = same_in _ _ (simp (up-mul, down-mul) (omega arith))
 
 pub dist : (a b c : ℤ) → (a +ℤ b) *ℤ c ≡ a *ℤ c +ℤ b *ℤ c
-dist a b c =
-    let sum = sum_is_lem a b in
-    let by_up = ap (λ t. t * up c) sum in
-    let by_down = ap (λ t. t * down c) sum in
-    omega (arith, products)
+dist a b c = let sum = sum_is_lem a b in omega (arith, products, ap (λ t. t * up c) sum, ap (λ t. t * down c) sum)
 
 pub dist-left : (a b c : ℤ) → a *ℤ (b +ℤ c) ≡ a *ℤ b +ℤ a *ℤ c
 dist-left a b c = rw (comm a (b +ℤ c), dist b c a, comm b a, comm c a)

@@ -1,6 +1,5 @@
 -- What is written in a row, and what is written into a formatter.
-use Rattle.std.specs.Prelude.{◌≡◌, ◌++◌, ℕ, List, Result, OnOk}
-use Rattle.std.proofs.Common.{subst}
+use Rattle.std.proofs.Common.{subst, ◌≡◌, ◌++◌, ℕ, List, Result, OnOk}
 use Rattle.std.proofs.Output.{writes_in_calls_append}
 use Rattle.std.proofs.lemmas.Result.{on_ok_weaker}
 use Rattle.std.specs.Fmt.{HasWritten, IsPlainFormatter, WritesInCalls}
@@ -18,4 +17,3 @@ module _ {W : Type 0} (took : W → List ℕ → W → Type 0) where
   -- what one write into a formatter does
   abbrev pub FormatterTook : Formatter W → List ℕ → Formatter W → Type 0
   FormatterTook f bs g = IsPlainFormatter f → HasWritten took f bs g
-  -- what is written into a plain formatter is written into its writer

@@ -1,5 +1,4 @@
-use Rattle.std.proofs.lemmas.Bool.{iff_false}
-use Rattle.integer_core.proofs.Quotients.{floored_fits, ceiled_above, ceiled_exact}
+use Rattle.integer_core.proofs.ForAnswers.{iff_false, floored_fits, ceiled_above, ceiled_exact}
 use Rattle.integer_core.proofs.Integer.div_ceil.Goals as goal
 
 pub div_mod_floor-q-requires-clause-quotient_fits : goal.div_mod_floor-q-requires-clause-quotient_fits

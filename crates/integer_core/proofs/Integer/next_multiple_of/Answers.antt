@@ -1,5 +1,4 @@
-use Rattle.std.proofs.lemmas.Bool.{iff_false}
-use Rattle.integer_core.proofs.Quotients.{gap_fits, next_above, next_exact}
+use Rattle.integer_core.proofs.ForAnswers.{iff_false, gap_fits, next_above, next_exact}
 use Rattle.integer_core.proofs.Integer.next_multiple_of.Goals as goal
 
 pub difference-requires-clause-difference_fits : goal.difference-requires-clause-difference_fits

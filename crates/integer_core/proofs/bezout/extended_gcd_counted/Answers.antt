@@ -1,9 +1,4 @@
-use Rattle.integer_core.proofs.Common.{rules, iff_false}
-use Rattle.std.proofs.Math.Numerals.{add-two}
-use Rattle.integer_core.proofs.BezoutAnswers.{answer_for_zero, answer_of_loop, only_answer, sign_keeps, sign_size}
-use Rattle.integer_core.proofs.CommonDivisors.{gcd_fits_is}
-use Rattle.integer_core.proofs.EuclidIterations.{lame}
-use Rattle.integer_core.proofs.Rows.{first_fits, sign_fits}
+use Rattle.integer_core.proofs.ForAnswers.{rules, iff_false, add-two, answer_for_zero, answer_of_loop, only_answer, sign_keeps, sign_size, gcd_fits_is, lame, first_fits, sign_fits}
 use Rattle.integer_core.proofs.bezout.extended_gcd_counted.Goals as goal
 
 pub normalized-requires : goal.normalized-requires

@@ -1,8 +1,4 @@
-use Rattle.integer_core.proofs.Common.{arith, iff_false}
-use Rattle.integer_core.proofs.EuclidIterations.{inexact}
-use Rattle.integer_core.proofs.Quotients.{inexact_quotient_fits}
-use Rattle.integer_core.proofs.Rows.{rows_fit_first, iteration_fits, rows_fit_iteration, sign_fits, iterations_fit, last_gcd, last_at_once, last_after_iterations}
-use Rattle.integer_core.proofs.Runs.{reaches_last}
+use Rattle.integer_core.proofs.ForAnswers.{arith, iff_false, inexact, inexact_quotient_fits, rows_fit_first, iteration_fits, rows_fit_iteration, sign_fits, rows_few, last_gcd, last_at_once, last_after_iterations, reaches_last}
 use Rattle.integer_core.proofs.bezout.last_row.Goals as goal
 
 pub rows-init : goal.rows-init
@@ -15,7 +11,7 @@ pub div_rem-quotient-requires-clause-quotient_fits : goal.div_rem-quotient-requi
 div_rem-quotient-requires-clause-quotient_fits g c q h =
     let goes_on = iff_false c.is_multiple_of.ensures c.rows-test.true in
     let keeps = c.rows.invariant in
-    inexact_quotient_fits keeps.range keeps.previous_fits.remainder keeps.current_fits.remainder h.division.division (inexact h.division goes_on)
+    inexact_quotient_fits keeps.given.0 keeps.previous_fits.remainder keeps.current_fits.remainder h.division.division (inexact h.division goes_on)
 
 pub product-requires-clause-product_fits : goal.product-requires-clause-product_fits
 product-requires-clause-product_fits g c =
@@ -36,7 +32,7 @@ difference-y-requires-clause-difference_fits g c =
     rw c.product-in-rows.ensures.value iteration.1.next.in_range
 
 pub overflow_add-iterations : goal.overflow_add-iterations
-overflow_add-iterations g c = omega (arith, iterations_fit c.requires.nonzero c.rows.invariant)
+overflow_add-iterations g c = omega (arith, rows_few c.requires.nonzero c.rows.invariant)
 
 pub rows-preserved : goal.rows-preserved
 rows-preserved g c =
@@ -49,8 +45,8 @@ returns g c =
     let h = c.rows.invariant in
     let ends = c.is_multiple_of.ensures.0 c.rows-test.false in
     record {
-      x_fits = sign_fits h.range h.current_fits.remainder h.current_fits.x;
-      y_fits = sign_fits h.range h.current_fits.remainder h.current_fits.y;
+      x_fits = sign_fits h.given.0 h.current_fits.remainder h.current_fits.x;
+      y_fits = sign_fits h.given.0 h.current_fits.remainder h.current_fits.y;
       greatest = last_gcd h.rows ends;
       at_once = last_at_once h.rows;
       after_iterations = last_after_iterations h.rows ends;

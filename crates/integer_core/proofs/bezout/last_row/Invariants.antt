@@ -1,5 +1,4 @@
-use Rattle.std.specs.Prelude.{unsigned_abs}
-use Rattle.integer_core.proofs.Rows.{RowsFit}
+use Rattle.integer_core.proofs.ForAnswers.{unsigned_abs, RowsFit}
 use Rattle.integer_core.proofs.bezout.last_row.Given as goal
 
 abbrev pub invariant-rows : goal.invariant-rows

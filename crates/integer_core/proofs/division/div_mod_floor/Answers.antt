@@ -1,5 +1,4 @@
-use Rattle.integer_core.proofs.Common.{arith, linear}
-use Rattle.integer_core.proofs.Quotients.{floored_below, floored_same, truncated_fits, floored_remainder_fits}
+use Rattle.integer_core.proofs.ForAnswers.{arith, linear, floored_below, floored_same, truncated_fits, floored_remainder_fits}
 use Rattle.integer_core.proofs.division.div_mod_floor.Goals as goal
 
 pub div_rem-q-requires-clause-quotient_fits : goal.div_rem-q-requires-clause-quotient_fits

@@ -1,6 +1,4 @@
-use Rattle.integer_core.proofs.Common.{arith, rules, iff_false, linear}
-use Rattle.integer_core.proofs.Quotients.{truncated_is, other_quotient_fits}
-use Rattle.integer_core.proofs.Divisibility.{Divides-zero, zero_divides, Divides-minus_one, exact_from_divides, divides_from_exact}
+use Rattle.integer_core.proofs.ForAnswers.{arith, rules, iff_false, linear, truncated_is, other_quotient_fits, Divides-zero, zero_divides, Divides-minus_one, exact_from_divides, divides_from_exact}
 use Rattle.integer_core.proofs.divisors.is_multiple_of.Goals as goal
 
 pub remainder-requires-clause-quotient_fits : goal.remainder-requires-clause-quotient_fits

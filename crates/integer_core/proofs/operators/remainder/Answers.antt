@@ -1,5 +1,4 @@
-use Rattle.std.proofs.Common.{inl, inr}
-use Rattle.integer_core.proofs.Quotients.{remainder_within}
+use Rattle.integer_core.proofs.ForAnswers.{inl, inr, remainder_within}
 use Rattle.integer_core.proofs.operators.remainder.Goals as goal
 
 pub returns-clause-in_range : goal.returns-clause-in_range

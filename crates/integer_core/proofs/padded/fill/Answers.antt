@@ -1,6 +1,4 @@
-use Rattle.std.proofs.Common.{refl}
-use Rattle.std.proofs.Output.{has_written_styled_append, has_written_styled_of_eq}
-use Rattle.integer_core.proofs.PaddedTexts.{repeat_more}
+use Rattle.integer_core.proofs.ForAnswers.{refl, has_written_styled_append, has_written_styled_of_eq, repeat_more}
 use Rattle.integer_core.proofs.padded.fill.Goals as goal
 
 pub loop-preserved : goal.loop-preserved

@@ -1,7 +1,4 @@
-use Rattle.std.proofs.Common.{◌≡◌}
-use Rattle.std.specs.Fmt.{HasWrittenStyled, IsFlush}
-use Rattle.std.specs.List.{repeat}
-use Rattle.std.specs.Char.{encode_utf8}
+use Rattle.integer_core.proofs.ForAnswers.{◌≡◌, HasWrittenStyled, IsFlush, repeat, encode_utf8}
 use Rattle.integer_core.proofs.padded.fill.Given as goal
 
 abbrev pub invariant-loop : goal.invariant-loop

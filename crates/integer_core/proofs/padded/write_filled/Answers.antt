@@ -1,7 +1,4 @@
-use Rattle.std.proofs.Common.{◌∙◌, ◌-◌, ap, length, refl, ℕ}
-use Rattle.std.specs.Option.{unwrap_or}
-use Rattle.integer_core.specs.Padded.{fill_before}
-use Rattle.integer_core.proofs.PaddedTexts.{padded_written, width_or_zero}
+use Rattle.integer_core.proofs.ForAnswers.{◌∙◌, ◌-◌, ap, length, refl, ℕ, unwrap_or, fill_before, padded_written, width_or_zero}
 use Rattle.integer_core.proofs.padded.write_filled.Goals as goal
 
 pub returns : goal.returns

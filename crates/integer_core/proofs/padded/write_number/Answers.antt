@@ -1,7 +1,4 @@
-use Rattle.std.proofs.Common.{None, subst, arith, List, ℕ}
-use Rattle.std.proofs.lemmas.Str.Pattern.{strip_prefix_char}
-use Rattle.std.specs.Fmt.{WritesStyledOnOk}
-use Rattle.integer_core.proofs.PaddedTexts.{number_without_minus}
+use Rattle.integer_core.proofs.ForAnswers.{None, subst, arith, List, ℕ, strip_prefix_char, WritesStyledOnOk, number_without_minus}
 use Rattle.integer_core.proofs.padded.write_number.Goals as goal
 
 pub returns-in-None : goal.returns-in-None

@@ -1,6 +1,4 @@
-use Rattle.std.proofs.Common.{inl, inr}
-use Rattle.integer_core.proofs.CommonDivisors.{gcd_fits_is}
-use Rattle.integer_core.proofs.SteinSteps.{counted_by_magnitudes, power_of_smallest}
+use Rattle.integer_core.proofs.ForAnswers.{gcd-magnitudes, inl, inr, gcd_fits_is, counted_by_magnitudes, power_of_smallest}
 use Rattle.integer_core.proofs.stein.binary_gcd.Goals as goal
 
 pub gcd_of_magnitudes-gcd-requires-clause-power : goal.gcd_of_magnitudes-gcd-requires-clause-power
@@ -11,9 +9,8 @@ gcd_of_magnitudes-gcd-requires-clause-power g c smallest m_nonzero n_nonzero = e
 
 pub number_or-gcd-requires : goal.number_or-gcd-requires
 number_or-gcd-requires g c =
-    let counted = c.gcd_of_magnitudes-gcd.ensures in
-    let all = counted_by_magnitudes c.magnitude.ensures.value c.magnitude-2.ensures.value c.has_smallest.ensures counted.greatest counted.at_once counted.by_iterations counted.bound in
-    record { number_fits = (gcd_fits_is g.met.T.Native.native_law.range c.requires.in_range.0 c.requires.in_range.1).0 c.requires.gcd_fits _ all.greatest }
+    let greatest = gcd-magnitudes c.magnitude.ensures.value c.magnitude-2.ensures.value c.gcd_of_magnitudes-gcd.ensures.greatest in
+    record { number_fits = (gcd_fits_is g.met.T.Native.native_law.range c.requires.in_range.0 c.requires.in_range.1).0 c.requires.gcd_fits _ greatest }
 
 pub returns : goal.returns
 returns g c =

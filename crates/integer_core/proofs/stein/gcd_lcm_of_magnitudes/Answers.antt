@@ -1,6 +1,4 @@
-use Rattle.integer_core.proofs.Common.{arith, inl, inr, refl, sizes}
-use Rattle.integer_core.proofs.CommonDivisors.{gcd-nonzero, gcd-swap, lcm-of-sizes, lcm-zero}
-use Rattle.integer_core.proofs.SteinSteps.{gcd_with_zero}
+use Rattle.integer_core.proofs.ForAnswers.{arith, inl, inr, refl, sizes, gcd-nonzero, gcd-swap, lcm-of-sizes, lcm-zero, gcd_with_zero}
 use Rattle.integer_core.proofs.stein.gcd_lcm_of_magnitudes.Goals as goal
 
 pub returns-then-is_zero-clause-greatest : goal.returns-then-is_zero-clause-greatest

@@ -1,5 +1,4 @@
-use Rattle.integer_core.proofs.CommonDivisors.{gcd-swap}
-use Rattle.integer_core.proofs.SteinSteps.{gcd_with_zero}
+use Rattle.integer_core.proofs.ForAnswers.{gcd-swap, gcd_with_zero}
 use Rattle.integer_core.proofs.stein.gcd_of_magnitudes.Goals as goal
 
 pub returns-then-is_zero-clause-greatest : goal.returns-then-is_zero-clause-greatest

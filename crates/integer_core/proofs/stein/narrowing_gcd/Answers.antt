@@ -1,6 +1,4 @@
-use Rattle.integer_core.proofs.Common.{arith, inl, inr, cases_eq}
-use Rattle.integer_core.proofs.OddParts.{turning_falls, iterations_fit}
-use Rattle.integer_core.proofs.SteinSteps.{loop_begins, loop_counts, loop_ends, loop_goes_on, loop_handed_on}
+use Rattle.integer_core.proofs.ForAnswers.{arith, inl, inr, cases_eq, turning_falls, iterations_fit, loop_begins, loop_counts, loop_ends, loop_goes_on, loop_handed_on}
 use Rattle.integer_core.proofs.stein.narrowing_gcd.Goals as goal
 
 pub iterations-init : goal.iterations-init

@@ -1,5 +1,4 @@
-use Rattle.integer_core.proofs.Common.{◌+◌, unsigned_abs}
-use Rattle.integer_core.proofs.SteinSteps.{OddLoop}
+use Rattle.integer_core.proofs.ForAnswers.{◌+◌, unsigned_abs, OddLoop}
 use Rattle.integer_core.proofs.stein.narrowing_gcd.Given as goal
 
 abbrev pub invariant-iterations : goal.invariant-iterations

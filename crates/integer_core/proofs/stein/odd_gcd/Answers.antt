@@ -1,6 +1,4 @@
-use Rattle.std.proofs.Common.{arith}
-use Rattle.integer_core.proofs.OddParts.{turning_falls}
-use Rattle.integer_core.proofs.SteinSteps.{loop_begins, loop_counts, loop_ends, loop_goes_on}
+use Rattle.integer_core.proofs.ForAnswers.{arith, turning_falls, loop_begins, loop_counts, loop_ends, loop_goes_on}
 use Rattle.integer_core.proofs.stein.odd_gcd.Goals as goal
 
 pub iterations-init : goal.iterations-init

@@ -1,5 +1,4 @@
-use Rattle.std.proofs.Common.{◌+◌, ◌^◌, ◌<◌}
-use Rattle.integer_core.proofs.SteinSteps.{OddLoop}
+use Rattle.integer_core.proofs.ForAnswers.{◌+◌, ◌^◌, ◌<◌, OddLoop}
 use Rattle.integer_core.proofs.stein.odd_gcd.Given as goal
 
 abbrev pub invariant-iterations : goal.invariant-iterations

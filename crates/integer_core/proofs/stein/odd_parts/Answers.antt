@@ -1,6 +1,4 @@
-use Rattle.std.specs.Prelude.{ℤ}
-use Rattle.integer_core.proofs.NaturalGcd.{gcd_of_odd_parts, gcd_of_sizes}
-use Rattle.integer_core.proofs.SteinSteps.{gcd_fits}
+use Rattle.integer_core.proofs.ForAnswers.{ℤ, gcd_of_odd_parts, gcd_of_sizes, gcd_fits}
 use Rattle.integer_core.proofs.stein.odd_parts.Goals as goal
 
 pub returns-clause-gcd : goal.returns-clause-gcd

@@ -1,6 +1,4 @@
-use Rattle.std.proofs.Common.{arith}
-use Rattle.integer_core.proofs.OddParts.{few_iterations, odd_part_le}
-use Rattle.integer_core.proofs.SteinSteps.{gcd_positive}
+use Rattle.integer_core.proofs.ForAnswers.{arith, few_iterations, odd_part_le, gcd_positive}
 use Rattle.integer_core.proofs.stein.positive_gcd.Goals as goal
 
 pub times_power_of_two-requires : goal.times_power_of_two-requires

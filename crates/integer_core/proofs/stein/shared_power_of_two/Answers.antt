@@ -1,5 +1,4 @@
-use Rattle.integer_core.proofs.Common.{arith, sizes}
-use Rattle.integer_core.proofs.SteinSteps.{gcd_of_power}
+use Rattle.integer_core.proofs.ForAnswers.{arith, sizes, gcd_of_power}
 use Rattle.integer_core.proofs.stein.shared_power_of_two.Goals as goal
 
 pub times_power_of_two-requires : goal.times_power_of_two-requires

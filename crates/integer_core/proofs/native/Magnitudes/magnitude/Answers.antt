@@ -1,5 +1,4 @@
-use Rattle.integer_core.proofs.Common.{◌∙◌, arith, subst, sym, linear}
-use Rattle.integer_core.proofs.Ranges.{distance_fits, magnitude_by_distance, within_fits}
+use Rattle.integer_core.proofs.ForAnswers.{◌∙◌, arith, subst, sym, linear, magnitude_by_distance, within_fits}
 use Rattle.integer_core.proofs.native.Magnitudes.magnitude.Goals as goal
 
 pub successor-requires-clause-sum_fits : goal.successor-requires-clause-sum_fits
@@ -7,7 +6,9 @@ successor-requires-clause-sum_fits g c = within_fits g.met.Self.Native.native_la
 
 pub difference-requires-clause-difference_fits : goal.difference-requires-clause-difference_fits
 difference-requires-clause-difference_fits g c =
-    rw (c.zero.ensures.value, c.successor.ensures.value) (distance_fits g.met.Self.Native.native_law.range c.requires (c.is_negative.ensures.0 c.if-is_negative.true))
+    let range = g.met.Self.Native.native_law.range in
+    let negative = c.is_negative.ensures.0 c.if-is_negative.true in
+    rw (c.zero.ensures.value, c.successor.ensures.value) ((range.between _).1 (omega (arith, linear, range.low_end, negative, (range.between _).0 c.requires)))
 
 pub successor-requires-then-is_negative : goal.successor-requires-then-is_negative
 successor-requires-then-is_negative g c =

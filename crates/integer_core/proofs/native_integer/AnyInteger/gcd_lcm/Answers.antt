@@ -1,5 +1,4 @@
-use Rattle.integer_core.proofs.Ranges.{lcm_is_magnitude}
-use Rattle.integer_core.proofs.CommonDivisors.{gcd_fits_is, gcd-magnitudes, lcm-magnitudes}
+use Rattle.integer_core.proofs.ForAnswers.{lcm_is_magnitude, gcd_fits_is, gcd-magnitudes, lcm-magnitudes}
 use Rattle.integer_core.proofs.native_integer.AnyInteger.gcd_lcm.Goals as goal
 
 pub gcd_lcm_of_magnitudes-gcd-requires-clause-lcm_fits : goal.gcd_lcm_of_magnitudes-gcd-requires-clause-lcm_fits

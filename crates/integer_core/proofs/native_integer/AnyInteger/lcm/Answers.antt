@@ -1,5 +1,4 @@
-use Rattle.integer_core.proofs.Ranges.{lcm_is_magnitude}
-use Rattle.integer_core.proofs.CommonDivisors.{lcm-magnitudes}
+use Rattle.integer_core.proofs.ForAnswers.{lcm_is_magnitude, lcm-magnitudes}
 use Rattle.integer_core.proofs.native_integer.AnyInteger.lcm.Goals as goal
 
 pub gcd_lcm_of_magnitudes-lcm-requires-clause-lcm_fits : goal.gcd_lcm_of_magnitudes-lcm-requires-clause-lcm_fits

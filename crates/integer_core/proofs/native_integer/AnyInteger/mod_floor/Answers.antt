@@ -1,5 +1,4 @@
-use Rattle.std.proofs.lemmas.Bool.{iff_false}
-use Rattle.integer_core.proofs.Quotients.{other_quotient_fits, floored_by_minus_one}
+use Rattle.integer_core.proofs.ForAnswers.{iff_false, other_quotient_fits, floored_by_minus_one}
 use Rattle.integer_core.proofs.native_integer.AnyInteger.mod_floor.Goals as goal
 
 pub div_mod_floor-requires-clause-quotient_fits : goal.div_mod_floor-requires-clause-quotient_fits

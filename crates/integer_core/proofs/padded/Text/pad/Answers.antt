@@ -1,7 +1,4 @@
-use Rattle.std.proofs.Common.{◌∙◌, subst, take, List, ℕ}
-use Rattle.std.specs.Fmt.{WritesStyledOnOk}
-use Rattle.integer_core.specs.Padded.{padded_text}
-use Rattle.integer_core.proofs.PaddedTexts.{kept_is_written, padded_text_plain, plain_from_styled}
+use Rattle.integer_core.proofs.ForAnswers.{◌∙◌, subst, take, List, ℕ, WritesStyledOnOk, padded_text, kept_is_written, padded_text_plain, plain_from_styled}
 use Rattle.integer_core.proofs.padded.Text.pad.Goals as goal
 
 pub returns-clause-styled : goal.returns-clause-styled

@@ -1,7 +1,4 @@
-use Rattle.std.proofs.Common.{◌∙◌, subst, take, List, ℕ}
-use Rattle.std.specs.Fmt.{WritesStyledOnOk}
-use Rattle.integer_core.specs.Padded.{padded_number}
-use Rattle.integer_core.proofs.PaddedTexts.{kept_is_written, padded_number_plain, plain_from_styled}
+use Rattle.integer_core.proofs.ForAnswers.{◌∙◌, subst, take, List, ℕ, WritesStyledOnOk, padded_number, kept_is_written, padded_number_plain, plain_from_styled}
 use Rattle.integer_core.proofs.padded.Text.pad_number.Goals as goal
 
 pub returns-clause-styled : goal.returns-clause-styled

@@ -1,5 +1,4 @@
-use Rattle.integer_core.proofs.Common.{refl, w128}
-use Rattle.integer_core.proofs.OddParts.{difference_by_shift}
+use Rattle.integer_core.proofs.ForAnswers.{refl, w128, difference_by_shift}
 use Rattle.integer_core.proofs.stein.U128Magnitude.odd_difference.Goals as goal
 
 pub overflow_shr-result : goal.overflow_shr-result

@@ -1,5 +1,4 @@
-use Rattle.integer_core.proofs.Common.{refl, w128}
-use Rattle.integer_core.proofs.OddParts.{odd_part_by_shift}
+use Rattle.integer_core.proofs.ForAnswers.{refl, w128, odd_part_by_shift}
 use Rattle.integer_core.proofs.stein.U128Magnitude.odd_part.Goals as goal
 
 pub returns-clause-odd : goal.returns-clause-odd

@@ -1,5 +1,4 @@
-use Rattle.integer_core.proofs.Common.{refl, w64}
-use Rattle.integer_core.proofs.OddParts.{difference_by_shift}
+use Rattle.integer_core.proofs.ForAnswers.{refl, w64, difference_by_shift}
 use Rattle.integer_core.proofs.stein.U64Magnitude.odd_difference.Goals as goal
 
 pub overflow_shr-result : goal.overflow_shr-result

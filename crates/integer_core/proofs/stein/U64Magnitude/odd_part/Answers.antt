@@ -1,5 +1,4 @@
-use Rattle.integer_core.proofs.Common.{refl, w64}
-use Rattle.integer_core.proofs.OddParts.{odd_part_by_shift}
+use Rattle.integer_core.proofs.ForAnswers.{refl, w64, odd_part_by_shift}
 use Rattle.integer_core.proofs.stein.U64Magnitude.odd_part.Goals as goal
 
 pub returns-clause-odd : goal.returns-clause-odd
