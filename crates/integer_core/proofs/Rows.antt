@@ -237,5 +237,6 @@ pub rows_few : {fits : ℤ → Type 0} {low high a b : ℤ} {current previous : 
     → RowsFit fits low high a b current previous t → t < 258
 rows_few {b = b} nonzero h =
     let last = last_rows h.rows in
-    let small : unsigned_abs b < 2 ^ 129 = omega (arith, linear, abs_is, h.given.0.low_end, h.given.0.positive, h.given.0.bounded, (h.given.0.between b).0 h.given.2) in
+    let range = h.given.0 in
+    let small : unsigned_abs b < 2 ^ 129 = omega (arith, linear, abs_is, range.low_end, range.positive, range.bounded, (range.between b).0 h.given.2) in
     omega (arith, last.1, few_iterations 129 nonzero (reaches_last last.0.rows.run last.0.ends) small)

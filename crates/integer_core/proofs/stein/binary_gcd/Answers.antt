@@ -9,8 +9,8 @@ gcd_of_magnitudes-gcd-requires-clause-power g c smallest m_nonzero n_nonzero = e
 
 pub number_or-gcd-requires : goal.number_or-gcd-requires
 number_or-gcd-requires g c =
-    let greatest = gcd-magnitudes c.magnitude.ensures.value c.magnitude-2.ensures.value c.gcd_of_magnitudes-gcd.ensures.greatest in
-    record { number_fits = (gcd_fits_is g.met.T.Native.native_law.range c.requires.in_range.0 c.requires.in_range.1).0 c.requires.gcd_fits _ greatest }
+    let own = gcd-magnitudes c.magnitude.ensures.value c.magnitude-2.ensures.value c.gcd_of_magnitudes-gcd.ensures.greatest in
+    record { number_fits = (gcd_fits_is g.met.T.Native.native_law.range c.requires.in_range.0 c.requires.in_range.1).0 c.requires.gcd_fits _ own }
 
 pub returns : goal.returns
 returns g c =

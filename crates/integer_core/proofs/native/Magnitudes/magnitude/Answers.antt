@@ -8,7 +8,7 @@ pub difference-requires-clause-difference_fits : goal.difference-requires-clause
 difference-requires-clause-difference_fits g c =
     let range = g.met.Self.Native.native_law.range in
     let negative = c.is_negative.ensures.0 c.if-is_negative.true in
-    rw (c.zero.ensures.value, c.successor.ensures.value) ((range.between _).1 (omega (arith, linear, range.low_end, negative, (range.between _).0 c.requires)))
+    rw (c.zero.ensures.value, c.successor.ensures.value) ((range.between _).1 (omega (arith, linear, range.low_end, (range.between _).0 c.requires)))
 
 pub successor-requires-then-is_negative : goal.successor-requires-then-is_negative
 successor-requires-then-is_negative g c =
