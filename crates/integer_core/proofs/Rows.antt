@@ -173,7 +173,9 @@ module _ {fits : ℤ → Type 0} {low high : ℤ} (range : IsRange fits low high
 
 -- what the loop keeps of the rows and their range
 pub record RowsFit (fits : ℤ → Type 0) (low high a b : ℤ) (current previous : Row) (t : ℕ) : Type 0 where
-  pub given : IsRange fits low high × fits a × fits b
+  pub range : IsRange fits low high
+  pub a_fits : fits a
+  pub b_fits : fits b
   pub rows : Rows a b current previous t
   pub current_fits : CoefficientsFit fits high current
   pub previous_fits : CoefficientsFit fits high previous
@@ -182,7 +184,9 @@ pub record RowsFit (fits : ℤ → Type 0) (low high a b : ℤ) (current previou
 pub rows_fit_first : {fits : ℤ → Type 0} {low high a b : ℤ} → IsRange fits low high → fits a → fits b → b ≢ pos 0 → HasPair fits a b
     → RowsFit fits low high a b (of_second b) (of_first a) 0
 rows_fit_first {a = a} {b = b} range a_fits b_fits nonzero pair = record {
-  given = (range, a_fits, b_fits);
+  range = range;
+  a_fits = a_fits;
+  b_fits = b_fits;
   rows = rows_first a b nonzero;
   current_fits = record { remainder = b_fits; x = zero_or_one_fits range (inl refl); y = zero_or_one_fits range (inr refl) };
   previous_fits = first_fits range a_fits;
@@ -210,19 +214,21 @@ module _ {fits : ℤ → Type 0} {low high a b q r : ℤ} {current previous : Ro
       → IsCoefficient fits high previous_x → StepFits fits high q x previous_x
   row_step_fits m_fits weighed previous_fits = elim (zero_or_not low) [
     | inl unsigned ↦
-        let none = no_quotient (no_minus_one h.given.0 unsigned) in
-        record { product = rw (none, zero-*ℤ) (zero_or_one_fits h.given.0 (inl refl)).in_range; next = rw (none, zero-*ℤ, +ℤ_idr) previous_fits }
+        let none = no_quotient (no_minus_one h.range unsigned) in
+        record { product = rw (none, zero-*ℤ) (zero_or_one_fits h.range (inl refl)).in_range; next = rw (none, zero-*ℤ, +ℤ_idr) previous_fits }
     | inr signed ↦
         let half = halves weighed row (not_one goes_on h.rows.nonzero) in
-        record { product = (half_fits h.given.0 signed m_fits half.0).in_range; next = half_fits h.given.0 signed m_fits half.1 }
+        record { product = (half_fits h.range signed m_fits half.0).in_range; next = half_fits h.range signed m_fits half.1 }
   ]
 
   pub iteration_fits : StepFits fits high q current.x previous.x × StepFits fits high q current.y previous.y
-  iteration_fits = (row_step_fits h.given.2 h.rows.x_weighed h.previous_fits.x, row_step_fits h.given.1 h.rows.y_weighed h.previous_fits.y)
+  iteration_fits = (row_step_fits h.b_fits h.rows.x_weighed h.previous_fits.x, row_step_fits h.a_fits h.rows.y_weighed h.previous_fits.y)
 
   pub rows_fit_iteration : fits r → RowsFit fits low high a b (next_row current previous q r) current (t + 1)
   rows_fit_iteration r_fits = record {
-    given = h.given;
+    range = h.range;
+    a_fits = h.a_fits;
+    b_fits = h.b_fits;
     rows = rows_iteration h.rows goes_on row;
     current_fits = record { remainder = r_fits; x = iteration_fits.0.next; y = iteration_fits.1.next };
     previous_fits = h.current_fits;
@@ -237,6 +243,5 @@ pub rows_few : {fits : ℤ → Type 0} {low high a b : ℤ} {current previous : 
     → RowsFit fits low high a b current previous t → t < 258
 rows_few {b = b} nonzero h =
     let last = last_rows h.rows in
-    let range = h.given.0 in
-    let small : unsigned_abs b < 2 ^ 129 = omega (arith, linear, abs_is, range.low_end, range.positive, range.bounded, (range.between b).0 h.given.2) in
+    let small : unsigned_abs b < 2 ^ 129 = omega (arith, linear, abs_is, h.range.low_end, h.range.positive, h.range.bounded, (h.range.between b).0 h.b_fits) in
     omega (arith, last.1, few_iterations 129 nonzero (reaches_last last.0.rows.run last.0.ends) small)

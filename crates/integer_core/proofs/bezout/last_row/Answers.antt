@@ -11,7 +11,7 @@ pub div_rem-quotient-requires-clause-quotient_fits : goal.div_rem-quotient-requi
 div_rem-quotient-requires-clause-quotient_fits g c q h =
     let goes_on = iff_false c.is_multiple_of.ensures c.rows-test.true in
     let keeps = c.rows.invariant in
-    inexact_quotient_fits keeps.given.0 keeps.previous_fits.remainder keeps.current_fits.remainder h.division.division (inexact h.division goes_on)
+    inexact_quotient_fits keeps.range keeps.previous_fits.remainder keeps.current_fits.remainder h.division.division (inexact h.division goes_on)
 
 pub product-requires-clause-product_fits : goal.product-requires-clause-product_fits
 product-requires-clause-product_fits g c =
@@ -45,8 +45,8 @@ returns g c =
     let h = c.rows.invariant in
     let ends = c.is_multiple_of.ensures.0 c.rows-test.false in
     record {
-      x_fits = sign_fits h.given.0 h.current_fits.remainder h.current_fits.x;
-      y_fits = sign_fits h.given.0 h.current_fits.remainder h.current_fits.y;
+      x_fits = sign_fits h.range h.current_fits.remainder h.current_fits.x;
+      y_fits = sign_fits h.range h.current_fits.remainder h.current_fits.y;
       greatest = last_gcd h.rows ends;
       at_once = last_at_once h.rows;
       after_iterations = last_after_iterations h.rows ends;
