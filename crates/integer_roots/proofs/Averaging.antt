@@ -1,13 +1,5 @@
 -- Averages by bits: two numbers are twice the bits that both have, and those that one alone has.
-use Rattle.std.specs.Prelude.{◌≡◌, ◌*◌, ◌+◌, ◌+ℤ◌, ◌-ℤ◌, ◌*ℤ◌, ◌≤ℤ◌, ◌<ℤ◌}
-use Rattle.integer_core.proofs.Common.{ℕ, ℤ, pos, negsuc, bit_and, bit_or, bit_xor, Width, FitsUnsignedBits, arith, subst, sym, ap, ◌∙◌, lt_of_le_of_lt, ints, by_lt_z, and_le_l, or_lt, xor_lt, products}
-use Rattle.std.specs.Int.{bit_at, int_shr}
-use Rattle.std.specs.Int.Bits.{xor_add_and, or_add_and}
-use Rattle.std.proofs.lemmas.Nat.Bits.{bit_at_and, bit_at_or, bit_at_xor, bit_at-lt}
-use Rattle.num_traits.specs.Laws.{bit_len, wrap_unsigned}
-use Rattle.num_traits.specs.Ints.{unsigned-wrap_fits}
-use Rattle.integer_core.specs.TwosComplement.{IsTwosComplement}
-use Rattle.integer_roots.specs.Averages.{IsAverageFloor, IsAverageCeil}
+use Rattle.integer_roots.proofs.Common.{◌≡◌, ◌*◌, ◌+◌, ◌+ℤ◌, ◌-ℤ◌, ◌*ℤ◌, ◌≤ℤ◌, ◌<ℤ◌, ℕ, ℤ, pos, bit_and, bit_or, bit_xor, Width, FitsUnsignedBits, arith, subst, sym, ap, ◌∙◌, lt_of_le_of_lt, ints, by_lt_z, and_le_l, or_lt, xor_lt, products, bit_at, int_shr, xor_add_and, or_add_and, bit_at_and, bit_at_or, bit_at_xor, bit_at-lt, bit_len, wrap_unsigned, unsigned-wrap_fits, IsTwosComplement, IsAverageFloor, IsAverageCeil}
 use mir.Val.{hbits}
 
 -- the numbers of the bits that both have, that either has, and that one alone has
@@ -30,8 +22,7 @@ shared h weight m n =
 
 -- a shift by one place halves a number, rounding down
 shifted_half : (x : ℤ) → ((pos 2 *ℤ int_shr x 1) ≤ℤ x) × (x <ℤ (pos 2 *ℤ int_shr x 1 +ℤ pos 2))
-shifted_half (pos n) = omega (arith, ints)
-shifted_half (negsuc n) = omega (arith, ints)
+shifted_half x = grind (arith, ints)
 
 -- a number that is half of a + b, to the nearest half, lies between a and b
 amid_fits : {fits : ℤ → Type 0} {a b : ℤ} → ((x y z : ℤ) → fits x → fits z → x ≤ℤ y → y ≤ℤ z → fits y) → fits a → fits b

@@ -1,5 +1,5 @@
 -- Each answer is the only number that meets its definition.
-use Rattle.integer_roots.proofs.Common.{◌≡◌, ℤ, pos, negsuc, ℕ, arith, sym, ◌∙◌, ints, by_lt_z, IsOnly, linear, products, only_iterations, IsAverageFloor, IsAverageCeil, IsFloorRoot, IsRoot, Guess, Rising, Falling, IsNewtonIteration, NewtonEnds, MakesNewtonRun, AreSquareRootIterations}
+use Rattle.integer_roots.proofs.Common.{◌≡◌, ℤ, pos, ℕ, arith, sym, ◌∙◌, ints, by_lt_z, IsOnly, linear, products, only_iterations, IsAverageFloor, IsAverageCeil, IsFloorRoot, IsRoot, Guess, IsNewtonIteration, NewtonEnds, MakesNewtonRun, AreSquareRootIterations}
 use Rattle.integer_roots.proofs.Powers.{base_below, highest_bit}
 
 pub average_floor_is_only : (a b f : ℤ) → IsAverageFloor a b f → IsOnly (IsAverageFloor a b) f
@@ -9,9 +9,7 @@ pub average_ceil_is_only : (a b c : ℤ) → IsAverageCeil a b c → IsOnly (IsA
 average_ceil_is_only a b c h d k = omega (arith, products, h.previous_double_lt, h.double_ge, k.previous_double_lt, k.double_ge)
 
 floor_root_is_only_one : {x r : ℤ} {n : ℕ} → IsFloorRoot x n r → IsOnly (IsFloorRoot x n) r
-floor_root_is_only_one {r = negsuc i} h s k = absurd (omega (arith, ints, h.from_zero))
-floor_root_is_only_one {r = pos i} h (negsuc j) k = absurd (omega (arith, ints, k.from_zero))
-floor_root_is_only_one {r = pos i} {n = n} h (pos j) k = grind (arith, base_below)
+floor_root_is_only_one h s k = grind (arith, ints, base_below)
 
 pub root_is_only_one : {x r : ℤ} {n : ℕ} → IsRoot x n r → IsOnly (IsRoot x n) r
 root_is_only_one {x} h s k = by_lt_z x (pos 0)
@@ -20,19 +18,10 @@ root_is_only_one {x} h s k = by_lt_z x (pos 0)
 
 -- a state has at most one iteration, and no iteration if the run ends at it
 one_iteration : (a : ℕ) (s t : Guess) → IsNewtonIteration a s t → IsOnly (IsNewtonIteration a s) t
-one_iteration a (Rising x) (Rising y) h (Rising z) k = cc (h.1, k.1)
-one_iteration a (Rising x) (Rising y) h (Falling z) k = absurd (omega arith)
-one_iteration a (Rising x) (Falling y) h (Rising z) k = absurd (omega arith)
-one_iteration a (Rising x) (Falling y) h (Falling z) k = cc (h.1, k.1)
-one_iteration a (Falling x) (Rising y) h u k = absurd h
-one_iteration a (Falling x) (Falling y) h (Rising z) k = absurd k
-one_iteration a (Falling x) (Falling y) h (Falling z) k = cc (h.1, k.1)
+one_iteration a s t h u k = grind arith
 
 no_iteration : (a : ℕ) (s t : Guess) → NewtonEnds a s → ¬ (IsNewtonIteration a s t)
-no_iteration a (Rising x) (Rising y) h k = omega arith
-no_iteration a (Rising x) (Falling y) h k = omega arith
-no_iteration a (Falling x) (Rising y) h k = k
-no_iteration a (Falling x) (Falling y) h k = omega arith
+no_iteration a s t h k = grind arith
 
 one_count : {a m n : ℕ} → MakesNewtonRun a m → MakesNewtonRun a n → m ≡ n
 one_count {a} {m} h k =

@@ -132,9 +132,7 @@ module _ {step : ℕ → ℕ → Type 0} {a n limit first : ℕ} (known : IsStar
 
   -- no guess of the second loop is below the root
   above_root : {x iterations : ℕ} → IsReached step first (Falling x) iterations → a < (x + 1) ^ n
-  above_root (goes_over {x} {y} reached is down) =
-      omega (arith, newton_above (stepped x y is (in_range reached).above_one), pow-le-pow_left {n = y + 1} {m = x + 1} (omega arith) n)
-  above_root (falls {x} {y} reached is down) = newton_above (stepped x y is (in_range reached).above_one)
+  above_root h = grind (arith, newton_above, stepped, in_range, pow-le-pow_left)
 
   -- so the guess at which they end is the root
   pub ended_at_root : {x iterations : ℕ} → IsReached step first (Falling x) iterations → (next : ℕ) × step x next × (x ≤ next) → IsFloorRoot (pos a) n (pos x)

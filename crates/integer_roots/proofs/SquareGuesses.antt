@@ -1,5 +1,5 @@
 -- The guesses of a square root's two loops: how near the root each iteration brings them, and that five iterations are enough.
-use Rattle.integer_roots.proofs.Common.{◌≡◌, ◌+◌, ◌-◌, ◌*◌, ◌/◌, ◌^◌, ◌<◌, ◌≤◌, ◌∷◌, ◌%◌, pos, ℕ, zero, suc, List, [], ◌∙◌, arith, refl, add-one, mul-le-mul, mul-le-mul_left, mul-le-mul_right, le_of_mul-le-mul_right, mul-pos, div-mul-le_self, div-lt_iff_lt-mul, le_trans, pow-add, pow_mono, lt_of_not-le, one_shl, IsRun, Reaches, reaches_first, reaches_iteration, reaches_instead, reaches_last, square_step, Guess, Rising, Falling, IsNewtonIteration, NewtonEnds, IsHighestBit, first_guess, AreSquareRootIterations, guess_of, IsReached, begins, rises, goes_over, falls}
+use Rattle.integer_roots.proofs.Common.{◌≡◌, ◌+◌, ◌-◌, ◌*◌, ◌/◌, ◌^◌, ◌<◌, ◌≤◌, ◌∷◌, ◌%◌, pos, ℕ, zero, suc, List, ◌∙◌, arith, refl, add-one, mul-le-mul, mul-le-mul_left, mul-le-mul_right, le_of_mul-le-mul_right, mul-pos, div-mul-le_self, div-lt_iff_lt-mul, le_trans, pow-add, pow_mono, lt_of_not-le, one_shl, IsRun, Reaches, reaches_first, reaches_iteration, reaches_instead, reaches_last, square_step, Guess, Rising, Falling, IsNewtonIteration, NewtonEnds, IsHighestBit, first_guess, AreSquareRootIterations, guess_of, IsReached, begins, rises, goes_over, falls}
 use Rattle.integer_roots.proofs.RootGuesses.{cross, square_step_is, IsStart, start, in_range}
 use Rattle.integer_roots.proofs.Powers.{power_two}
 
@@ -96,9 +96,7 @@ near_at_first {first = first} s =
 -- if the step does not rise, a run from a falling guess is one from the same guess, rising
 settled_run : (a x : ℕ) (rest : List Guess) → square_step a x ≤ x
     → IsRun (IsNewtonIteration a) (NewtonEnds a) (Falling x ∷ rest) → IsRun (IsNewtonIteration a) (NewtonEnds a) (Rising x ∷ rest)
-settled_run a x [] le run = omega arith
-settled_run a x (Rising y ∷ rest) le run = absurd run.0
-settled_run a x (Falling y ∷ rest) le run = run
+settled_run a x rest le run = grind arith
 
 -- each guess that the loops reach is reached by the iterations of a run
 run_to : (a : ℕ) {first iterations : ℕ} {guess : Guess} → IsReached (IsSquareStep a) first guess iterations
