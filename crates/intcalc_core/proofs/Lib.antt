@@ -3,7 +3,6 @@ pub mod OnlyOutcome
 pub mod FractionLemmas
 mod OperandLemmas
 pub mod OnlyLine
-mod NumberLemmas
 mod DecimalLemmas
 mod SinkLemmas
 mod WordsLemmas

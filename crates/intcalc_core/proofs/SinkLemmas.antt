@@ -1,12 +1,9 @@
 -- One addition after another.
-use Rattle.intcalc_core.proofs.Common.{◌≡◌, ℕ, List, ◌++◌, Option, Some, None, take, drop, length, arith, ◌≤◌, ◌-◌, Appends, common_steps}
+use Rattle.intcalc_core.proofs.Common.{◌≡◌, ℕ, List, ◌++◌, Option, take, drop, length, arith, ◌≤◌, ◌-◌, Appends, common_steps}
 
 -- x is added, and then y
 pub Appends-trans : (a b c : Option (List ℕ)) (x y : List ℕ) → Appends a b x → Appends b c y → Appends a c (x ++ y)
-Appends-trans None b c x y p q = tt
-Appends-trans (Some s) None c x y p q = absurd p
-Appends-trans (Some s) (Some t) None x y p q = absurd q
-Appends-trans (Some s) (Some t) (Some u) x y p q = grind (arith, common_steps)
+Appends-trans a b c x y p q = grind (arith, common_steps)
 
 -- the first part of what is left goes out
 pub part : (done rest all : List ℕ) (n : ℕ) → n ≤ length rest → done ++ rest ≡ all → (done ++ take n rest) ++ take (length rest - n) (drop n rest) ≡ all
