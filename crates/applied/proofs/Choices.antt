@@ -1,6 +1,5 @@
 -- Choices, their ranks and order, the choice of a rank, and the choice of the next rank.
-use Rattle.std.specs.Prelude.{◌≡◌, ◌⊎◌, ◌↔◌, ◌<◌, ◌≤◌, ◌+◌, ◌-◌}
-use Rattle.applied.proofs.Common.{ℕ, zero, suc, List, length, slice_index, slice_set, take, sum_by, IsStrictlyIncreasing, enumerate_from, arith, ap, inl, inr, refl, subst, sym, ◌∙◌, add-one, one-add, cases_lt, ext_get_or, get_or-set_other, get_or-set_same, length-set, take_all, All-from_get_or, get_or-enumerate_from, length-enumerate_from, sum_by-take-le, sum_by_more, coefficient, coefficient-zero, coefficient_grows, pascal, ChoiceOfRankIsOnly, RankIsBelow, IsBefore, IsChoice, IsChoiceOfRank, slice_index_or, get_or_default, get_or_past, none_above, IsFirstToRise, IsLastChoice}
+use Rattle.applied.proofs.Common.{◌≡◌, ◌⊎◌, ◌↔◌, ◌<◌, ◌≤◌, ◌+◌, ◌-◌, ℕ, zero, suc, List, length, slice_index, slice_set, take, sum_by, IsStrictlyIncreasing, enumerate_from, arith, ap, inl, inr, refl, subst, sym, ◌∙◌, add-one, one-add, cases_lt, ext_get_or, get_or-set_other, get_or-set_same, length-set, take_all, All-from_get_or, get_or-enumerate_from, length-enumerate_from, sum_by-take-le, sum_by_more, coefficient, coefficient-zero, coefficient_grows, pascal, ChoiceOfRankIsOnly, RankIsBelow, IsBefore, IsChoice, IsChoiceOfRank, slice_index_or, get_or_default, get_or_past, none_above, IsFirstToRise, IsLastChoice}
 use Rattle.applied.specs.Ranking.{rank_of}
 
 -- ---- the rank of the first i numbers
@@ -23,13 +22,9 @@ rank_of_more xs i within =
     let more = sum_by_more term_of (enumerate_from 1 xs) i (0, 0) (omega (arith, length-enumerate_from 1 xs)) in
     rw (add-one, placed, one-add) at more
 
-pub rank_of_all : (xs : List ℕ) → rank_of_first (length xs) xs ≡ rank_of xs
+pub rank_of_all : (xs : List ℕ) (k : ℕ) → k ≡ length xs → rank_of_first k xs ≡ rank_of xs
 unfolding rank_of_first rank_of
-rank_of_all xs = ap (sum_by term_of) (take_all (length xs) (enumerate_from 1 xs) (omega (arith, length-enumerate_from 1 xs)))
-
-rank_of_first_at_most : (xs : List ℕ) (i : ℕ) → rank_of_first i xs ≤ rank_of xs
-unfolding rank_of_first rank_of
-rank_of_first_at_most xs i = sum_by-take-le term_of (enumerate_from 1 xs) i
+rank_of_all xs k end = ap (sum_by term_of) (take_all k (enumerate_from 1 xs) (omega (arith, length-enumerate_from 1 xs)))
 
 -- it is below the number of choices of i numbers below m, if the last of them is below m
 rank_of_first_below : (xs : List ℕ) (i m : ℕ) → IsStrictlyIncreasing xs → i ≤ length xs → ((j : ℕ) → suc j ≡ i → slice_index xs j < m) → rank_of_first i xs < coefficient m i
@@ -43,18 +38,15 @@ rank_of_first_below xs (suc i) m up within last =
 
 pub rank_is_below : RankIsBelow
 rank_is_below = λ n xs h.
-    let below = rank_of_first_below xs (length xs) n h.increasing (omega arith) (λ j e. h.below j 0 (omega arith)) in
-    omega (arith, below, rank_of_all xs)
+    omega (arith, rank_of_first_below xs (length xs) n h.increasing (omega arith) (λ j e. h.below j 0 (omega arith)), rank_of_all xs (length xs) refl)
 
 -- each sum on the way is at most the rank
 pub next_rank_at_most : (xs : List ℕ) (i : ℕ) → i < length xs → rank_of_first i xs + coefficient (slice_index xs i) (i + 1) ≤ rank_of xs
-next_rank_at_most xs i within = rw add-one (omega (arith, rank_of_more xs i within, rank_of_first_at_most xs (suc i)))
+unfolding rank_of_first rank_of
+next_rank_at_most xs i within = rw add-one (omega (arith, rank_of_more xs i within, sum_by-take-le term_of (enumerate_from 1 xs) (suc i)))
 
 pub next_rank : (xs : List ℕ) (i : ℕ) → i < length xs → rank_of_first (i + 1) xs ≡ rank_of_first i xs + coefficient (slice_index xs i) (i + 1)
 next_rank xs i within = rw add-one (rank_of_more xs i within)
-
--- the steps of the sum
-pub ruleset rank_steps = (rank_of_none, rank_of_all, next_rank, next_rank_at_most)
 
 -- ---- the choice of a rank
 
@@ -74,25 +66,6 @@ pub record IsWrittenFrom (n k r i bound rest : ℕ) (written : List ℕ) : Type 
   pub below : rest < coefficient bound i
   pub completes : (xs : List ℕ) → SameFrom i xs written → IsFirst xs i bound rest → IsChoiceOfRank n k r xs
 
-whole_choice : {xs : List ℕ} {n r k : ℕ} → length xs ≡ k → IsFirst xs k n r → IsChoiceOfRank n k r xs
-whole_choice {xs} {n} size h = record {
-  size = size;
-  choice = record { increasing = λ j k. h.increasing j (omega arith); below = All-from_get_or (λ (c : ℕ). c < n) xs 0 (λ j k. h.below j (omega arith)) };
-  rank = sym (rank_of_all xs) ∙ rw size h.rank;
-}
-
-no_first : {xs : List ℕ} {bound rest : ℕ} → rest ≡ 0 → IsFirst xs 0 bound rest
-no_first {xs} none = record { increasing = λ j h. absurd (omega arith); below = λ j h. absurd (omega arith); rank = rank_of_none xs ∙ sym none }
-
--- a number at place i that is below the bound and above the first i numbers
-first_with_next : {xs : List ℕ} {i c bound rest : ℕ} → i < length xs → slice_index xs i ≡ c → c < bound → coefficient c (i + 1) ≤ rest
-    → IsFirst xs i c (rest - coefficient c (i + 1)) → IsFirst xs (i + 1) bound rest
-first_with_next {xs} {i} {c} {bound} {rest} within at below part h = grind (arith, next_rank)
-
--- after a write at place i the same numbers stand behind it
-same_after_write : {xs ys : List ℕ} {i c : ℕ} → i < length ys → SameFrom i xs (slice_set ys i c) → SameFrom (i + 1) xs ys × (slice_index xs i ≡ c)
-same_after_write {xs} {ys} {i} {c} within h = grind (arith, length, slice_set, length-set, get_or-set_other, get_or-set_same)
-
 -- what is left after the largest coefficient is below the one before it
 rest_below : (c i rest : ℕ) → coefficient c (i + 1) ≤ rest → rest < coefficient (c + 1) (i + 1) → rest - coefficient c (i + 1) < coefficient c i
 rest_below c i rest part greatest =
@@ -100,19 +73,29 @@ rest_below c i rest part greatest =
     omega arith
 
 pub none_written : {n r : ℕ} {ys : List ℕ} → r < coefficient n (length ys) → IsWrittenFrom n (length ys) r (length ys) n r ys
-none_written below = record { below = below; completes = λ xs same first. whole_choice same.size first }
+none_written {n} below = record {
+  below = below;
+  completes = λ xs same h. record {
+    size = same.size;
+    choice = record { increasing = λ j k. h.increasing j (omega (arith, same.size)); below = All-from_get_or (λ (c : ℕ). c < n) xs 0 (λ j k. h.below j (omega (arith, same.size))) };
+    rank = sym (rank_of_all xs _ (sym same.size)) ∙ h.rank;
+  };
+}
 
 pub one_more_written : {n k r i j bound rest c : ℕ} {ys : List ℕ} → j + 1 ≡ i → j < length ys → c < bound → coefficient c (j + 1) ≤ rest → rest < coefficient (c + 1) (j + 1)
     → IsWrittenFrom n k r i bound rest ys → IsWrittenFrom n k r j c (rest - coefficient c (j + 1)) (slice_set ys j c)
-one_more_written {j = j} {rest = rest} {c = c} {ys = ys} next within below part greatest h = record {
+one_more_written {i = i} {j = j} {bound = bound} {rest = rest} {c = c} {ys = ys} next within below part greatest h = record {
   below = rest_below c j rest part greatest;
   completes = λ xs same first.
-      let after = same_after_write within same in
-      h.completes xs (rw next at after.0) (rw next at (first_with_next (omega (arith, after.0.size)) after.1 below part first));
+      let after : SameFrom (j + 1) xs ys × (slice_index xs j ≡ c) = grind (arith, length, slice_set, length-set, get_or-set_other, get_or-set_same) in
+      let more : IsFirst xs (j + 1) bound rest = grind (arith, next_rank) in
+      h.completes xs (rw next at after.0) (rw next at more);
 }
 
 pub all_written : {n k r bound rest : ℕ} {ys : List ℕ} → IsWrittenFrom n k r 0 bound rest ys → IsChoiceOfRank n k r ys
-all_written {bound = bound} {ys = ys} h = h.completes ys (record { size = refl; same = λ j from within. refl }) (no_first (omega (arith, h.below, coefficient-zero bound)))
+all_written {bound = bound} {rest = rest} {ys = ys} h =
+    let none : rest ≡ 0 = omega (arith, h.below, coefficient-zero bound) in
+    h.completes ys (record { size = refl; same = λ j from within. refl }) (grind (arith, rank_of_none))
 
 -- ---- the order of choices
 
@@ -149,23 +132,12 @@ before_first (suc i) xs ys up in_xs in_ys h = elim (cases_lt h.place i) [
   | inr last ↦
       -- whatever the numbers before it, a lesser number makes the rank less
       let e : h.place ≡ i = omega (arith, h.within) in
-      let lesser = rw e at h.lesser in
-      let most = rank_of_first_below xs (suc i) (suc (slice_index xs i)) up (omega arith)
-      (λ j same. let here : j ≡ i = omega arith in rw here (omega arith)) in
-      omega (
-        arith,
-        most,
-        rank_of_more ys i (omega arith),
-        coefficient_grows (suc (slice_index xs i)) (slice_index ys i) (suc i) (omega arith),
-      )
+      let most = rank_of_first_below xs (suc i) (slice_index ys i) up (omega arith) (λ j same. let here : j ≡ i = omega arith in rw here (rw e at h.lesser)) in
+      omega (arith, most, rank_of_more ys i (omega arith))
 ]
 
 before_less : {xs ys : List ℕ} {k : ℕ} → IsStrictlyIncreasing xs → length xs ≡ k → length ys ≡ k → IsBefore k xs ys → rank_of xs < rank_of ys
-before_less {xs} {ys} {k} up xs_size ys_size h =
-    let less = before_first k xs ys up (omega arith) (omega arith) h in
-    let xs_whole : rank_of_first k xs ≡ rank_of xs = rw xs_size at (rank_of_all xs) in
-    let ys_whole : rank_of_first k ys ≡ rank_of ys = rw ys_size at (rank_of_all ys) in
-    omega arith
+before_less {xs} {ys} {k} up xs_size ys_size h = omega (arith, before_first k xs ys up (omega arith) (omega arith) h, rank_of_all xs k (sym xs_size), rank_of_all ys k (sym ys_size))
 
 -- a choice is before another exactly if its rank is less
 pub before_exactly : {n : ℕ} {xs ys : List ℕ} → IsChoice n xs → IsChoice n ys → length xs ≡ length ys → IsBefore (length ys) xs ys ↔ (rank_of xs < rank_of ys)
@@ -177,6 +149,9 @@ before_exactly {n} {xs} {ys} x y size = (
     | inr (inr after) ↦ absurd (omega (arith, before_less y.increasing refl size after))
   ],
 )
+
+-- the steps of the sum, and what is known of the whole sum
+pub ruleset rank_steps = (rank_of_none, rank_of_all, next_rank, next_rank_at_most, rank_is_below)
 
 -- choices of one size and rank are the same
 pub choice_of_rank_is_only : ChoiceOfRankIsOnly
@@ -209,7 +184,7 @@ rank_of_run n xs (suc i) within run =
     rw (← next) (omega (arith, before, rank_of_more xs i (omega arith), pascal (slice_index xs i) i))
 
 pub last_rank : (n : ℕ) (xs : List ℕ) → IsLastChoice n xs → rank_of xs + 1 ≡ coefficient n (length xs)
-last_rank n xs run = rw (rank_of_all xs, get_or_past xs (length xs) n (omega arith)) at (rank_of_run n xs (length xs) (omega arith) run)
+last_rank n xs run = rw (rank_of_all xs (length xs) refl, get_or_past xs (length xs) n (omega arith)) at (rank_of_run n xs (length xs) (omega arith) run)
 
 -- ---- one number raised
 
@@ -247,21 +222,15 @@ raised_rank {n} {i} {xs} {ys} first h (suc k) above within = elim (cases_lt i k)
 from_place : (xs : List ℕ) → IsStrictlyIncreasing xs → (i : ℕ) → i < length xs → i ≤ slice_index xs i
 from_place xs up zero within = omega arith
 from_place xs up (suc i) within =
-    let above : slice_index xs i < slice_index xs (suc i) = simp add-one at (up i (omega arith)) in
-    omega (arith, from_place xs up i (omega arith))
-
-raised_increases : {n i : ℕ} {xs ys : List ℕ} → IsChoice n xs → IsFirstToRise n xs i → IsRaisedAt i xs ys → IsStrictlyIncreasing ys
-raised_increases {n} {i} {xs} {ys} choice first h = grind (arith, from_place, get_or_default)
-
-raised_below : {n i : ℕ} {xs ys : List ℕ} → IsChoice n xs → IsFirstToRise n xs i → IsRaisedAt i xs ys → (j : ℕ) → j < length ys → slice_index ys j < n
-raised_below {n} {i} {xs} {ys} choice first h j within = grind (arith, from_place, get_or_default, get_or_past)
+    omega (arith, from_place xs up i (omega arith), simp add-one at (up i (omega arith)))
 
 -- the number at the first place that can rise, one more, begins the choice of the next rank
 pub next_choice_is : {n i : ℕ} {xs ys : List ℕ} → IsChoice n xs → IsFirstToRise n xs i → IsRaisedAt i xs ys → IsChoiceOfRank n (length xs) (rank_of xs + 1) ys
 next_choice_is {n} {i} {xs} {ys} choice first h = record {
   size = h.size;
-  choice = record { increasing = raised_increases choice first h; below = All-from_get_or (λ (c : ℕ). c < n) ys 0 (raised_below choice first h) };
-  rank =
-      let all : rank_of_first (length xs) ys ≡ rank_of ys = rw h.size at (rank_of_all ys) in
-      omega (arith, raised_rank first h (length xs) first.within (omega arith), rank_of_all xs, all);
+  choice = record {
+    increasing = grind (arith, from_place, get_or_default);
+    below = All-from_get_or (λ (c : ℕ). c < n) ys 0 (λ j within. grind (arith, from_place, get_or_default, get_or_past));
+  };
+  rank = omega (arith, raised_rank first h (length xs) first.within (omega arith), rank_of_all xs (length xs) refl, rank_of_all ys (length xs) (sym h.size));
 }

@@ -1,14 +1,9 @@
 -- Falling factorials as products of the numbers above one number up to another.
-use Rattle.std.specs.Prelude.{◌≡◌, ◌<◌, ◌≤◌, ◌+◌, ◌-◌, ◌*◌, ◌≤ℤ◌, ◌<ℤ◌, ◌+ℤ◌, ◌-ℤ◌, ◌*ℤ◌}
-use Rattle.applied.proofs.Common.{fits_below, ℕ, ℤ, zero, suc, pos, unsigned_abs, arith, ap, inl, inr, refl, subst, sym, eq_of_mul-eq-mul_left, cases_lt, ints, IsRange, factorial-pos, linear, none_above, sizes, factorial_formula, factorial_of, falling_of, FallingByCoefficient, FallingFormula}
+use Rattle.applied.proofs.Common.{◌≡◌, ◌<◌, ◌≤◌, ◌+◌, ◌-◌, ◌*◌, ◌≤ℤ◌, ◌<ℤ◌, ◌+ℤ◌, ◌-ℤ◌, ◌*ℤ◌, fits_below, ℕ, ℤ, zero, suc, pos, unsigned_abs, arith, ap, inl, inr, refl, eq_of_mul-eq-mul_left, cases_lt, ints, IsRange, factorial-pos, linear, none_above, sizes, factorial_formula, factorial_of, falling_of, FallingByCoefficient, FallingFormula, ◌∙◌}
 use Rattle.num_integer.specs.Coefficient.{factorial}
 use Rattle.applied.specs.Counting.{falling}
 
 -- ---- over natural numbers
-
-falling-suc : (n k : ℕ) → falling (suc n) (suc k) ≡ suc n * falling n k
-unfolding falling
-falling-suc n k = refl
 
 -- no more than n of n things stand in a row
 pub falling_none : (n k : ℕ) → n < k → falling n k ≡ 0
@@ -25,11 +20,12 @@ falling_all (suc n) = ap (λ (t : ℕ). suc n * t) (falling_all n)
 
 -- more factors above the same number do not make the product smaller
 falling_grows : (a j d : ℕ) → falling (a + j) j ≤ falling (a + j + d) (j + d)
+unfolding falling
 falling_grows a j zero = grind arith
 falling_grows a j (suc d) =
     let e : a + j + suc d ≡ suc (a + j + d) = omega arith in
     let f : j + suc d ≡ suc (j + d) = omega arith in
-    rw (e, f, falling-suc (a + j + d) (j + d)) (omega (arith, falling_grows a j d))
+    rw (e, f) (omega (arith, falling_grows a j d))
 
 pub falling_formula : FallingFormula
 unfolding falling factorial
@@ -37,16 +33,13 @@ falling_formula n zero within = let e : n - 0 ≡ n = omega arith in rw e (omega
 falling_formula zero (suc k) within = absurd (omega arith)
 falling_formula (suc n) (suc k) within =
     let e : suc n - suc k ≡ n - k = omega arith in
-    let times = ap (λ (t : ℕ). suc n * t) (falling_formula n k (omega arith)) in
-    rw e (omega arith)
+    rw e (omega (arith, ap (λ (t : ℕ). suc n * t) (falling_formula n k (omega arith))))
 
 pub falling_by_coefficient : FallingByCoefficient
 falling_by_coefficient n k = elim (cases_lt n k) [
   | inl above ↦ rw (falling_none n k above, none_above n k above) (omega arith)
   | inr within ↦
-      let one = falling_formula n k within in
-      let other = factorial_formula n k within in
-      eq_of_mul-eq-mul_left (factorial (n - k)) (factorial-pos (n - k)) _ _ (omega arith)
+      eq_of_mul-eq-mul_left (factorial (n - k)) (factorial-pos (n - k)) _ _ (omega (arith, falling_formula n k within, factorial_formula n k within))
 ]
 
 -- ---- over integers
@@ -81,10 +74,11 @@ module _ {fits : ℤ → Type 0} {low high : ℤ} where
 
   module _ {factor product : ℤ} (h : IsProductSoFar fits low factor high product) (low_up : pos 0 ≤ℤ low) where
     next_is : product *ℤ (factor +ℤ pos 1) ≡ pos (falling (unsigned_abs low + suc h.count) (suc h.count))
+    unfolding falling
     next_is =
         let next : factor +ℤ pos 1 ≡ pos (suc (unsigned_abs low + h.count)) = omega (arith, sizes, h.at) in
         let e : unsigned_abs low + suc h.count ≡ suc (unsigned_abs low + h.count) = omega arith in
-        rw (h.is, next, e, falling-suc (unsigned_abs low + h.count) h.count) (omega (arith, ints))
+        rw (h.is, next, e) (omega (arith, ints))
 
     pub next_factor_fits : {least most : ℤ} → factor <ℤ high → IsRange fits least most → fits high → fits (factor +ℤ pos 1)
     next_factor_fits more range high_fits = fits_below range high_fits (omega (arith, linear, h.at)) (omega (arith, linear))
@@ -96,27 +90,14 @@ module _ {fits : ℤ → Type 0} {low high : ℤ} where
         let rest = unsigned_abs (high -ℤ (factor +ℤ pos 1)) in
         let top : unsigned_abs high ≡ unsigned_abs low + suc h.count + rest = omega (arith, sizes, h.at) in
         let all : unsigned_abs (high -ℤ low) ≡ suc h.count + rest = omega (arith, sizes, h.at) in
-        let last = rw (top, all) at last_fits in
-        let grows = falling_grows (unsigned_abs low) (suc h.count) rest in
-        subst fits (sym next_is) (fits_below range last (omega (arith, ints)) (omega (arith, ints)))
+        rw next_is (fits_below range (rw (top, all) at last_fits) (omega (arith, ints)) (omega (arith, ints, falling_grows (unsigned_abs low) (suc h.count) rest)))
 
-    pub product_next : factor <ℤ high → fits (factor +ℤ pos 1) → fits (product *ℤ (factor +ℤ pos 1))
-        → IsProductSoFar fits low (factor +ℤ pos 1) high (product *ℤ (factor +ℤ pos 1))
-    product_next more next_fits times_fits = record {
+    pub product_next : {next times : ℤ} → factor <ℤ high → next ≡ factor +ℤ pos 1 → times ≡ product *ℤ next → fits next → fits times → IsProductSoFar fits low next high times
+    product_next more next_at times_at next_fits times_fits = record {
       factor_in_range = next_fits;
       product_in_range = times_fits;
       count = suc h.count;
       at = omega (arith, linear, h.at);
       to_high = omega (arith, linear);
-      is = next_is;
+      is = times_at ∙ rw next_at next_is;
     }
-
-    -- what is left of the factors becomes less
-    pub fewer_left : {next : ℤ} → factor <ℤ high → next ≡ factor +ℤ pos 1 → unsigned_abs high - unsigned_abs next < unsigned_abs high - unsigned_abs factor
-    fewer_left more is = omega (arith, sizes, h.at)
-
-    pub product_last : high ≤ℤ factor → product ≡ falling_of high (high -ℤ low)
-    product_last done =
-        let top : unsigned_abs high ≡ unsigned_abs low + h.count = omega (arith, sizes, h.at, h.to_high) in
-        let all : unsigned_abs (high -ℤ low) ≡ h.count = omega (arith, sizes, h.at, h.to_high) in
-        rw (top, all) h.is

@@ -1,10 +1,6 @@
 -- The least common multiple of a list is its first positive common multiple.
-use Rattle.std.specs.Prelude.{◌≢◌, ◌<◌, ◌≤◌, ◌^◌, ◌<ℤ◌, ◌∷◌}
-use Rattle.applied.proofs.Common.{ℕ, ℤ, pos, List, [], Option, Some, None, All, MatchOption, arith, inl, inr, ints, linear, cases_lt, subst, sym, All-nil, AnswersWhere, Divides, EachFits, FitsWith, IsLeastFrom, divisor_at_most, least_is_only, IsLeastCommonMultipleOf}
-use Rattle.std.specs.Int.{FitsUnsignedBits}
-use Rattle.std.proofs.lemmas.List.Elements.{All-cons}
+use Rattle.applied.proofs.Common.{LcmOfIsFirstCommonMultiple, ◌≢◌, ◌<◌, ◌≤◌, ◌^◌, ◌<ℤ◌, ◌∷◌, FitsUnsignedBits, All-cons, ℕ, ℤ, pos, List, [], Option, Some, None, All, MatchOption, arith, ints, linear, subst, sym, All-nil, AnswersWhere, Divides, EachFits, FitsWith, IsLeastFrom, divisor_at_most, least_is_only, IsLeastCommonMultipleOf, lt_of_not-le, le_of_suc-le-suc}
 use Rattle.applied.proofs.ListDivisors.{only_lcm_of, positive_lcm_of}
-use Rattle.applied.specs.Laws as law
 
 -- The least common multiple of a list without 0 is its first positive common multiple.
 pub lcm_of_is_first : {numbers : List ℤ} {l : ℤ} → All (λ x. x ≢ pos 0) numbers → IsLeastCommonMultipleOf numbers l → IsLeastFrom (pos 1) (λ u. All (λ x. Divides x u) numbers) l
@@ -17,7 +13,7 @@ lcm_of_is_first {numbers} {l} nonzero h =
       least = λ u from each. divisor_at_most (omega (arith, linear)) (h.least u each);
     }
 
-pub lcm_of_is_first_common_multiple : law.LcmOfIsFirstCommonMultiple
+pub lcm_of_is_first_common_multiple : LcmOfIsFirstCommonMultiple
 lcm_of_is_first_common_multiple = λ numbers l nonzero. (
   lcm_of_is_first nonzero,
   λ first. let own = positive_lcm_of numbers nonzero in subst (IsLeastCommonMultipleOf numbers) (least_is_only first own.0 (lcm_of_is_first nonzero own.1.0)) own.1.0,
@@ -37,10 +33,8 @@ pub first_natural_multiple_of : (w : ℕ) (numbers : List ℤ) (r : Option ℕ) 
     → AnswersWhere (EachFits (FitsUnsignedBits w) (IsLeastCommonMultipleOf numbers)) (λ l. (l < 2 ^ w) × IsLeastCommonMultipleOf numbers (pos l)) r
     → MatchOption r ((t : ℕ) → IsLeastFrom (pos 1) (λ u. All (λ x. Divides x u) numbers) (pos t) → 2 ^ w ≤ t) (λ t. IsLeastFrom (pos 1) (λ u. All (λ x. Divides x u) numbers) (pos t))
 first_natural_multiple_of w numbers (Some l) nonzero h = first_multiple_of_answers pos (FitsUnsignedBits w) numbers (Some l) nonzero h
-first_natural_multiple_of w numbers None nonzero none = λ t first. elim (cases_lt t (2 ^ w)) [
-  | inl below ↦ absurd (first_multiple_of_answers pos (FitsUnsignedBits w) numbers None nonzero none (pos t) first below)
-  | inr far ↦ far
-]
+first_natural_multiple_of w numbers None nonzero none = λ t first.
+    le_of_suc-le-suc (lt_of_not-le (λ below. first_multiple_of_answers pos (FitsUnsignedBits w) numbers None nonzero none (pos t) first below))
 
 -- The same of three positive numbers at `u64`.
 pub meeting_of_three_at_u64 : {a b c : ℕ} (r : Option ℕ) → 0 < a → 0 < b → 0 < c

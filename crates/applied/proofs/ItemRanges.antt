@@ -1,43 +1,24 @@
 -- Items and their places, the items of a page, and items cut into parts whose sizes differ by at most 1.
-use Rattle.std.specs.Prelude.{◌≡◌, ◌≤ℤ◌, ◌<ℤ◌, ◌+ℤ◌, ◌-ℤ◌, ◌*ℤ◌}
-use Rattle.num_integer.proofs.ForCallers.{answers_only}
-use Rattle.applied.proofs.Common.{AnswersWhere, EachFits, FitsWith, IfSome, None, Option, Some, ℤ, pos, arith, inl, inr, refl, IsOnly, IsRange, expand, linear, product_from_zero, products, within_fits, IsPlace, by_lt_z, IsFloored, floored_range, multiples_apart, IsRangeOfPage, only_ceiled, ℕ, negsuc, zero, suc, ◌∙◌, ap, sym, clamps, ceiled_by_range, comm, fits_below, product_at_most, IsEvenCut, IsRangeOfPart, cut_at}
+use Rattle.applied.proofs.Common.{◌≡◌, ◌≤ℤ◌, ◌<ℤ◌, ◌+ℤ◌, ◌-ℤ◌, ◌*ℤ◌, EachFits, ℤ, pos, arith, refl, IsOnly, IsRange, expand, linear, product_from_zero, products, within_fits, IsPlace, by_lt_z, IsFloored, floored_range, multiples_apart, IsRangeOfPage, only_ceiled, ℕ, negsuc, zero, suc, ◌∙◌, ap, sym, clamps, ceiled_by_range, comm, fits_below, product_at_most, IsEvenCut, IsRangeOfPart, cut_at}
 
 -- ---- what fits
 
 -- p is a page, s the size of a page, and q the place of an item on its page
 
--- the end of a page, and how far the item is before it
-pub item_before : (p q s : ℤ) → (p +ℤ pos 1) *ℤ s +ℤ (q -ℤ s) ≡ p *ℤ s +ℤ q
-item_before p q s = simp expand (omega (arith, products))
-
-pub next_page_fits : {fits : ℤ → Type 0} {low high p : ℤ} → IsRange fits low high → fits p → p <ℤ pos 0 → fits (p +ℤ pos 1)
-next_page_fits range page_fits before = within_fits range page_fits (inr (omega (arith, linear), omega (arith, linear)))
-
 -- at a type that has a page before page 0, how far a place is before the end of its page fits
 pub rest_fits : {fits : ℤ → Type 0} {low high p q s : ℤ} → IsRange fits low high → fits p → fits s → p <ℤ pos 0 → pos 0 ≤ℤ q → q <ℤ s → fits (q -ℤ s)
 rest_fits {p = p} {q = q} {s = s} range page_fits size_fits before from_zero below = grind (arith, page_fits, linear)
 
--- if the item fits, so does the end of its page, before page 0
-pub end_fits : {fits : ℤ → Type 0} {low high p q s : ℤ} → IsRange fits low high → fits (p *ℤ s +ℤ q) → p <ℤ pos 0 → pos 0 ≤ℤ q → q <ℤ s → fits ((p +ℤ pos 1) *ℤ s)
-end_fits {p = p} {q = q} {s = s} range item_fits before from_zero below = grind (arith, expand, product_from_zero, linear, within_fits, products)
+-- if the item at a place fits, so does the end of its page, before page 0, and from page 0 on the first item of its page
+module _ {fits : ℤ → Type 0} {low high p q s : ℤ} (range : IsRange fits low high) (from_zero : pos 0 ≤ℤ q) (below : q <ℤ s) (each : EachFits fits (λ item. IsPlace item s p q)) where
+  item_fits : fits (p *ℤ s +ℤ q)
+  item_fits = each _ record { equation = refl; from_zero = from_zero; below = below }
 
--- from page 0 on the items before the page do
-pub page_fits : {fits : ℤ → Type 0} {low high p q s : ℤ} → IsRange fits low high → fits (p *ℤ s +ℤ q) → pos 0 ≤ℤ p → pos 0 ≤ℤ q → q <ℤ s → fits (p *ℤ s)
-page_fits {p = p} {s = s} range item_fits from_page_zero from_zero below = grind (arith, within_fits, product_from_zero)
+  pub end_fits : p <ℤ pos 0 → fits ((p +ℤ pos 1) *ℤ s)
+  end_fits before = grind (arith, item_fits, expand, product_from_zero, linear, within_fits, products)
 
-pub own_item : {p q s : ℤ} → pos 0 ≤ℤ q → q <ℤ s → IsPlace (p *ℤ s +ℤ q) s p q
-own_item from_zero below = record { equation = refl; from_zero = from_zero; below = below }
-
--- a checked sum that is the item's number is the item
-pub item_answer : {A : Type 0} (fits : ℤ → Type 0) (value : A → ℤ) (p q s : ℤ) {total : ℤ} (r : Option A) → pos 0 ≤ℤ q → q <ℤ s → total ≡ p *ℤ s +ℤ q → AnswersWhere (fits total) (FitsWith fits value (λ z. z ≡ total)) r
-    → AnswersWhere (EachFits fits (λ item. IsPlace item s p q)) (λ item. fits (value item) × IsPlace (value item) s p q) r
-item_answer fits value p q s r from_zero below is h = grind arith
-
-pub item_is_only : {A : Type 0} (fits : ℤ → Type 0) (value : A → ℤ) (p q s : ℤ) (r : Option A) → AnswersWhere (EachFits fits (λ item. IsPlace item s p q)) (λ item. fits (value item) × IsPlace (value item) s p q) r
-    → IfSome r (λ found. IsOnly (λ item. IsPlace item s p q) (value found))
-item_is_only fits value p q s None h = tt
-item_is_only fits value p q s (Some x) h = λ y k. k.equation ∙ sym h.1.1.equation
+  pub page_fits : pos 0 ≤ℤ p → fits (p *ℤ s)
+  page_fits up = grind (arith, item_fits, within_fits, product_from_zero)
 
 -- ---- the range of a page
 
@@ -54,9 +35,7 @@ page_range_is {page} {size} from_zero ordered to_items on back empty = record {
     λ h.
         let there = on item h.0 h.1 in
         (there.0, omega (arith, linear), (item -ℤ page *ℤ size, record { equation = omega (arith, linear); from_zero = omega (arith, linear); below = omega (arith, linear) })),
-    λ h.
-        let is = h.2.1 in
-        back item h.0 h.1 (omega (arith, linear, is.equation, is.from_zero)) (omega (arith, linear, is.equation, is.below)),
+    λ h. back item h.0 h.1 (omega (arith, linear, h.2.1.equation, h.2.1.from_zero)) (omega (arith, linear, h.2.1.equation, h.2.1.below)),
   );
   empty = empty;
 }
@@ -73,40 +52,23 @@ none_after {page} {size} {full = full} up from_zero division after =
     page_range_is from_zero (omega (arith, linear)) (omega (arith, linear)) (λ item h k. absurd (omega (arith, linear))) (λ item h k l m. absurd (omega (arith, linear))) (λ _. refl)
 
 -- any other page begins within the items
-pub record BeginsIn (page size items : ℤ) : Type 0 where
-  pub from_zero : pos 0 ≤ℤ (page *ℤ size)
-  pub to_items : (page *ℤ size) ≤ℤ items
-
 pub begins_in : {page size items full rest : ℤ} → pos 0 <ℤ size → IsFloored items size full rest → pos 0 ≤ℤ page → page ≤ℤ full
-    → BeginsIn page size items
+    → (pos 0 ≤ℤ (page *ℤ size)) × ((page *ℤ size) ≤ℤ items)
 begins_in {page} {size} {full = full} up division from_zero to_full =
     let most = product_at_most {v = size} {y = size} from_zero to_full (omega (arith, linear)) (omega (arith, linear)) in
-    record { from_zero = product_from_zero page size from_zero (omega (arith, linear)); to_items = omega (arith, linear, division.division.equation) }
-
--- what is left of the items from it on fits, and so does its end, if that many are left
-pub left_fits : {fits : ℤ → Type 0} {low high page size items first : ℤ} → IsRange fits low high → fits items → BeginsIn page size items
-    → first ≡ page *ℤ size → fits (items -ℤ first)
-left_fits range items_fit within is = fits_below range items_fit (omega (arith, linear, within.to_items)) (omega (arith, linear, within.from_zero))
-
-pub page_end_fits : {fits : ℤ → Type 0} {low high page size items first left : ℤ} → IsRange fits low high → fits items → pos 0 <ℤ size → BeginsIn page size items
-    → first ≡ page *ℤ size → left ≡ items -ℤ first → size ≤ℤ left → fits (first +ℤ size)
-page_end_fits range items_fit up within is left_is enough = fits_below range items_fit (omega (arith, linear, within.from_zero)) (omega (arith, linear))
+    (product_from_zero page size from_zero (omega (arith, linear)), omega (arith, linear, division.division.equation))
 
 -- it ends with the items, or has all its items
-pub short_page : {page size items first left : ℤ} → BeginsIn page size items → first ≡ page *ℤ size → left ≡ items -ℤ first → left <ℤ size
-    → IsRangeOfPage page size items first items
-short_page {page} {size} {items} within is left_is less =
-    let short : items <ℤ (page *ℤ size +ℤ size) = omega (arith, linear) in
-    rw is (page_range_is within.from_zero within.to_items (omega (arith, linear))
-    (λ item h k. (omega (arith, linear, within.from_zero), h, omega (arith, linear))) (λ item h k l m. (l, k))
-    (λ none. omega (arith, linear, within.to_items)))
+module _ {page size items first left : ℤ} (within : (pos 0 ≤ℤ (page *ℤ size)) × ((page *ℤ size) ≤ℤ items)) (is : first ≡ page *ℤ size) (left_is : left ≡ items -ℤ first) where
+  pub short_page : left <ℤ size → IsRangeOfPage page size items first items
+  short_page less =
+      rw is (page_range_is within.0 within.1 (omega (arith, linear)) (λ item h k. (omega (arith, linear, within.0), h, omega (arith, linear)))
+      (λ item h k l m. (l, k)) (λ none. omega (arith, linear, within.1)))
 
-pub whole_page : {page size items first left end : ℤ} → pos 0 <ℤ size → BeginsIn page size items → first ≡ page *ℤ size → left ≡ items -ℤ first → size ≤ℤ left
-    → end ≡ first +ℤ size → IsRangeOfPage page size items first end
-whole_page {page} {size} {items} up within is left_is enough end_is =
-    let whole : (page *ℤ size +ℤ size) ≤ℤ items = omega (arith, linear) in
-    rw (end_is, is) (page_range_is within.from_zero (omega (arith, linear)) whole
-    (λ item h k. (omega (arith, linear, within.from_zero), h, k)) (λ item h k l m. (l, m)) (λ none. absurd (omega (arith, linear))))
+  pub whole_page : {end : ℤ} → pos 0 <ℤ size → size ≤ℤ left → end ≡ first +ℤ size → IsRangeOfPage page size items first end
+  whole_page up enough end_is =
+      rw (end_is, is) (page_range_is within.0 (omega (arith, linear)) (omega (arith, linear)) (λ item h k. (omega (arith, linear, within.0), h, k))
+      (λ item h k l m. (l, m)) (λ none. absurd (omega (arith, linear))))
 
 -- a range that is not empty lies within each other of the same page
 lies_within : {page size items first end f e : ℤ} → IsRangeOfPage page size items first end → IsRangeOfPage page size items f e → first <ℤ end → (f ≤ℤ first) × (end ≤ℤ e)
@@ -121,9 +83,6 @@ only_page_range {first = first} {end = end} h = λ (f, e) k.
     rw (same.0, same.1) refl
 
 -- ---- where the parts begin
-
--- what the goal about the smaller of two numbers needs
-pub ruleset minima = (linear, clamps)
 
 even_cut : {parts items size longer : ℤ} → items ≡ size *ℤ parts +ℤ longer → pos 0 ≤ℤ longer → longer <ℤ parts → IsEvenCut parts items (cut_at size longer)
 even_cut {parts} {items} {size} {longer} equation up below = record {
@@ -155,36 +114,18 @@ cut_within {parts} {items} {size} {longer} {part} up from_zero division part_up 
 pub parts_positive : {part parts : ℤ} → pos 0 ≤ℤ part → part <ℤ parts → pos 0 <ℤ parts
 parts_positive part_up within = omega (arith, linear)
 
-start_fits : {fits : ℤ → Type 0} {low high parts items size longer part : ℤ} → IsRange fits low high → fits items → pos 0 <ℤ parts → pos 0 ≤ℤ items
-    → IsFloored items parts size longer → pos 0 ≤ℤ part → part ≤ℤ parts
-    → fits (part *ℤ size) × fits (cut_at size longer part)
+-- so where a part begins fits, and so does the product that leads to it
+pub start_fits : {fits : ℤ → Type 0} {low high parts items size longer part : ℤ} → IsRange fits low high → fits items → pos 0 <ℤ parts → pos 0 ≤ℤ items
+    → IsFloored items parts size longer → pos 0 ≤ℤ part → part ≤ℤ parts → fits (part *ℤ size) × fits (cut_at size longer part)
 start_fits range items_fit up from_zero division part_up within =
     let start = cut_within up from_zero division part_up within in
     (fits_below range items_fit start.0 (omega (arith, linear, start.1, start.2)), fits_below range items_fit (omega (arith, linear, start.0, start.1)) start.2)
-
--- both ends of a part fit, and so does the number of the next part
-pub record PartFits (fits : ℤ → Type 0) (size longer part : ℤ) : Type 0 where
-  pub first : fits (part *ℤ size) × fits (cut_at size longer part)
-  pub next_part : fits (part +ℤ pos 1)
-  pub next : fits ((part +ℤ pos 1) *ℤ size) × fits (cut_at size longer (part +ℤ pos 1))
-
-pub part_fits : {fits : ℤ → Type 0} {low high parts items size longer part : ℤ} → IsRange fits low high → fits parts → fits items → pos 0 ≤ℤ items
-    → IsFloored items parts size longer → pos 0 ≤ℤ part → part <ℤ parts
-    → PartFits fits size longer part
-part_fits range parts_fit items_fit from_zero division part_up within =
-    let up = parts_positive part_up within in
-    record {
-      first = start_fits range items_fit up from_zero division part_up (omega (arith, linear));
-      next_part = fits_below range parts_fit (omega (arith, linear)) (omega (arith, linear));
-      next = start_fits range items_fit up from_zero division (omega (arith, linear)) (omega (arith, linear));
-    }
 
 pub part_range : {parts items size longer part : ℤ} → pos 0 ≤ℤ items → IsFloored items parts size longer → pos 0 ≤ℤ part → part <ℤ parts
     → IsRangeOfPart part parts items (cut_at size longer part) (cut_at size longer (part +ℤ pos 1))
 part_range {parts} {items} {size} {longer} {part} from_zero division part_up within =
     let up : pos 0 <ℤ parts = omega (arith, linear) in
     let range = floored_range up division in
-    let equation = division.division.equation in
     let size_up : pos 0 ≤ℤ size = grind (arith, products, multiples_apart size (pos 0) parts up) in
     let first = cut_within up from_zero division part_up (omega (arith, linear)) in
     let end = cut_within {part = part +ℤ pos 1} up from_zero division (omega (arith, linear)) (omega (arith, linear)) in
@@ -194,7 +135,7 @@ part_range {parts} {items} {size} {longer} {part} from_zero division part_up wit
       ordered = omega (arith, linear, clamps);
       to_items = end.2;
       cut = cut_at size longer;
-      even = even_cut equation range.0 range.1;
+      even = even_cut division.division.equation range.0 range.1;
       begins = refl;
       ends = refl;
     }

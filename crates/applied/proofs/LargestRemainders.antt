@@ -1,6 +1,5 @@
 -- An amount divided in proportion to weights by largest remainders.
-use Rattle.std.specs.Prelude.{◌≡◌, ◌⊎◌, ◌+◌, ◌*◌, ◌-◌, ◌<◌, ◌≤◌, ◌∷◌}
-use Rattle.applied.proofs.Common.{ℕ, List, [], EachIndex, length, slice_index, slice_set, sum, sum_by, take, suc, inl, inr, refl, ◌∙◌, ap, arith, sym, mul-le-mul_left, le_of_mul-le-mul_right, cond, leb, count_by, cases_lt, le-leb, lt-leb, get_or-set_other, get_or-set_same, length-set, take_all, take_more_set, count_by_more_no, count_by_more_yes, sum_by-cons, sum_by_more, sum_by_push, IsOnly, AreSharesByRemainder, IsNearShare, RoundsShare, count_from, remainder_of, rounded_down}
+use Rattle.applied.proofs.Common.{◌≡◌, ◌⊎◌, ◌+◌, ◌*◌, ◌-◌, ◌<◌, ◌≤◌, ◌∷◌, ℕ, List, [], EachIndex, length, slice_index, slice_set, sum, sum_by, take, suc, inl, inr, refl, ◌∙◌, ap, arith, mul-le-mul_left, le_of_mul-le-mul_right, cond, leb, count_by, cases_lt, le-leb, lt-leb, get_or-set_other, get_or-set_same, length-set, take_all, take_more_set, count_by_more_no, count_by_more_yes, sum_by-cons, sum_by_more, sum_by_push, AreSharesByRemainder, IsNearShare, RoundsShare, count_from, remainder_of, rounded_down, SharesByRemainderAreOnly}
 
 -- ---- exact shares
 
@@ -12,12 +11,8 @@ exact_parts amount total weight up = (omega arith, omega arith)
 pub exact_sum : (amount total : ℕ) (weights : List ℕ) → 0 < total → sum_by (rounded_down amount total) weights * total + sum_by (remainder_of amount total) weights ≡ amount * sum weights
 exact_sum amount total [] up = omega arith
 exact_sum amount total (w ∷ ws) up =
-    let rest = exact_sum amount total ws up in
-    let parts = exact_parts amount total w up in
-    let all_down = sum_by-cons (rounded_down amount total) w ws in
-    let all_over = sum_by-cons (remainder_of amount total) w ws in
-    let all = sum_by-cons (λ (x : ℕ). x) w ws in
-    rw (all_down, all_over, all) (omega (arith, rest, parts.0))
+    rw (sum_by-cons (rounded_down amount total) w ws, sum_by-cons (remainder_of amount total) w ws, sum_by-cons (λ (x : ℕ). x) w ws)
+    (omega (arith, exact_sum amount total ws up, (exact_parts amount total w up).0))
 
 -- the first exact shares, rounded down, are at most the amount
 pub down_within : (amount total i : ℕ) (weights : List ℕ) → 0 < total → sum (take i weights) ≤ total → sum_by (rounded_down amount total) (take i weights) ≤ amount
@@ -58,21 +53,18 @@ remainders_within : (amount total : ℕ) (weights : List ℕ) → 0 < total → 
 remainders_within amount total [] up = omega arith
 remainders_within amount total (w ∷ ws) up =
     let rest = remainders_within amount total ws up in
-    let below = (exact_parts amount total w up).1 in
-    let all = sum_by-cons (remainder_of amount total) w ws in
     let count = reached-cons (remainder_of amount total) 1 w ws in
-    elim (cases_lt (remainder_of amount total w) 1) [
-      | inl none ↦ rw (all, count.1 none) (omega (arith, rest))
-      | inr some ↦ rw (all, count.0 some) (omega (arith, rest, below))
-    ]
+    rw (sum_by-cons (remainder_of amount total) w ws) (elim (cases_lt (remainder_of amount total w) 1) [
+      | inl none ↦ rw (count.1 none) (omega (arith, rest))
+      | inr some ↦ rw (count.0 some) (omega (arith, rest, (exact_parts amount total w up).1))
+    ])
 
 -- the units that are over are at most one for each remainder that is not 0
 pub units_within : {amount total units : ℕ} (weights : List ℕ) → 0 < total → total ≡ sum weights → units + sum_by (rounded_down amount total) weights ≡ amount → units ≤ count_from amount total 1 weights
 units_within {amount} {total} {units} weights up is over =
-    let each : amount * sum weights ≡ amount * total = rw (sym is) refl in
     let whole : (units + sum_by (rounded_down amount total) weights) * total ≡ amount * total = rw over refl in
     le_of_mul-le-mul_right {m = units} {n = count_from amount total 1 weights} {k = total}
-    (omega (arith, exact_sum amount total weights up, remainders_within amount total weights up, each, whole)) up
+    (omega (arith, exact_sum amount total weights up, remainders_within amount total weights up, ap (λ (t : ℕ). amount * t) is, whole)) up
 
 -- ---- the shares so far
 
@@ -88,11 +80,14 @@ pub record AreRaisedTo (F R : ℕ → ℕ) (bar extra : ℕ) (weights : List ℕ
   pub order : (j k : ℕ) → j < i → k < i → slice_index shares j ≡ F (slice_index weights j) + 1 → slice_index shares k ≡ F (slice_index weights k)
       → (R (slice_index weights k) < R (slice_index weights j)) ⊎ ((R (slice_index weights k) ≡ R (slice_index weights j)) × (j < k))
 
--- the share at i, with what it is of the two
-module _ {F R : ℕ → ℕ} {bar extra i left : ℕ} {weights shares : List ℕ} (share next : ℕ) (within : i < length weights) (h : AreRaisedTo F R bar extra weights i left shares) where
-  abbrev weight : ℕ
-  weight = slice_index weights i
+-- what becomes of the share at i: a and b of the remainders reach the bar without it and with it, and u and v the number below the bar
+rounded_step : {F r bar left share next extra a b u v : ℕ} → RoundsShare F r bar left share next → 0 < bar → (0 < extra → 1 < bar) → left ≤ extra
+    → (bar ≤ r → b ≡ a + 1) × (r < bar → b ≡ a) → (bar - 1 ≤ r → v ≡ u + 1) × (r < bar - 1 → v ≡ u) → (0 < left → left + u ≡ extra + a)
+    → (next ≤ left) × (share + next + a ≡ F + left + b) × (0 < next → next + v ≡ extra + b) × ((share ≡ F) ⊎ (share ≡ F + 1))
+    × (share ≡ F + 1 → (bar ≤ r + 1) × (0 < r) × ((bar ≤ r) ⊎ (0 < left))) × (share ≡ F → (r < bar) × (0 < next → r + 1 < bar))
+rounded_step {F} {r} {bar} {left} {share} {next} h up one fewer at under enough = grind arith
 
+module _ {F R : ℕ → ℕ} {bar extra i left : ℕ} {weights shares : List ℕ} (share next : ℕ) (within : i < length weights) (h : AreRaisedTo F R bar extra weights i left shares) where
   room : i < length shares
   room = omega (arith, h.one_each)
 
@@ -102,75 +97,23 @@ module _ {F R : ℕ → ℕ} {bar extra i left : ℕ} {weights shares : List ℕ
   before : (k : ℕ) → k < i → slice_index (slice_set shares i share) k ≡ slice_index shares k
   before k less = get_or-set_other shares i k share 0 (λ e. omega arith)
 
-  -- of each place up to i: it is before i, or i
-  each : (P : ℕ → ℕ → Type 0) → ((k : ℕ) → k < i → P k (slice_index shares k)) → P i share → (k : ℕ) → k < i + 1 → P k (slice_index (slice_set shares i share) k)
-  each P old own k upto = grind (arith, cases_lt, before, here)
-
-  with_share : next ≤ left
-      → share + next + reached R bar (take i weights) ≡ F weight + left + reached R bar (take (i + 1) weights)
-      → (0 < next → next + reached R (bar - 1) (take (i + 1) weights) ≡ extra + reached R bar (take (i + 1) weights))
-      → (share ≡ F weight) ⊎ (share ≡ F weight + 1)
-      → (share ≡ F weight + 1 → (bar ≤ R weight + 1) × (0 < R weight) × ((bar ≤ R weight) ⊎ (0 < left)))
-      → (share ≡ F weight → (R weight < bar) × (0 < next → R weight + 1 < bar))
+  pub one_more_raised : 0 < bar → (0 < extra → 1 < bar) → RoundsShare (F (slice_index weights i)) (R (slice_index weights i)) bar left share next
       → AreRaisedTo F R bar extra weights (i + 1) next (slice_set shares i share)
-  with_share less sums enough one raised kept = record {
-    one_each = length-set shares i share ∙ h.one_each;
-    fewer = omega (arith, h.fewer);
-    whole =
-        let written : sum (take (i + 1) (slice_set shares i share)) ≡ sum (take i shares) + share =
-        ap sum (take_more_set shares i share room) ∙ sum_by_push (λ (x : ℕ). x) (take i shares) share in
-        rw (written, sum_by_more F weights i 0 within) (omega (arith, h.whole, sums));
-    enough = enough;
-    rounded = each (λ k s. (s ≡ F (slice_index weights k)) ⊎ (s ≡ F (slice_index weights k) + 1)) h.rounded one;
-    raised = each (λ k s. s ≡ F (slice_index weights k) + 1 → (bar ≤ R (slice_index weights k) + 1) × (0 < R (slice_index weights k))) h.raised
-        (λ e. let own = raised e in (own.0, own.1));
-    kept = each (λ k s. s ≡ F (slice_index weights k) → (R (slice_index weights k) < bar) × (0 < next → R (slice_index weights k) + 1 < bar))
-        (λ k upto e. let own = h.kept k upto e in (own.0, λ some. own.1 (omega arith)))
-        kept;
-    order = λ j k j_upto k_upto. each (λ j s. s ≡ F (slice_index weights j) + 1 → slice_index (slice_set shares i share) k ≡ F (slice_index weights k)
-        → (R (slice_index weights k) < R (slice_index weights j)) ⊎ ((R (slice_index weights k) ≡ R (slice_index weights j)) × (j < k)))
-        (λ j upto up. each (λ k s. s ≡ F (slice_index weights k)
-        → (R (slice_index weights k) < R (slice_index weights j)) ⊎ ((R (slice_index weights k) ≡ R (slice_index weights j)) × (j < k)))
-        (λ k less down. h.order j k upto less up down)
-        (λ down. let high = h.raised j upto up in let low = kept down in grind arith)
-        k k_upto)
-        (λ up. each (λ k s. s ≡ F (slice_index weights k)
-        → (R (slice_index weights k) < R weight) ⊎ ((R (slice_index weights k) ≡ R weight) × (i < k)))
-        (λ k less down. let high = raised up in let low = h.kept k less down in grind arith)
-        (λ down. absurd (omega arith))
-        k k_upto)
-        j j_upto;
-  }
-
--- what becomes of the share at i: 1 more, with or without a unit of those that are left, or not
-step : {F r bar left share next : ℕ} → RoundsShare F r bar left share next
-    → ((bar ≤ r) × (share ≡ F + 1) × (next ≡ left)) ⊎ ((r + 1 ≡ bar) × (0 < left) × (share ≡ F + 1) × (next + 1 ≡ left)) ⊎ ((r < bar) × (0 < next → r + 1 < bar) × (share ≡ F) × (next ≡ left))
-step {F} {r} {bar} {left} {share} {next} h = grind arith
-
-pub one_more_raised : {F R : ℕ → ℕ} {bar extra i left next : ℕ} {weights shares : List ℕ} (share : ℕ) → i < length weights → 0 < bar → (0 < extra → 1 < bar)
-    → RoundsShare (F (slice_index weights i)) (R (slice_index weights i)) bar left share next → AreRaisedTo F R bar extra weights i left shares
-    → AreRaisedTo F R bar extra weights (i + 1) next (slice_set shares i share)
-one_more_raised {F} {R} {bar} {extra} {i} {left} {next} {weights} {shares} share within up one rounds h =
-    let at = reached_more R bar weights i within in
-    let under = reached_more R (bar - 1) weights i within in
-    elim (step rounds) [
-      | inl (reaches, is, same) ↦
-          let more = at.0 reaches in let more_under = under.0 (omega arith) in
-          with_share share next within h (omega arith) (omega (arith, more)) (λ some. let before = h.enough (omega arith) in omega (arith, more, more_under, before)) (inr is)
-          (λ _. (omega arith, omega arith, inl reaches))
-          (λ e. absurd (omega arith))
-      | inr (inl (below, some, is, fewer)) ↦
-          let same = at.1 (omega arith) in let more_under = under.0 (omega arith) in
-          let high = one (omega (arith, h.fewer)) in
-          with_share share next within h (omega arith) (omega (arith, same)) (λ more. let before = h.enough some in omega (arith, same, more_under, before)) (inr is)
-          (λ _. (omega arith, omega arith, inr some))
-          (λ e. absurd (omega arith))
-      | inr (inr (below, lower, is, same)) ↦
-          let none = at.1 below in
-          with_share share next within h (omega arith) (omega (arith, none)) (λ some. let before = h.enough (omega arith) in let none_under = under.1 (omega (arith, lower some)) in omega (arith, none, none_under, before)) (inl is)
-          (λ e. absurd (omega arith))
-          (λ _. (below, lower))
-    ]
+  one_more_raised up one rounds =
+      let own = rounded_step rounds up one h.fewer (reached_more R bar weights i within) (reached_more R (bar - 1) weights i within) h.enough in
+      record {
+        one_each = length-set shares i share ∙ h.one_each;
+        fewer = omega (arith, h.fewer, own.0);
+        whole =
+            let written = ap sum (take_more_set shares i share room) ∙ sum_by_push (λ (x : ℕ). x) (take i shares) share in
+            rw (written, sum_by_more F weights i 0 within) (omega (arith, h.whole, own.1));
+        enough = own.2;
+        rounded = λ k upto. grind (arith, cases_lt k i, before k, here, h.rounded k, own.3) steps 300000;
+        raised = λ k upto. grind (arith, cases_lt k i, before k, here, h.raised k, own.4) steps 300000;
+        kept = λ k upto. grind (arith, cases_lt k i, before k, here, h.kept k, own.0, own.5) steps 300000;
+        order = λ j k j_upto k_upto up down.
+            grind (arith, cases_lt j i, cases_lt k i, before j, before k, here, h.order j k, h.raised j, h.kept k, own.4, own.5) steps 300000;
+      }
 
 -- ---- all shares
 
@@ -204,5 +147,5 @@ less_somewhere (x ∷ xs) (y ∷ ys) size within =
       ]
     ]
 
-pub remainder_shares_only : {amount : ℕ} {weights shares : List ℕ} → AreSharesByRemainder amount weights shares → IsOnly (AreSharesByRemainder amount weights) shares
-remainder_shares_only {amount} {weights} {shares} h = grind (arith, less_somewhere)
+pub shares_by_remainder_are_only : SharesByRemainderAreOnly
+shares_by_remainder_are_only = λ amount weights shares h. grind (arith, less_somewhere)

@@ -1,13 +1,10 @@
 -- The laws of specs/Laws.antt, a lemma each.
-use Rattle.std.specs.Prelude.{◌≡◌, ◌<◌, ◌≤◌, ◌≤ℤ◌, ◌<ℤ◌, ◌+ℤ◌, ◌-ℤ◌, ◌*ℤ◌, ◌∷◌}
-use Rattle.applied.proofs.Common.{ℕ, ℤ, pos, List, [], length, AllWithin, arith, ap, refl, subst, AreCongruent, CommonSolution, Never, Beyond, At, congruent-equal, IsLeastFrom, Divides-difference, ceiled_quotient_least, expand, floored_by_range, floored_range, least_is_only, linear, only_pair_by_range, products, division_exists, next_multiple_least, AlignedUpExists, AlignedUpIsOnly, CountOfTimesIsOnly, GcdOfIsOnly, LcmOfIsOnly, LeastTimeIsOnly, LowerBoundIsOnly, MidpointIsOnly, PaddingIsOnly, PagesAreOnly, PartsDifferByOne, PlaceExists, PlaceIsOnly, SharesByRemainderAreOnly, IsLeastTime}
+use Rattle.applied.proofs.Common.{◌≡◌, ◌<◌, ◌≤◌, ◌≤ℤ◌, ◌<ℤ◌, ◌+ℤ◌, ◌-ℤ◌, ◌*ℤ◌, ◌∷◌, count_is_only, ℕ, ℤ, pos, List, [], length, AllWithin, arith, ap, refl, AreCongruent, CommonSolution, Never, Beyond, At, congruent-equal, Divides-difference, ceiled_quotient_least, expand, floored_by_range, floored_range, least_is_only, linear, only_pair_by_range, products, division_exists, next_multiple_least, AlignedUpExists, AlignedUpIsOnly, CountOfTimesIsOnly, GcdOfIsOnly, LcmOfIsOnly, LeastTimeIsOnly, LowerBoundIsOnly, MidpointIsOnly, PaddingIsOnly, PagesAreOnly, PartsDifferByOne, PlaceExists, PlaceIsOnly, IsLeastTime}
 use Rattle.applied.proofs.ListDivisors.{only_gcd_of, only_lcm_of}
-use Rattle.applied.proofs.LargestRemainders.{remainder_shares_only}
-use Rattle.modular.proofs.Laws.{count_is_only}
+pub use Rattle.applied.proofs.LargestRemainders.{shares_by_remainder_are_only}
 pub use Rattle.applied.proofs.Choices.{choice_of_rank_is_only, rank_is_below}
 pub use Rattle.applied.proofs.ReducedPairs.{reduced_pair_exists, reduced_pair_is_only}
-pub use Rattle.applied.proofs.ListDivisors.{gcd_of_exists, gcd_of_fits_exactly}
-pub use Rattle.applied.proofs.ListDivisors.{lcm_of_exists}
+pub use Rattle.applied.proofs.ListDivisors.{gcd_of_exists, gcd_of_fits_exactly, lcm_of_exists}
 pub use Rattle.applied.proofs.FirstMultiples.{lcm_of_is_first_common_multiple}
 pub use Rattle.applied.proofs.FallingFactorials.{falling_by_coefficient, falling_formula}
 pub use Rattle.applied.proofs.PowersAndRoots.{logarithm_is_only}
@@ -58,31 +55,17 @@ padding_is_only = λ offset alignment bytes other from_zero below multiple other
 
 -- ---- schedules
 
--- a time that is not in the type is not one in the type
-not_at : (fits : ℤ → Type 0) {now t u : ℤ} {P : ℤ → Type 0} → IsLeastFrom now P t → fits t → IsLeastFrom now P u → ¬ (fits u) → ⊥
-not_at fits at_time time_fits beyond none = none (subst fits (least_is_only beyond _ at_time) time_fits)
-
 same_time : {X : Type 0} (value : X → ℤ) (fits P : ℤ → Type 0) → ((x y : X) → value x ≡ value y → x ≡ y) → (now : ℤ) (answer other : CommonSolution X) → IsLeastTime value fits now P answer → IsLeastTime value fits now P other → other ≡ answer
 same_time value fits P one now Never Never h k = refl
 same_time value fits P one now Beyond Beyond h k = refl
 same_time value fits P one now (At t) (At u) h k = ap At (one u t (least_is_only h.1 (value u) k.1))
-same_time value fits P one now Never Beyond h k = absurd (h k.0 k.1.holds)
-same_time value fits P one now Never (At u) h k = absurd (h (value u) k.1.holds)
-same_time value fits P one now Beyond Never h k = absurd (k h.0 h.1.holds)
-same_time value fits P one now (At t) Never h k = absurd (k (value t) h.1.holds)
-same_time value fits P one now Beyond (At u) h k = absurd (not_at fits k.1 k.0 h.1 h.2)
-same_time value fits P one now (At t) Beyond h k = absurd (not_at fits h.1 h.0 k.1 k.2)
+same_time value fits P one now x y h k = absurd (grind (arith, least_is_only))
 
 pub least_time_is_only : {X : Type 0} (value : X → ℤ) (fits P : ℤ → Type 0) → LeastTimeIsOnly value fits P
 least_time_is_only value fits P = λ one now answer h other k. same_time value fits P one now answer other h k
 
 pub count_of_times_is_only : CountOfTimesIsOnly
 count_of_times_is_only = λ from to first period count h. count_is_only h
-
--- ---- shares
-
-pub shares_by_remainder_are_only : SharesByRemainderAreOnly
-shares_by_remainder_are_only = λ amount weights shares h. remainder_shares_only h
 
 -- ---- halves
 

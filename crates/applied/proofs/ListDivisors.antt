@@ -1,21 +1,12 @@
 -- Greatest common divisors and least common multiples of lists.
-use Rattle.std.specs.Prelude.{◌≡◌, ◌<◌, ◌+◌, ◌≤ℤ◌, ◌<ℤ◌, ◌∷◌, ◌++◌, ◌≢◌}
-use Rattle.applied.proofs.Common.{append-nil, append_assoc, GcdOfFitsExactly, ℕ, ℤ, pos, negsuc, neg_ℤ, unsigned_abs, List, [], length, get_or, map, take, Option, Some, All, arith, inl, inr, refl, subst, sym, ints, map_more, All-head, All-nil, All-pop, All-push, All-tail, All-weaker, AnswersWhere, Divides, IsGreatestCommonDivisor, IsRange, Divides-antisym, Divides-refl, Divides-trans, Divides-zero, answers_as, gcd_fits_is, linear, no_minus_one, sizes, within_fits, zero_fits, zero_or_not, gcd_exists, GcdOfFits, IsGreatestCommonDivisorOf, take-map, HoldsAt, ◌∙◌, get_or-map, length-map, take_at, All-map, All-take, IsLeastCommonMultiple, EachFits, answer_only, divisor_at_most, fits_below, lcm-positive, one_divides, zero_divides, divides_magnitude, magnitude_divides, lcm_exists, IsLeastCommonMultipleOf}
+use Rattle.applied.proofs.Common.{◌≡◌, ◌<◌, ◌+◌, ◌≤ℤ◌, ◌<ℤ◌, ◌∷◌, ◌++◌, ◌≢◌, append-nil, append_assoc, GcdOfFitsExactly, ℕ, ℤ, pos, negsuc, neg_ℤ, unsigned_abs, List, [], length, get_or, map, take, Option, Some, All, arith, inl, inr, refl, subst, sym, ints, map_more, All-head, All-nil, All-pop, All-push, All-tail, All-weaker, AnswersWhere, Divides, IsGreatestCommonDivisor, IsRange, Divides-antisym, Divides-refl, Divides-trans, Divides-zero, answers_as, gcd_fits_is, linear, no_minus_one, sizes, within_fits, zero_fits, zero_or_not, gcd_exists, GcdOfFits, IsGreatestCommonDivisorOf, take-map, HoldsAt, ◌∙◌, get_or-map, length-map, take_at, All-map, All-take, IsLeastCommonMultiple, EachFits, answer_only, divisor_at_most, fits_below, lcm-positive, one_divides, zero_divides, lcm_exists, IsLeastCommonMultipleOf, gcd-swap, only_lcm, gcd-divisor}
 use Rattle.applied.proofs.ReducedPairs.{gcd_with_magnitude}
 
 -- ---- the gcd of one number more
 
 -- the greatest common divisor of no numbers is 0
 pub gcd_of_none : IsGreatestCommonDivisorOf [] (pos 0)
-gcd_of_none = record {
-  from_zero = omega (arith, ints);
-  divides_each = All-nil (λ x. Divides (pos 0) x);
-  greatest = λ d _. Divides-zero d;
-}
-
--- what holds of each number of a list and of one after them
-pub split_last : (P : ℤ → Type 0) (numbers : List ℤ) (x : ℤ) → All P (numbers ++ x ∷ []) → All P numbers × P x
-split_last P numbers x each = All-pop P (numbers ++ x ∷ []) numbers (Some x) refl each
+gcd_of_none = record { from_zero = omega (arith, ints); divides_each = All-nil (λ x. Divides (pos 0) x); greatest = λ d _. Divides-zero d }
 
 -- the gcd of a list with one number more at its end is the gcd of the list's gcd and this number
 pub gcd_of_more : {numbers : List ℤ} {g x h : ℤ} → IsGreatestCommonDivisorOf numbers g → IsGreatestCommonDivisor g x h → IsGreatestCommonDivisorOf (numbers ++ x ∷ []) h
@@ -24,7 +15,8 @@ gcd_of_more {numbers} {g} {x} {h} before both = record {
   divides_each = All-push (λ y. Divides h y) numbers x
       (All-weaker (λ y. Divides g y) (λ y. Divides h y) (λ y divides. Divides-trans both.divides_left divides) numbers before.divides_each)
       both.divides_right;
-  greatest = λ d each. let split = split_last (λ y. Divides d y) numbers x each in both.greatest d (before.greatest d split.0) split.1;
+  greatest = λ d each.
+      let split = All-pop (λ y. Divides d y) (numbers ++ x ∷ []) numbers (Some x) refl each in both.greatest d (before.greatest d split.0) split.1;
 }
 
 -- ---- each list has a gcd
@@ -37,33 +29,26 @@ each_list Fit Is more first (x ∷ rest) g own each =
     let next = more first x g (All-head Fit x rest each) own in
     rw (append_assoc first (x ∷ []) rest) at (each_list Fit Is more (first ++ x ∷ []) rest next.0 next.1 (All-tail Fit x rest each))
 
--- the same from the empty list, where the next result is that result and the next number combined
-each_has : {Is : List ℤ → ℤ → Type 0} {Both : ℤ → ℤ → ℤ → Type 0} (z : ℤ) → Is [] z → ((g x : ℤ) → (h : ℤ) × Both g x h)
-    → ((first : List ℤ) (g x h : ℤ) → Is first g → Both g x h → Is (first ++ x ∷ []) h) → (numbers : List ℤ) → (g : ℤ) × Is numbers g
-each_has {Is} z none pair more numbers =
-    each_list (λ x. x ≡ x) Is (λ first x g _ own. let next = pair g x in (next.0, more first g x next.0 own next.1)) [] numbers z none (λ k d within. refl)
-
 -- two greatest common divisors of one list are equal
 pub only_gcd_of : {numbers : List ℤ} {g h : ℤ} → IsGreatestCommonDivisorOf numbers g → IsGreatestCommonDivisorOf numbers h → g ≡ h
 only_gcd_of x y = Divides-antisym x.from_zero y.from_zero (y.greatest _ x.divides_each) (x.greatest _ y.divides_each)
 
 pub gcd_of_exists : (numbers : List ℤ) → (g : ℤ) × IsGreatestCommonDivisorOf numbers g
-gcd_of_exists = each_has (pos 0) gcd_of_none gcd_exists (λ _ _ _ _. gcd_of_more)
+gcd_of_exists numbers = each_list (λ x. x ≡ x) IsGreatestCommonDivisorOf (λ first x g _ own. let both = gcd_exists g x in (both.0, gcd_of_more own both.1))
+    [] numbers (pos 0) gcd_of_none (λ k d within. refl)
 
 -- ---- when the gcd fits
-
--- in a type without -1 each list has one that fits
-fitting_gcd_of : {fits : ℤ → Type 0} {low high : ℤ} → IsRange fits low high → ¬ (fits (negsuc 0)) → (numbers : List ℤ) → All fits numbers
-    → (g : ℤ) × (IsGreatestCommonDivisorOf numbers g × fits g)
-fitting_gcd_of {fits} range none numbers each = each_list fits (λ first g. IsGreatestCommonDivisorOf first g × fits g)
-    (λ first x g x_fits own. let both = gcd_exists g x in
-    (both.0, (gcd_of_more own.0 both.1, (gcd_fits_is range own.1 x_fits).0 (λ minus_one. absurd (none minus_one)) both.0 both.1)))
-    [] numbers (pos 0) (gcd_of_none, zero_fits range) each
 
 pub gcd_of_fits_exactly : (fits : ℤ → Type 0) → GcdOfFitsExactly fits
 gcd_of_fits_exactly fits = λ low high numbers range each. (
   λ h. elim (zero_or_not low) [
-    | inl none ↦ let g = fitting_gcd_of range (no_minus_one range none) numbers each in λ z is. subst fits (only_gcd_of g.1.0 is) g.1.1
+    | inl none ↦
+        -- in a type without -1 each list has one that fits
+        let g = each_list fits (λ first g. IsGreatestCommonDivisorOf first g × fits g)
+        (λ first x g x_fits own. let both = gcd_exists g x in
+        (both.0, (gcd_of_more own.0 both.1, (gcd_fits_is range own.1 x_fits).0 (λ minus_one. absurd (no_minus_one range none minus_one)) both.0 both.1)))
+        [] numbers (pos 0) (gcd_of_none, zero_fits range) each in
+        λ z is. subst fits (only_gcd_of g.1.0 is) g.1.1
     | inr signed ↦ h ((range.between (negsuc 0)).1 (omega (arith, linear, range.low_end, range.positive)))
   ],
   λ h _. h,
@@ -73,8 +58,7 @@ gcd_of_fits_exactly fits = λ low high numbers range each. (
 
 pub gcd_of_result : (fits : ℤ → Type 0) {numbers : List ℤ} {m g : ℤ} → IsGreatestCommonDivisorOf numbers m → g ≡ m → fits g → GcdOfFits fits numbers × (fits g × IsGreatestCommonDivisorOf numbers g)
 gcd_of_result fits {numbers} is same g_fits =
-    let own = subst (IsGreatestCommonDivisorOf numbers) (sym same) is in
-    (λ _ z other. subst fits (only_gcd_of own other) g_fits, (g_fits, own))
+    let own = rw (← same) at is in (λ _ z other. subst fits (only_gcd_of own other) g_fits, (g_fits, own))
 
 -- the negation of a negative divisor, if it fits
 pub checked_gcd_of : {X : Type 0} (value : X → ℤ) {fits : ℤ → Type 0} {low high : ℤ} {numbers : List ℤ} {d : ℤ} → IsRange fits low high → fits d → d <ℤ pos 0 → IsGreatestCommonDivisorOf numbers (pos (unsigned_abs d))
@@ -93,12 +77,7 @@ gcd_of_next value numbers i d r {x = x} before within at both = rw (map_more val
 
 -- a divisor of the number is the gcd of both, up to its sign
 pub gcd_of_multiple : {d x : ℤ} → Divides d x → IsGreatestCommonDivisor d x (pos (unsigned_abs d))
-gcd_of_multiple {d} divides = record {
-  from_zero = omega (arith, sizes);
-  divides_left = magnitude_divides d;
-  divides_right = Divides-trans (magnitude_divides d) divides;
-  greatest = λ e left _. Divides-trans left (divides_magnitude d);
-}
+gcd_of_multiple divides = gcd-swap (gcd-divisor divides)
 
 -- if the first numbers have the gcd 1, all of them do
 pub gcd_of_one : {X : Type 0} (value : X → ℤ) (numbers : List X) (i : ℕ) {d : ℤ} → d ≡ pos 1 → IsGreatestCommonDivisorOf (map value (take i numbers)) (pos (unsigned_abs d))
@@ -124,7 +103,8 @@ lcm_of_more {numbers} {l} {x} {m} before both = record {
   each_divides = All-push (λ y. Divides y m) numbers x
       (All-weaker (λ y. Divides y l) (λ y. Divides y m) (λ y divides. Divides-trans divides both.left_divides) numbers before.each_divides)
       both.right_divides;
-  least = λ n each. let split = split_last (λ y. Divides y n) numbers x each in both.least n (before.least n split.0) split.1;
+  least = λ n each.
+      let split = All-pop (λ y. Divides y n) (numbers ++ x ∷ []) numbers (Some x) refl each in both.least n (before.least n split.0) split.1;
 }
 
 -- the lcm of the first numbers of a list divides that of the list
@@ -138,7 +118,8 @@ pub only_lcm_of : {numbers : List ℤ} {l m : ℤ} → IsLeastCommonMultipleOf n
 only_lcm_of x y = Divides-antisym x.from_zero y.from_zero (x.least _ y.each_divides) (y.least _ x.each_divides)
 
 pub lcm_of_exists : (numbers : List ℤ) → (l : ℤ) × IsLeastCommonMultipleOf numbers l
-lcm_of_exists = each_has (pos 1) lcm_of_none lcm_exists (λ _ _ _ _. lcm_of_more)
+lcm_of_exists numbers = each_list (λ x. x ≡ x) IsLeastCommonMultipleOf (λ first x l _ own. let both = lcm_exists l x in (both.0, lcm_of_more own both.1))
+    [] numbers (pos 1) lcm_of_none (λ k d within. refl)
 
 -- numbers that are not 0 have a positive one
 pub positive_lcm_of : (numbers : List ℤ) → All (λ x. x ≢ pos 0) numbers → (l : ℤ) × (IsLeastCommonMultipleOf numbers l × (pos 0 <ℤ l))
@@ -158,9 +139,9 @@ lcm_of_zero {numbers} k within zero = record {
       rw none (Divides-zero (pos 0));
 }
 
-zero_at : {X : Type 0} (value : X → ℤ) (numbers : List X) (k : ℕ) → k < length numbers → HoldsAt (λ x. value x ≡ pos 0) numbers k → HoldsAt (λ z. z ≡ pos 0) (map value numbers) k
-zero_at value [] k within zero = absurd (omega arith)
-zero_at value (x ∷ numbers) k within zero = λ d. get_or-map value (x ∷ numbers) k x d within ∙ zero x
+pub lcm_of_with_zero : {X : Type 0} (value : X → ℤ) (numbers : List X) (k : ℕ) → k < length numbers → HoldsAt (λ x. value x ≡ pos 0) numbers k → IsLeastCommonMultipleOf (map value numbers) (pos 0)
+lcm_of_with_zero value [] k within zero = absurd (omega arith)
+lcm_of_with_zero value (x ∷ numbers) k within zero = lcm_of_zero k (omega (arith, length-map (x ∷ numbers) value)) (λ d. get_or-map value (x ∷ numbers) k x d within ∙ zero x)
 
 -- ---- the result of `lcm_of`
 
@@ -168,15 +149,10 @@ pub lcm_of_result : (fits : ℤ → Type 0) {numbers : List ℤ} {l : ℤ} → f
 lcm_of_result fits {numbers} l_fits own = answer_only {P = IsLeastCommonMultipleOf numbers} own (λ y. only_lcm_of own) l_fits refl
 
 -- a multiple of the number is the lcm of both
-pub lcm_of_divisor : {l x : ℤ} → pos 0 ≤ℤ l → Divides x l → IsLeastCommonMultiple l x l
-lcm_of_divisor {l} up divides = record { from_zero = up; left_divides = Divides-refl l; right_divides = divides; least = λ m left _. left }
-
 pub lcm_of_divisor_fits : (fits : ℤ → Type 0) {l x : ℤ} → fits l → pos 0 ≤ℤ l → Divides x l → EachFits fits (IsLeastCommonMultiple l x) × (fits l × IsLeastCommonMultiple l x l)
 lcm_of_divisor_fits fits {l} {x} l_fits up divides =
-    let own = lcm_of_divisor up divides in
-    answer_only {P = IsLeastCommonMultiple l x} own
-    (λ y other. Divides-antisym own.from_zero other.from_zero (own.least _ other.left_divides other.right_divides) (other.least _ own.left_divides own.right_divides))
-    l_fits refl
+    let own : IsLeastCommonMultiple l x l = record { from_zero = up; left_divides = Divides-refl l; right_divides = divides; least = λ m left _. left } in
+    answer_only {P = IsLeastCommonMultiple l x} own (λ y. only_lcm own) l_fits refl
 
 -- ---- the loop of `lcm_of`
 
@@ -195,7 +171,3 @@ module _ {X : Type 0} (value : X → ℤ) (numbers : List X) where
       let next = rw (← take-map value (i + 1) numbers) at (lcm_of_next i before within at both) in
       let multiple = next.least whole.0 (All-take (λ y. Divides y whole.0) (i + 1) (map value numbers) whole.1.0.each_divides) in
       fits_below range (each whole.0 whole.1.0) next.from_zero (divisor_at_most whole.1.1 multiple))
-
-  -- a 0 in the list
-  pub lcm_of_with_zero : (k : ℕ) → k < length numbers → HoldsAt (λ y. value y ≡ pos 0) numbers k → IsLeastCommonMultipleOf (map value numbers) (pos 0)
-  lcm_of_with_zero k within zero = lcm_of_zero k (omega (arith, length-map numbers value)) (zero_at value numbers k within zero)

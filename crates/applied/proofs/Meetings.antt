@@ -1,6 +1,5 @@
 -- Meetings of schedules, from solutions of their congruences from a time on at which all have begun.
-use Rattle.std.specs.Prelude.{◌≡◌, ◌<◌, ◌+◌, ◌≤ℤ◌, ◌+ℤ◌, ◌∷◌}
-use Rattle.applied.proofs.Common.{ℕ, ℤ, pos, List, [], Option, Some, None, MatchOption, FitsWith, AreAllFrom, IsCongruentUpTo, IsCountOfCongruent, IsCountOfTimes, IsTimeTo, arith, cases_lt, get_or_read, length, slice_index_or, linear, SolvesBothCongruences, SolvesEach, IsLeastFrom, CommonSolution, At, Beyond, Never, HaveBegun, IsLeastTime, IsMeeting, IsMeetingOfEach}
+use Rattle.applied.proofs.Common.{◌+ℤ◌, pos, ◌≡◌, ◌<◌, ◌+◌, ◌≤ℤ◌, ◌∷◌, ℕ, ℤ, List, [], Option, Some, None, MatchOption, FitsWith, AreAllFrom, IsCongruentUpTo, IsCountOfCongruent, IsCountOfTimes, IsTimeTo, arith, cases_lt, get_or_read, length, slice_index_or, linear, SolvesBothCongruences, SolvesEach, IsLeastFrom, CommonSolution, At, Beyond, Never, HaveBegun, IsLeastTime, IsMeeting, IsMeetingOfEach}
 
 -- the next solution from the least time on at which all have begun is the next meeting
 module _ {now from : ℤ} {Begun Solves Meets : ℤ → Type 0} (begun : IsLeastFrom now Begun from) (meets : (t : ℤ) → from ≤ℤ t → Solves t → Meets t) (apart : (t : ℤ) → Meets t → Begun t × Solves t) where
@@ -26,8 +25,7 @@ pub meeting_of_each : {X : Type 0} (value : X → ℤ) (fits : ℤ → Type 0) (
     → IsLeastTime value fits from (SolvesEach value schedules) m → IsLeastTime value fits now (IsMeetingOfEach value schedules) m
 meeting_of_each value fits schedules m from = result_is {Solves = SolvesEach value schedules} {Meets = IsMeetingOfEach value schedules} from
     (λ t after solves i d within. record { from_first = omega (arith, linear, from.holds i d within); congruent = solves i d within })
-    (λ t h. (λ i d within. (h i d within).from_first, λ i d within. (h i d within).congruent))
-    value fits m
+    (λ t h. (λ i d within. (h i d within).from_first, λ i d within. (h i d within).congruent)) value fits m
 
 -- ---- the latest first time
 
@@ -38,25 +36,21 @@ begun_more value schedules k schedule within is later own begun i d upto = grind
 
 -- ---- the times of one schedule
 
--- from a time on at which the schedule has begun, its times are the congruent numbers
-times_since : (first period to start : ℤ) → first ≤ℤ start → (items : List ℤ) → AreAllFrom start (IsCongruentUpTo to first period) items → AreAllFrom start (IsTimeTo first period to) items
-times_since first period to start begun [] none = λ u above h. none u above record { to_there = h.to_there; congruent = h.time.congruent }
-times_since first period to start begun (t ∷ items) (next, rest) = (
+-- from the time on at which the schedule has begun, its times are the congruent numbers, and no time is before that
+times_from : {from first start : ℤ} (period to : ℤ) → IsLeastFrom from (λ z. first ≤ℤ z) start → (items : List ℤ) → AreAllFrom start (IsCongruentUpTo to first period) items → AreAllFrom from (IsTimeTo first period to) items
+times_from period to start [] none = λ u above h. none u (start.least u above h.time.from_first) record { to_there = h.to_there; congruent = h.time.congruent }
+times_from {from = from} {first = first} {start = start'} period to start (t ∷ items) (next, rest) = (
   record {
-    from_there = next.from_there;
-    holds = record { time = record { from_first = omega (arith, linear, next.from_there); congruent = next.holds.congruent }; to_there = next.holds.to_there };
-    least = λ u above h. next.least u above record { to_there = h.to_there; congruent = h.time.congruent };
+    from_there = omega (arith, linear, start.from_there, next.from_there);
+    holds = record { time = record { from_first = omega (arith, linear, start.holds, next.from_there); congruent = next.holds.congruent }; to_there = next.holds.to_there };
+    least = λ u above h. next.least u (start.least u above h.time.from_first) record { to_there = h.to_there; congruent = h.time.congruent };
   },
-  times_since first period to (t +ℤ pos 1) (omega (arith, linear, next.from_there)) items rest,
+  times_from {from = t +ℤ pos 1} {first = first} {start = t +ℤ pos 1} period to
+      (record { from_there = omega (arith, linear); holds = omega (arith, linear, start.holds, next.from_there); least = λ u above _. above }) items rest,
 )
 
--- no time is before that
-times_from : {from first start : ℤ} (period to : ℤ) → IsLeastFrom from (λ z. first ≤ℤ z) start → (items : List ℤ) → AreAllFrom start (IsTimeTo first period to) items → AreAllFrom from (IsTimeTo first period to) items
-times_from period to start [] none = λ u above h. none u (start.least u above h.time.from_first) h
-times_from period to start (t ∷ items) (next, rest) = grind (arith, linear)
-
 count_of_times : {from first period to start n : ℤ} → IsLeastFrom from (λ z. first ≤ℤ z) start → IsCountOfCongruent start to first period n → IsCountOfTimes from to first period n
-count_of_times {from} {first} {period} {to} start h = record { items = h.items; all = times_from period to start h.items (times_since first period to _ start.holds h.items h.all); counted = h.counted }
+count_of_times {from} {first} {period} {to} start h = record { items = h.items; all = times_from period to start h.items h.all; counted = h.counted }
 
 pub times_by_congruent : {X : Type 0} (value : X → ℤ) (fits : ℤ → Type 0) {from start : ℤ} (to first period : ℤ) (r : Option X) → IsLeastFrom from (λ z. first ≤ℤ z) start
     → MatchOption r ((n : ℤ) × IsCountOfCongruent start to first period n × ¬ (fits n)) (FitsWith fits value (IsCountOfCongruent start to first period))

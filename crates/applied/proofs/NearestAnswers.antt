@@ -1,9 +1,5 @@
 -- Calls that return a quotient rounded to the nearest integer, if it fits. Each fact is of both kinds.
-use Rattle.std.specs.Prelude.{◌≡◌, ◌≢◌, ◌↔◌, ◌≤ℤ◌, ◌<ℤ◌, ◌*ℤ◌, IsSome}
-use Rattle.std.proofs.Math.Bool.{beq}
-use Rattle.num_integer.proofs.FittingAnswers.{floored}
-use Rattle.applied.specs.Rounding.{AnswersQuotient}
-use Rattle.applied.proofs.Common.{Bool, not, signed, ℕ, ℤ, pos, Option, IsTrue, linear, arith, refl, answer_only, answers_as, answers_only, part_fits, some_in_domain, AnswersWhere, FitsWith, IsFloored, IsQuotient, EachFits, IsRange}
+use Rattle.applied.proofs.Common.{◌≡◌, ◌≢◌, ◌↔◌, ◌≤ℤ◌, ◌<ℤ◌, ◌*ℤ◌, IsSome, beq, floored, AnswersQuotient, Bool, not, signed, ℕ, ℤ, pos, Option, IsTrue, linear, arith, refl, answer_only, answers_as, answers_only, part_fits, some_in_domain, AnswersWhere, FitsWith, IsFloored, IsQuotient, EachFits, IsRange}
 use Rattle.applied.proofs.NearestQuotients.{IsRounding, quotient_by_magnitudes, same_fit}
 
 module _ {Kind : ℤ → ℤ → ℤ → ℤ → Type 0} (rounding : IsRounding Kind) where

@@ -1,8 +1,5 @@
 -- Quotients rounded to the nearest integer: from those rounded down, the only ones, and when they fit.
-use Rattle.std.specs.Prelude.{◌≡◌, ◌≢◌, ◌⊎◌, ◌↔◌, ◌<◌, ◌≤◌, ◌≤ℤ◌, ◌+◌, ◌*◌, ◌<ℤ◌, ◌+ℤ◌, ◌-ℤ◌, ◌*ℤ◌}
-use Rattle.std.proofs.Math.Bool.{beq}
-use Rattle.num_integer.proofs.FittingAnswers.{IsKind, floored}
-use Rattle.applied.proofs.Common.{Bool, true, false, not, signed, ℕ, ℤ, pos, neg_ℤ, unsigned_abs, arith, inl, inr, le_refl, refl, subst, cases_lt, by_lt_z, unsigned_abs-mul, mul-le, IsDivision, IsFloored, IsQuotient, IsEven, EachFits, IsRange, divides_or_not, expand, from_not_less, linear, other_quotient_fits, products, sizes, zero_or_not, division_exists, NearestEvenQuotientIsOnly, NearestQuotientExists, NearestQuotientFitsExactly, NearestQuotientIsOnly, NoIntegerIsNearer, IsDown, IsNearer, IsNearest, IsNearestEven, LiesWithin}
+use Rattle.applied.proofs.Common.{◌≡◌, ◌≢◌, ◌⊎◌, ◌↔◌, ◌<◌, ◌≤◌, ◌≤ℤ◌, ◌+◌, ◌*◌, ◌<ℤ◌, ◌+ℤ◌, ◌-ℤ◌, ◌*ℤ◌, beq, IsKind, floored, Bool, true, false, not, signed, ℕ, ℤ, pos, neg_ℤ, unsigned_abs, arith, inl, inr, le_refl, refl, subst, cases_lt, by_lt_z, unsigned_abs-mul, mul-le, IsDivision, IsFloored, IsQuotient, IsEven, EachFits, IsRange, divides_or_not, expand, from_not_less, linear, other_quotient_fits, products, sizes, zero_or_not, division_exists, NearestEvenQuotientIsOnly, NearestQuotientExists, NearestQuotientFitsExactly, NearestQuotientIsOnly, NoIntegerIsNearer, IsDown, IsNearer, IsNearest, IsNearestEven, LiesWithin}
 
 next_product : (q d : ℤ) → (q +ℤ pos 1) *ℤ d ≡ q *ℤ d +ℤ d
 next_product q d = simp expand (omega (arith, products))
@@ -42,11 +39,8 @@ module _ {n d q r : ℤ} (h : IsFloored n d q r) (A : Type 0) where
   next_near : ¬ (IsDown A d r) → IsDivision n d (q +ℤ pos 1) (r -ℤ d) × (2 * unsigned_abs (r -ℤ d) ≤ unsigned_abs d) × (2 * unsigned_abs (r -ℤ d) ≡ unsigned_abs d → (2 * unsigned_abs r ≡ unsigned_abs d) × (¬ A))
   next_near none =
       let large : unsigned_abs d ≤ 2 * unsigned_abs r = elim (cases_lt (2 * unsigned_abs r) (unsigned_abs d)) [ inl less ↦ absurd (none (inl less)) | inr most ↦ most ] in
-      let equation = h.division.equation in
-      let small = h.division.small in
-      let product = next_product q d in
-      let size : unsigned_abs (r -ℤ d) + unsigned_abs r ≡ unsigned_abs d = omega (arith, sizes) in (
-        record { equation = omega (arith, linear); small = omega (arith, sizes) },
+      let size : unsigned_abs (r -ℤ d) + unsigned_abs r ≡ unsigned_abs d = omega (arith, sizes, h.division.small) in (
+        record { equation = omega (arith, linear, h.division.equation, next_product q d); small = omega (arith, sizes) },
         omega arith,
         λ half. let same : 2 * unsigned_abs r ≡ unsigned_abs d = omega arith in (same, λ a. none (inr (same, a))),
       )
@@ -97,8 +91,7 @@ not_less_nearest : {n d q r p s : ℤ} → IsNearest n d q r → IsNearest n d p
 not_less_nearest x y less =
     let both = halves x.division x.nearest y.division y.nearest less in
     let first = (half_up x.division both.1).0 (x.tie (omega (arith, sizes, both.1))) in
-    let second = (half_down y.division both.2).0 (y.tie (omega (arith, sizes, both.2))) in
-    omega (arith, linear, both.0)
+    omega (arith, linear, both.0, (half_down y.division both.2).0 (y.tie (omega (arith, sizes, both.2))))
 
 not_less_even : {n d q r p s : ℤ} → IsNearestEven n d q r → IsNearestEven n d p s → ¬ (q <ℤ p)
 not_less_even x y less =
@@ -131,8 +124,7 @@ nearest_even_quotient_is_only = λ n d q h other k. (nearest_even_kind.only k.di
 
 -- ---- no integer is nearer
 
-no_nearer : {n d q r : ℤ} (m : ℤ) → IsDivision n d q r → 2 * unsigned_abs r ≤ unsigned_abs d
-    → unsigned_abs (n -ℤ q *ℤ d) ≤ unsigned_abs (n -ℤ m *ℤ d)
+no_nearer : {n d q r : ℤ} (m : ℤ) → IsDivision n d q r → 2 * unsigned_abs r ≤ unsigned_abs d → unsigned_abs (n -ℤ q *ℤ d) ≤ unsigned_abs (n -ℤ m *ℤ d)
 no_nearer {n} {d} {q} {r} m h near = elim (zero_or_not (q -ℤ m)) [
   | inl none ↦ let same : q ≡ m = omega (arith, linear) in rw same (omega arith)
   | inr other ↦
@@ -161,8 +153,7 @@ nearest_quotient_exists = λ n d nonzero.
     let below : (h.0 <ℤ pos 0) ⊎ (¬ (h.0 <ℤ pos 0)) = by_lt_z h.0 (pos 0) (λ less. inl less) (λ up. inr (λ less. omega (arith, linear))) in
     let first = nearer_exists (h.0 <ℤ pos 0) d h.0 h.1 below in
     let second = nearer_exists (IsEven h.0) d h.0 h.1 (divides_or_not (pos 2) h.0 (λ e. omega (arith, linear))) in
-    let nearest = nearest_is h.2 (h.0 <ℤ pos 0) (λ less. less, λ less. less) first.1 in
-    ((first.0, nearest), (second.0, nearest_even_is h.2 (IsEven h.0) (λ even. even, λ even. even) second.1))
+    ((first.0, nearest_is h.2 (h.0 <ℤ pos 0) (λ a. a, λ a. a) first.1), (second.0, nearest_even_is h.2 (IsEven h.0) (λ a. a, λ a. a) second.1))
 
 -- ---- by magnitudes
 
@@ -186,33 +177,19 @@ nearest = record {
   kind = nearest_kind;
   number = λ n d q r h.
       let turned = negated_number h.division in
-      record {
-        division = turned.0;
-        nearest = omega (arith, sizes, h.nearest);
-        tie = λ half. let less = h.tie (omega (arith, sizes)) in rw turned.1 (omega (arith, sizes));
-      };
+      record { division = turned.0; nearest = omega (arith, sizes); tie = λ half. rw turned.1 (omega (arith, sizes, h.tie (omega (arith, sizes)))) };
   divisor = λ n d q r h.
       let turned = negated_divisor h.division in
-      record {
-        division = turned.0;
-        nearest = omega (arith, sizes, h.nearest);
-        tie = λ half. let less = h.tie (omega (arith, sizes)) in rw turned.1 less;
-      };
+      record { division = turned.0; nearest = omega (arith, sizes); tie = λ half. rw turned.1 (h.tie (omega (arith, sizes))) };
 }
 
 pub nearest_even : IsRounding IsNearestEven
 nearest_even = record {
   kind = nearest_even_kind;
-  number = λ n d q r h. record {
-    division = (negated_number h.division).0;
-    nearest = omega (arith, sizes, h.nearest);
-    tie = λ half. negated_even (h.tie (omega (arith, sizes)));
-  };
-  divisor = λ n d q r h. record {
-    division = (negated_divisor h.division).0;
-    nearest = omega (arith, sizes, h.nearest);
-    tie = λ half. negated_even (h.tie (omega (arith, sizes)));
-  };
+  number = λ n d q r h.
+      record { division = (negated_number h.division).0; nearest = omega (arith, sizes); tie = λ half. negated_even (h.tie (omega (arith, sizes))) };
+  divisor = λ n d q r h.
+      record { division = (negated_divisor h.division).0; nearest = omega (arith, sizes); tie = λ half. negated_even (h.tie (omega (arith, sizes))) };
 }
 
 -- the quotient of the magnitudes, with the sign of the quotient, is that of the numbers

@@ -1,6 +1,5 @@
 -- Powers and their roots, the integer logarithm by division, and what is left of a square root.
-use Rattle.std.specs.Prelude.{◌≡◌, ◌≢◌, ◌⊎◌, ◌^◌, ◌≤◌, ◌<◌, ◌≤ℤ◌, ◌*ℤ◌, ◌+◌, ◌*◌, ◌/◌, ◌<ℤ◌, ◌+ℤ◌, ◌-ℤ◌}
-use Rattle.applied.proofs.Common.{ℕ, ℤ, pos, negsuc, neg_ℤ, suc, zero, unsigned_abs, int_pow, arith, ap, inl, refl, subst, sym, pow_mono, ◌∙◌, pow-le-pow_left, by_lt_z, ints, IsFloorRoot, IsRoot, even_power, exact_power_root, linear, odd_power, power_of_one, power_of_zero, power_size, int_div, add-one, le_refl, le-div_iff_mul-le, div-lt_iff_lt-mul, pow-suc, div-div-eq-div-mul, one-le-pow, pow-le-pow_right, pow-succ', div_below, le-div, mul-le, IsRange, within_fits, few_bits, root_by_squares, sizes, LogarithmIsOnly, IsLogarithm}
+use Rattle.applied.proofs.Common.{◌≡◌, ◌≢◌, ◌⊎◌, ◌^◌, ◌≤◌, ◌<◌, ◌≤ℤ◌, ◌*ℤ◌, ◌+◌, ◌*◌, ◌/◌, ◌<ℤ◌, ◌+ℤ◌, ℕ, ℤ, pos, negsuc, neg_ℤ, suc, zero, unsigned_abs, int_pow, arith, ap, refl, subst, sym, pow_mono, ◌∙◌, pow-le-pow_left, by_lt_z, ints, IsFloorRoot, IsRoot, even_power, exact_power_root, linear, odd_power, power_of_one, power_of_zero, power_size, int_div, add-one, le_refl, le-div_iff_mul-le, div-lt_iff_lt-mul, pow-suc, div-div-eq-div-mul, one-le-pow, pow-le-pow_right, pow-succ', div_below, le-div, mul-le, IsRange, few_bits, root_by_squares, sizes, LogarithmIsOnly, IsLogarithm}
 
 -- ---- roots of powers
 
@@ -35,9 +34,8 @@ high_degree : (a d n : ℕ) → 64 ≤ d → n < 2 ^ 64 → a ^ d ≡ n → a ^ 
 high_degree zero d n high below e = power_of_zero 2 (omega arith) ∙ sym (power_of_zero d (omega arith)) ∙ e
 high_degree (suc zero) d n high below e = power_of_one 2 ∙ sym (power_of_one d) ∙ e
 high_degree (suc (suc a)) d n high below e =
-    let degrees = pow_mono {i = 64} {j = d} high in
     let bases : 2 ^ d ≤ suc (suc a) ^ d = pow-le-pow_left (omega arith) d in
-    absurd (omega arith)
+    absurd (omega (arith, pow_mono {i = 64} {j = d} high))
 
 -- below 2^64, a power of degree 64 or more is a square
 pub high_power_is_square : (k : ℤ) (d n : ℕ) → 64 ≤ d → n < 2 ^ 64 → int_pow k d ≡ pos n → int_pow k 2 ≡ pos n
@@ -60,8 +58,7 @@ divided_next {base} {n} {rest} {k} base_up enough h =
     let some = le-div 1 (unsigned_abs rest) (unsigned_abs base) (omega (arith, sizes)) (omega (arith, sizes)) in
     rw (natural_quotient rest base (omega (arith, linear)) base_up) (record {
       positive = omega (arith, linear);
-      is = rw (h.is, add-one k, pow-suc (unsigned_abs base) k)
-          (div-div-eq-div-mul (unsigned_abs n) (unsigned_abs base ^ k) (unsigned_abs base));
+      is = rw (h.is, add-one k, pow-suc (unsigned_abs base) k) (div-div-eq-div-mul (unsigned_abs n) (unsigned_abs base ^ k) (unsigned_abs base));
     })
 
 -- each division by a base of at least 2 makes a positive number smaller
@@ -107,8 +104,3 @@ pub square_rest : {x r : ℤ} → pos 0 ≤ℤ x → IsRoot x 2 r → (pos 0 ≤
 square_rest {x = pos a} {r = pos b} up h = let squares = root_by_squares h in (omega (arith, ints), omega (arith, ints, squares.0), omega (arith, ints, squares.1))
 square_rest {x = pos a} {r = negsuc b} up h = absurd (omega (arith, ints, (h.from_zero up).from_zero))
 square_rest {x = negsuc a} {r = r} up h = absurd (omega (arith, ints))
-
-pub rest_of_square_fits : {fits : ℤ → Type 0} {low high x r p : ℤ} → IsRange fits low high → fits x → pos 0 ≤ℤ x → IsRoot x 2 r → p ≡ r *ℤ r → fits (x -ℤ p)
-rest_of_square_fits range x_fits up root is =
-    let square = square_rest up root in
-    within_fits range x_fits (inl (omega (arith, linear), omega (arith, linear)))

@@ -1,11 +1,5 @@
 -- Greatest common divisors up to their sign, and pairs of numbers divided by their greatest common divisor.
-use Rattle.std.specs.Prelude.{◌≡◌, ◌≢◌, ◌≤ℤ◌, ◌<ℤ◌, ◌-ℤ◌, ◌*ℤ◌, ◌<◌, ◌*◌, ◌/◌}
-use Rattle.applied.proofs.Common.{ℤ, pos, negsuc, neg_ℤ, unsigned_abs, int_div, ◌∙◌, arith, inl, inr, refl, subst, sym, cases_lt, by_lt_z, Divides, IsGreatestCommonDivisor, EachFits, IsRange, Divides-trans, divides_magnitude, divisor_size, exact_quotient, expand, gcd-swap, gcd-zero, linear, magnitude_divides, one_fits, only_gcd, other_quotient_fits, product_from_zero, products, sizes, truncated_is, within_fits, gcd_exists, ℕ, ap, Divides-antisym, cancel, comm, coprime_divides, divided_by_gcd, factor_positive, mul-neg, natural_exact_quotient, natural_gcd_positive, natural_quotients_coprime, product_positive, zero_divides, zero_or_not, ReducedPairIsOnly, HasSignOf, IsReducedPair}
-
--- ---- magnitudes
-
-pub magnitude_positive : (d : ℤ) → d ≢ pos 0 → pos 0 <ℤ pos (unsigned_abs d)
-magnitude_positive d nonzero = omega (arith, sizes)
+use Rattle.applied.proofs.Common.{◌≡◌, ◌≢◌, ◌≤ℤ◌, ◌<ℤ◌, ◌-ℤ◌, ◌*ℤ◌, ◌<◌, ◌*◌, ◌/◌, ℤ, pos, negsuc, neg_ℤ, unsigned_abs, int_div, ◌∙◌, arith, inl, inr, refl, subst, sym, cases_lt, by_lt_z, Divides, IsGreatestCommonDivisor, EachFits, IsRange, Divides-trans, divides_magnitude, divisor_size, exact_quotient, expand, gcd-swap, linear, magnitude_divides, one_fits, only_gcd, other_quotient_fits, product_from_zero, products, sizes, truncated_is, within_fits, gcd_exists, ℕ, ap, Divides-antisym, cancel, comm, coprime_divides, divided_by_gcd, factor_positive, mul-neg, natural_exact_quotient, natural_gcd_positive, natural_quotients_coprime, product_positive, zero_divides, zero_or_not, ReducedPairIsOnly, HasSignOf, IsReducedPair}
 
 -- the first number may be its magnitude
 pub gcd_with_magnitude : {a b g : ℤ} → IsGreatestCommonDivisor a b g → IsGreatestCommonDivisor (pos (unsigned_abs a)) b g
@@ -17,10 +11,6 @@ gcd_with_magnitude {a} h = record {
 }
 
 -- ---- the divisor that `signed_gcd` returns
-
--- with 0 it is the magnitude of the other number
-pub gcd_of_zero_and : {a : ℤ} (b : ℤ) → a ≡ pos 0 → IsGreatestCommonDivisor a b (pos (unsigned_abs b))
-gcd_of_zero_and b none = rw none (gcd-swap (gcd-zero b))
 
 module _ {fits : ℤ → Type 0} {low high a b : ℤ} (range : IsRange fits low high) (none : ¬ (EachFits fits (IsGreatestCommonDivisor a b))) where
   -- if the divisor does not fit, it is the magnitude of each of the two numbers that is not 0
@@ -39,9 +29,7 @@ module _ {fits : ℤ → Type 0} {low high a b : ℤ} (range : IsRange fits low 
 
   -- so it is not 1
   pub unfit_is_other : (d : ℤ) → IsGreatestCommonDivisor a b (pos (unsigned_abs d)) → d ≢ negsuc 0
-  unfit_is_other d is minus_one =
-      let one : pos (unsigned_abs d) ≡ pos 1 = rw minus_one refl in
-      none (λ z other. subst fits (sym one ∙ only_gcd is other) (one_fits range))
+  unfit_is_other d is minus_one = none (λ z other. rw (sym (only_gcd is other), minus_one) (one_fits range))
 
 -- ---- quotients by a magnitude
 
@@ -121,10 +109,8 @@ first_is_only {a} {b} {x} {y} {u} {v} h k = elim (zero_or_not a) [
   | inl none ↦ zero_of_zero k.first_sign none ∙ sym (zero_of_zero h.first_sign none)
   | inr some ↦
       let first = simp expand at (ap (λ (t : ℤ). t *ℤ u) h.ratio) in
-      let second = simp expand at (ap (λ (t : ℤ). x *ℤ t) k.ratio) in
-      let cross : x *ℤ v ≡ y *ℤ u = cancel a (x *ℤ v) (y *ℤ u) some (omega (arith, linear)) in
-      same_of_sign h.first_sign k.first_sign
-      (coprime_divides (gcd-swap (h.coprime (inl some))) (record { factor = v; product = sym cross }))
+      let cross : x *ℤ v ≡ y *ℤ u = cancel a (x *ℤ v) (y *ℤ u) some (omega (arith, linear, simp expand at (ap (λ (t : ℤ). x *ℤ t) k.ratio))) in
+      same_of_sign h.first_sign k.first_sign (coprime_divides (gcd-swap (h.coprime (inl some))) (record { factor = v; product = sym cross }))
       (coprime_divides (gcd-swap (k.coprime (inl some))) (record { factor = y; product = comm v x ∙ cross ∙ comm y u }))
 ]
 

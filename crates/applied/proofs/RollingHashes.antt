@@ -1,14 +1,12 @@
 -- The hash of one more byte, and of the next window.
-use Rattle.std.specs.Prelude.{◌≡◌, ◌<◌, ◌+◌, ◌+ℤ◌, ◌-ℤ◌, ◌*ℤ◌, ◌∷◌, ◌++◌}
-use Rattle.applied.proofs.Common.{ℕ, ℤ, pos, List, [], length, slice_index, take, int_pow, arith, ap, ◌∙◌, add-one, subst, sym, length_push, take-suc, expand, int_pow-suc, int_pow-zero, linear, products, congruent-difference, congruent-product, congruent-refl, congruent-sum, congruent-trans, AreCongruent, IsResidue, weighted_sum}
+use Rattle.applied.proofs.Common.{◌≡◌, ◌<◌, ◌+◌, ◌+ℤ◌, ◌-ℤ◌, ◌*ℤ◌, ◌∷◌, ◌++◌, ℕ, ℤ, pos, List, [], length, slice_index, take, int_pow, arith, ap, ◌∙◌, add-one, subst, sym, length_push, take-suc, expand, int_pow-suc, int_pow-zero, linear, products, congruent-difference, congruent-product, congruent-refl, congruent-sum, congruent-trans, AreCongruent, IsResidue, weighted_sum}
 
 -- one more byte at the end moves each before it up by one power
 sum_with_last : (base : ℤ) (bytes : List ℕ) (last : ℕ) → weighted_sum base (bytes ++ last ∷ []) ≡ weighted_sum base bytes *ℤ base +ℤ pos last
 sum_with_last base [] last = grind (arith, int_pow, int_pow-zero, products)
 sum_with_last base (byte ∷ bytes) last =
     let power : int_pow base (length (bytes ++ last ∷ [])) ≡ base *ℤ int_pow base (length bytes) = ap (λ (k : ℕ). int_pow base k) (length_push bytes last ∙ add-one (length bytes)) ∙ int_pow-suc base (length bytes) in
-    let rest = sum_with_last base bytes last in
-    rw (power, rest) (simp expand (omega (arith, linear)))
+    rw (power, sum_with_last base bytes last) (simp expand (omega (arith, linear)))
 
 hash_shifted : {m sum hash shifted r : ℤ} (base byte : ℤ) → AreCongruent m sum hash → IsResidue m (hash *ℤ base) shifted → IsResidue m (shifted +ℤ byte) r → IsResidue m (sum *ℤ base +ℤ byte) r
 hash_shifted base byte h shift last = record {
@@ -18,8 +16,7 @@ hash_shifted base byte h shift last = record {
 
 pub hash_more : {m hash shifted r : ℤ} (base : ℤ) (bytes : List ℕ) (i : ℕ) → i < length bytes → IsResidue m (weighted_sum base (take i bytes)) hash → IsResidue m (hash *ℤ base) shifted
     → IsResidue m (shifted +ℤ pos (slice_index bytes i)) r → IsResidue m (weighted_sum base (take (i + 1) bytes)) r
-hash_more base bytes i within h shift last =
-    rw (add-one i, take-suc bytes i 0 within, sum_with_last base (take i bytes) (slice_index bytes i))
+hash_more base bytes i within h shift last = rw (add-one i, take-suc bytes i 0 within, sum_with_last base (take i bytes) (slice_index bytes i))
     (hash_shifted base (pos (slice_index bytes i)) h.congruent shift last)
 
 pub next_window : {m hash weight first rest shifted r : ℤ} {count : ℕ} (base : ℤ) (leaving entering : ℕ) (kept : List ℕ) → length kept ≡ count → IsResidue m (weighted_sum base (leaving ∷ kept)) hash
@@ -29,7 +26,6 @@ next_window {m} {weight = weight} {rest = rest} base leaving entering kept size 
     let top : ℤ = pos leaving *ℤ int_pow base (length kept) in
     let near : AreCongruent m (int_pow base (length kept)) weight = subst (λ (k : ℕ). AreCongruent m (int_pow base k) weight) (sym size) at_weight.congruent in
     let gone = congruent-trans (congruent-product (congruent-refl (pos leaving)) near) at_first.congruent in
-    let left = congruent-trans (congruent-difference h.congruent gone) at_rest.congruent in
     let same : (top +ℤ weighted_sum base kept) -ℤ top ≡ weighted_sum base kept = omega (arith, linear) in
-    let stays : AreCongruent m (weighted_sum base kept) rest = subst (λ (t : ℤ). AreCongruent m t rest) same left in
+    let stays = rw same at (congruent-trans (congruent-difference h.congruent gone) at_rest.congruent) in
     rw (sum_with_last base kept entering) (hash_shifted base (pos entering) stays shift last)

@@ -1,7 +1,5 @@
 -- Sums of signed numbers, and totals that no type has.
-use Rattle.std.specs.Prelude.{◌≡◌, ◌<◌, ◌≤◌, ◌^◌, ◌+◌, ◌+ℤ◌, ◌∷◌, ◌++◌}
-use Rattle.applied.specs.Totals.{wrapped}
-use Rattle.applied.proofs.Common.{ℕ, ℤ, pos, unsigned_abs, List, [], length, get_or, map, take, arith, refl, map_more, take_all, IsRange, linear, signed_sum}
+use Rattle.applied.proofs.Common.{◌≡◌, ◌<◌, ◌≤◌, ◌^◌, ◌+◌, ◌+ℤ◌, ◌∷◌, ◌++◌, wrapped, ℕ, ℤ, pos, unsigned_abs, List, [], length, get_or, map, take, arith, refl, map_more, take_all, IsRange, linear, signed_sum}
 
 -- ---- sums of lists
 
@@ -15,12 +13,6 @@ pub signed_sum-append : (xs ys : List ℤ) → signed_sum (xs ++ ys) ≡ signed_
 signed_sum-append [] ys = omega (arith, linear)
 signed_sum-append (x ∷ xs) ys = omega (arith, linear, signed_sum-append xs ys)
 
--- the sum of the first i + 1 numbers of a list is that of the first i and the number at i
-signed_sum_more : {X : Type 0} (value : X → ℤ) (items : List X) (i : ℕ) {x : X} {sum next : ℤ} → sum ≡ signed_sum (map value (take i items)) → i < length items → x ≡ get_or items i x
-    → next ≡ sum +ℤ value x → next ≡ signed_sum (map value (take (i + 1) items))
-signed_sum_more value items i {x = x} before within at is =
-    rw (map_more value items i x within, ← at, signed_sum-append (map value (take i items)) (value x ∷ [])) (omega (arith, linear, before, is))
-
 -- ---- totals
 
 -- a total is the sum of the first i numbers of a list, and it has passed either end of its 128 bits at most once for each of them
@@ -33,8 +25,8 @@ module _ {X : Type 0} {value : X → ℤ} {items : List X} {i low over under : �
   -- with the next number the total is that of the first i + 1
   pub total_more : {x : X} {v : ℤ} {next_low next_over next_under : ℕ} → i < length items → x ≡ get_or items i x → v ≡ value x → wrapped next_low next_over next_under ≡ wrapped low over under +ℤ v
       → next_over ≤ over + 1 → next_under ≤ under + 1 → IsTotalOf value items (i + 1) next_low next_over next_under
-  total_more within at is sum over_more under_more = record {
-    so_far = signed_sum_more value items i total.so_far within at (rw is at sum);
+  total_more {x} within at is sum over_more under_more = record {
+    so_far = rw (map_more value items i x within, ← at, signed_sum-append (map value (take i items)) (value x ∷ [])) (omega (arith, linear, total.so_far, is, sum));
     over_times = omega (arith, total.over_times);
     under_times = omega (arith, total.under_times);
   }

@@ -1,6 +1,5 @@
 -- An amount divided in proportion to weights.
-use Rattle.std.specs.Prelude.{◌≡◌, ◌+◌, ◌*◌, ◌<◌, ◌≤◌, ◌≤ℤ◌, ◌-ℤ◌, ◌∷◌}
-use Rattle.applied.proofs.Common.{ℕ, List, EachIndex, length, slice_index, slice_set, sum, take, ◌∙◌, ap, arith, le_refl, sym, ext_get_or, length-set, take-set-le, take_all, take_more_set, sum_by_more, sum_by_push, mul-le, IsOnly, AreShares, IsNearShare, suc, ℤ, pos, [], All, map, unsigned_abs, get_or, refl, set, by_lt_z, ints, get_or-map, get_or-set_other, get_or-set_same, length-map, map-set, sum_by-cons, AreSignedShares, signed_sum}
+use Rattle.applied.proofs.Common.{◌≡◌, ◌+◌, ◌*◌, ◌<◌, ◌≤◌, ◌≤ℤ◌, ◌-ℤ◌, ◌∷◌, ℕ, List, EachIndex, length, slice_index, slice_set, sum, take, ◌∙◌, ap, arith, le_refl, sym, ext_get_or, length-set, take-set-le, take_all, take_more_set, sum_by_more, sum_by_push, mul-le, IsOnly, AreShares, IsNearShare, suc, ℤ, pos, [], All, map, unsigned_abs, get_or, refl, set, by_lt_z, ints, get_or-map, get_or-set_other, get_or-set_same, length-map, map-set, sum_by-cons, AreSignedShares, signed_sum}
 
 -- ---- the shares so far
 
@@ -17,11 +16,9 @@ none_shared {amount} {total} {weights} {shares} size up = grind arith
 pub one_more_shared : {amount total i ahead next : ℕ} {weights shares : List ℕ} (share : ℕ) → i < length weights → share * total + ahead ≡ amount * slice_index weights i + next → next < total
     → AreSharedTo amount weights total i ahead shares → AreSharedTo amount weights total (i + 1) next (slice_set shares i share)
 one_more_shared {amount} {total} {i} {ahead} {next} {weights} {shares} share within is below h =
-    let weight = sum_by_more (λ (x : ℕ). x) weights i 0 within in
-    let written : sum (take (i + 1) (slice_set shares i share)) ≡ sum (take i shares) + share =
-    ap sum (take_more_set shares i share (omega (arith, h.one_each))) ∙ sum_by_push (λ (x : ℕ). x) (take i shares) share in
+    let written = ap sum (take_more_set shares i share (omega (arith, h.one_each))) ∙ sum_by_push (λ (x : ℕ). x) (take i shares) share in
     let place : sum (take (i + 1) (slice_set shares i share)) * total ≡ amount * sum (take (i + 1) weights) + next =
-    rw (written, weight) (omega (arith, h.place)) in
+    rw (written, sum_by_more (λ (x : ℕ). x) weights i 0 within) (omega (arith, h.place)) in
     record {
       one_each = length-set shares i share ∙ h.one_each;
       below = below;
@@ -70,9 +67,6 @@ pub record AreSignedTo (amount : ℤ) (weights : List ℕ) (total i ahead : ℕ)
 pub none_signed : {amount : ℤ} {total : ℕ} {weights : List ℕ} {shares : List ℤ} → length shares ≡ length weights → 0 < total → AreSignedTo amount weights total 0 0 shares
 none_signed {shares = shares} size up = grind (arith, none_shared, length-map, unsigned_abs)
 
--- what both loops begin with
-pub ruleset nothing_written = (none_shared, none_signed)
-
 pub one_more_signed : {amount : ℤ} {total i ahead next : ℕ} {weights : List ℕ} {shares : List ℤ} (share : ℤ) → i < length weights
     → unsigned_abs share * total + ahead ≡ unsigned_abs amount * slice_index weights i + next → next < total
     → (pos 0 ≤ℤ amount → pos 0 ≤ℤ share) → (amount ≤ℤ pos 0 → share ≤ℤ pos 0)
@@ -100,8 +94,7 @@ sum_of_sign (x ∷ xs) =
 pub signed_shares_are_whole : {amount : ℤ} {weights : List ℕ} {shares : List ℤ} → 0 < sum weights → AreSignedShares amount weights shares → signed_sum shares ≡ amount
 signed_shares_are_whole {amount} {weights} {shares} some h =
     let whole = shares_are_whole some h.magnitudes in
-    by_lt_z amount (pos 0)
-    (λ less. omega (arith, ints, (sum_of_sign shares).1 (h.to_zero (omega (arith, ints)))))
+    by_lt_z amount (pos 0) (λ less. omega (arith, ints, (sum_of_sign shares).1 (h.to_zero (omega (arith, ints)))))
     (λ rest. omega (arith, ints, (sum_of_sign shares).0 (h.from_zero rest)))
 
 -- An amount has one list of signed shares.

@@ -17,7 +17,7 @@ use num_integer::operators::{difference, is_below, is_negative, one, successor, 
 /// # Panics
 ///
 /// In plain Rust, if `n` is negative, or if the factorial does not fit.
-#[tactic(auto, using(num_integer::proofs::ForCallers::linear))]
+#[tactic(auto, using(num_integer::proofs::ForCallers::linear, crate::proofs::FallingFactorials::factorial_is))]
 pub fn factorial<T: Integer + Copy>(n: T) -> T
     requires in_range { T.fits (T.value n) }
     requires from_zero { pos 0 ≤ℤ T.value n }

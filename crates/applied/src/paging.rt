@@ -160,7 +160,7 @@ fn start_of<T: Integer + Copy>(part: T, size: T, longer: T) -> T
 }
 
 /// Returns the smaller of two numbers.
-#[tactic(auto, using(crate::proofs::ItemRanges::minima))]
+#[tactic(auto, using(num_integer::proofs::ForCallers::linear, std::proofs::lemmas::Int::clamps))]
 fn minimum<T: Integer + Copy>(x: T, y: T) -> T
     requires in_range { T.fits (T.value x) × T.fits (T.value y) }
     ensures in_range { T.fits (T.value result) }

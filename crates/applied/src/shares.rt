@@ -1,6 +1,6 @@
 //! An amount divided in proportion to weights.
 
-#![tactic(auto, using(crate::proofs::WeightedShares::nothing_written))]
+#![tactic(auto, using(crate::proofs::WeightedShares::none_shared, crate::proofs::WeightedShares::none_signed))]
 
 ghost use Rattle.std.specs.Prelude.{◌≡◌, ◌≢◌, ◌↔◌, ◌<◌, ◌≤◌, ◌+◌, ◌*◌, ◌≤ℤ◌, pos, EachIndex, Err, IfOk, IsOk, OnErr, OnOk, length, slice_index, sum, unsigned_abs};
 ghost use Rattle.num_integer.specs.Only.{IsOnly};

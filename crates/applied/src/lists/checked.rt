@@ -123,6 +123,7 @@ fn has_zero<T: Fits>(numbers: &[T]) -> bool
 
 /// Returns the sum of the numbers of a built-in type of at most 64 bits, or `None` if it does not fit. The sum of the first numbers need
 /// not fit. `sum_of(&[100i8, 100, -100])` is `Some(100)`, `sum_of(&[100i8, 100])` is `None`, and `sum_of::<i64>(&[])` is `Some(0)`.
+#[tactic(auto, using(crate::proofs::SignedSums::total_more))]
 pub fn sum_of<T: NativeInteger<Magnitude = u64>>(numbers: &[T]) -> Option<T>
     requires in_range { All (λ x. T.fits (T.value x)) numbers.now }
     ensures { AnswersWhere
@@ -141,6 +142,7 @@ pub fn sum_of<T: NativeInteger<Magnitude = u64>>(numbers: &[T]) -> Option<T>
 /// Returns the sum of the products of the pairs, numbers of a built-in type of at most 64 bits, or `None` if it does not fit. The products
 /// and the sum of the first of them need not fit. `dot_product(&[(2, 1999), (1, 501)])` is `Some(4499)`, and
 /// `dot_product(&[(100i8, 100), (-100, 99)])` is `Some(100)`.
+#[tactic(auto, using(crate::proofs::SignedSums::total_more))]
 pub fn dot_product<T: NativeInteger<Magnitude = u64>>(pairs: &[(T, T)]) -> Option<T>
     requires in_range { All (λ p. T.fits (T.value p.0) × T.fits (T.value p.1)) pairs.now }
     ensures { AnswersWhere

@@ -8,8 +8,7 @@ quotient-signed_quotient-requires-clause-quotient_fits g c =
     operator_fits c.requires.nonzero c.requires.divides g.met.T.Integer.range_law c.requires.in_range.0 c.requires.in_range.1 c.requires.not_minus_one
 
 pub negated-requires-clause-negation_fits : goal.negated-requires-clause-negation_fits
-negated-requires-clause-negation_fits g c =
-    rw c.quotient-signed_quotient.ensures.value
+negated-requires-clause-negation_fits g c = rw c.quotient-signed_quotient.ensures.value
     (part_by_negative_fits c.requires.nonzero c.requires.divides g.met.T.Integer.range_law c.requires.in_range.0 (c.is_negative.ensures.0 c.if-is_negative.true))
 
 pub returns-then-is_negative-clause-product : goal.returns-then-is_negative-clause-product

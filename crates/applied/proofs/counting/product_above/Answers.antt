@@ -9,12 +9,10 @@ successor-factor-requires-clause-sum_fits g c =
     next_factor_fits c.loop-high.invariant c.requires.from_zero (c.is_below.ensures.0 c.loop-high-test.true) g.met.T.Integer.range_law c.requires.in_range.1
 
 pub product_or-ways-requires-clause-product_fits : goal.product_or-ways-requires-clause-product_fits
-product_or-ways-requires-clause-product_fits g c =
-    rw c.successor-factor.ensures.value
+product_or-ways-requires-clause-product_fits g c = rw c.successor-factor.ensures.value
     (next_product_fits c.loop-high.invariant c.requires.from_zero (c.is_below.ensures.0 c.loop-high-test.true) g.met.T.Integer.range_law c.requires.product_fits)
 
 pub loop-high-preserved : goal.loop-high-preserved
 loop-high-preserved g c =
-    let next = c.successor-factor.ensures in
-    let times = c.product_or-ways.ensures in
-    rw (times.value, next.value) (product_next c.loop-high.invariant c.requires.from_zero (c.is_below.ensures.0 c.loop-high-test.true) (rw next.value at next.in_range) (rw (times.value, next.value) at times.in_range))
+    product_next c.loop-high.invariant c.requires.from_zero (c.is_below.ensures.0 c.loop-high-test.true) c.successor-factor.ensures.value c.product_or-ways.ensures.value
+    c.successor-factor.ensures.in_range c.product_or-ways.ensures.in_range

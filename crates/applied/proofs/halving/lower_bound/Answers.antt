@@ -1,5 +1,4 @@
-use Rattle.std.specs.Prelude.{◌≤◌, ◌<◌, ◌≤ℤ◌}
-use Rattle.applied.proofs.Common.{ℕ, ℤ, List, length, slice_index_or, IsSortedByKey, int_cmp_is, int_cmp, Less, arith, ap, refl, int_cmp_total, by_lt_z, ints, get_or_read_under, ranks_by, sorted_far, linear}
+use Rattle.applied.proofs.Common.{◌≤◌, ◌<◌, ◌≤ℤ◌, ℕ, ℤ, List, length, slice_index_or, IsSortedByKey, int_cmp_is, int_cmp, Less, arith, ap, refl, int_cmp_total, by_lt_z, ints, get_or_read_under, ranks_by, sorted_far, linear}
 use Rattle.applied.proofs.halving.lower_bound.Goals as goal
 
 -- in a sorted list no item is above a later one
@@ -8,25 +7,22 @@ ascending : {X : Type 0} (value : X → ℤ) (xs : List X) → IsSortedByKey val
 ascending value xs up i j d le lt =
     let never = sorted_far _ (ranks_by int_cmp_total value) xs up i j d le lt in
     by_lt_z (value (slice_index_or xs j d)) (value (slice_index_or xs i d))
-    (λ less. let is = int_cmp_is _ _ Less less in absurd cc)
-    (λ fine. fine)
+    (λ less. let is = int_cmp_is _ _ Less less in absurd cc) (λ fine. fine)
 
 pub loop-low-preserved-then-is_below : goal.loop-low-preserved-then-is_below
 loop-low-preserved-then-is_below g c =
-    let middle = c.index-items-middle.is in
     let under : c.midpoint-middle.result < length c.args.items.now = omega (arith, ints) in
     record {
       ordered = omega (arith, ints);
       within = c.loop-low.invariant.within;
       below = λ k d from upto.
-          let same = ap g.T.Number.value (get_or_read_under _ _ _ _ d middle under refl) in
+          let same = ap g.T.Number.value (get_or_read_under _ _ _ _ d c.index-items-middle.is under refl) in
           omega (arith, linear, ascending g.T.Number.value _ c.requires.sorted k c.midpoint-middle.result d (omega arith) under, c.if-is_below.ensures.0 refl);
       from = c.loop-low.invariant.from;
     }
 
 pub loop-low-preserved : goal.loop-low-preserved
 loop-low-preserved g c =
-    let middle = c.index-items-middle.is in
     let under : c.midpoint-middle.result < length c.args.items.now = omega (arith, ints) in
     let bound = by_lt_z (g.T.Number.value c.index-items-middle.result) (g.T.Number.value c.args.least) (λ less. let none = c.if-is_below.ensures.1 less in absurd cc) (λ fine. fine) in
     record {
@@ -34,6 +30,6 @@ loop-low-preserved g c =
       within = omega (arith, ints);
       below = c.loop-low.invariant.below;
       from = λ k d from upto.
-          let same = ap g.T.Number.value (get_or_read_under _ _ _ _ d middle under refl) in
+          let same = ap g.T.Number.value (get_or_read_under _ _ _ _ d c.index-items-middle.is under refl) in
           omega (arith, linear, ascending g.T.Number.value _ c.requires.sorted c.midpoint-middle.result k d from upto);
     }

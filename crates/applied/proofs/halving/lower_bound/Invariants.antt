@@ -1,5 +1,4 @@
-use Rattle.std.specs.Prelude.{◌-◌, ◌≤◌, ◌≤ℤ◌, ◌<ℤ◌}
-use Rattle.applied.proofs.Common.{length, AllWithin}
+use Rattle.applied.proofs.Common.{◌-◌, ◌≤◌, ◌≤ℤ◌, ◌<ℤ◌, length, AllWithin}
 use Rattle.applied.proofs.halving.lower_bound.Given as goal
 
 -- the items before low are below the number, those from high on are not

@@ -1,5 +1,5 @@
-use Rattle.applied.proofs.Common.{positive_quotient_fits}
-use Rattle.applied.proofs.ItemRanges.{only_part_range, part_fits, part_range, parts_positive}
+use Rattle.applied.proofs.Common.{arith, linear, fits_below, positive_quotient_fits}
+use Rattle.applied.proofs.ItemRanges.{only_part_range, part_range, parts_positive, start_fits}
 use Rattle.applied.proofs.paging.range_of_part.Goals as goal
 
 pub div_mod_floor-size-requires-clause-quotient_fits : goal.div_mod_floor-size-requires-clause-quotient_fits
@@ -9,28 +9,26 @@ div_mod_floor-size-requires-clause-quotient_fits g c = λ q h.
 
 pub start_of-first-requires : goal.start_of-first-requires
 start_of-first-requires g c =
-    let part = part_fits g.met.T.Integer.range_law c.requires.in_range.1 c.requires.in_range.2 c.requires.from_zero
-    c.div_mod_floor-size.ensures.floored c.requires.part_from_zero c.requires.part_below in
+    let up = parts_positive c.requires.part_from_zero c.requires.part_below in
+    let first = start_fits g.met.T.Integer.range_law c.requires.in_range.2 up c.requires.from_zero c.div_mod_floor-size.ensures.floored c.requires.part_from_zero
+    (omega (arith, linear, c.requires.part_below)) in
     let sizes = c.div_mod_floor-size.ensures.in_range in
-    record { in_range = (c.requires.in_range.0, sizes.0, sizes.1); product_fits = part.first.0; start_fits = part.first.1 }
+    record { in_range = (c.requires.in_range.0, sizes.0, sizes.1); product_fits = first.0; start_fits = first.1 }
 
 pub successor-requires-clause-sum_fits : goal.successor-requires-clause-sum_fits
 successor-requires-clause-sum_fits g c =
-    let part = part_fits g.met.T.Integer.range_law c.requires.in_range.1 c.requires.in_range.2 c.requires.from_zero
-    c.div_mod_floor-size.ensures.floored c.requires.part_from_zero c.requires.part_below in
-    part.next_part
+    fits_below g.met.T.Integer.range_law c.requires.in_range.1 (omega (arith, linear, c.requires.part_from_zero)) (omega (arith, linear, c.requires.part_below))
 
 pub start_of-requires : goal.start_of-requires
 start_of-requires g c =
-    let part = part_fits g.met.T.Integer.range_law c.requires.in_range.1 c.requires.in_range.2 c.requires.from_zero
-    c.div_mod_floor-size.ensures.floored c.requires.part_from_zero c.requires.part_below in
+    let up = parts_positive c.requires.part_from_zero c.requires.part_below in
+    let next = start_fits {part = g.T.Number.value c.successor.result} g.met.T.Integer.range_law c.requires.in_range.2 up c.requires.from_zero c.div_mod_floor-size.ensures.floored
+    (omega (arith, linear, c.successor.ensures.value, c.requires.part_from_zero)) (omega (arith, linear, c.successor.ensures.value, c.requires.part_below)) in
     let sizes = c.div_mod_floor-size.ensures.in_range in
-    let next = c.successor.ensures in
-    record { in_range = (next.in_range, sizes.0, sizes.1); product_fits = rw next.value part.next.0; start_fits = rw next.value part.next.1 }
+    record { in_range = (c.successor.ensures.in_range, sizes.0, sizes.1); product_fits = next.0; start_fits = next.1 }
 
 pub returns-clause-range : goal.returns-clause-range
-returns-clause-range g c =
-    rw (c.start_of-first.ensures.start, c.start_of.ensures.start, c.successor.ensures.value)
+returns-clause-range g c = rw (c.start_of-first.ensures.start, c.start_of.ensures.start, c.successor.ensures.value)
     (part_range c.requires.from_zero c.div_mod_floor-size.ensures.floored c.requires.part_from_zero c.requires.part_below)
 
 pub returns-clause-only : goal.returns-clause-only

@@ -1,6 +1,5 @@
 -- The loop tries the degrees up to 63. Below 2^64, a power of a higher degree is a square too.
-use Rattle.std.specs.Prelude.{◌≡◌}
-use Rattle.applied.proofs.Common.{arith, inl, inr, cases_lt, false≢true}
+use Rattle.applied.proofs.Common.{◌≡◌, arith, inl, inr, cases_lt, false≢true}
 use Rattle.applied.proofs.PowersAndRoots.{high_power_is_square}
 use Rattle.applied.proofs.powers.is_perfect_power.Goals as goal
 

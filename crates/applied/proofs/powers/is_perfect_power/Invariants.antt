@@ -1,5 +1,4 @@
-use Rattle.std.specs.Prelude.{◌≢◌, ◌≤◌, ◌<◌}
-use Rattle.applied.proofs.Common.{ℕ, ℤ, pos, int_pow}
+use Rattle.applied.proofs.Common.{◌≢◌, ◌≤◌, ◌<◌, ℕ, ℤ, pos, int_pow}
 use Rattle.applied.proofs.powers.is_perfect_power.Given as goal
 
 -- the number is no power of a degree that was tried

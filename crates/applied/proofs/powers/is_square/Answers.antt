@@ -9,8 +9,7 @@ product-requires-clause-product_fits g c =
     within_fits g.met.T.Integer.range_law c.requires.in_range (inl (square.0, square.1))
 
 pub returns : goal.returns
-returns g c =
-    let square = c.product.ensures.value in (
-      λ h. (g.T.Number.value c.sqrt-root.result, sym square ∙ c.is_equal.ensures.0 h),
-      λ x. c.is_equal.ensures.1 (square ∙ square_root_of_square x.0 x.1 c.sqrt-root.ensures.root),
-    )
+returns g c = (
+  λ h. (g.T.Number.value c.sqrt-root.result, sym c.product.ensures.value ∙ c.is_equal.ensures.0 h),
+  λ x. c.is_equal.ensures.1 (c.product.ensures.value ∙ square_root_of_square x.0 x.1 c.sqrt-root.ensures.root),
+)

@@ -1,5 +1,4 @@
-use Rattle.std.specs.Prelude.{◌≡◌, ◌+◌, ◌-◌}
-use Rattle.applied.proofs.Common.{arith, ints, coefficient}
+use Rattle.applied.proofs.Common.{◌≡◌, ◌+◌, ◌-◌, arith, ints, coefficient}
 use Rattle.applied.proofs.Choices.{all_written, none_written, one_more_written, choice_of_rank_is_only}
 use Rattle.applied.proofs.ranking.choice_of_rank.Goals as goal
 

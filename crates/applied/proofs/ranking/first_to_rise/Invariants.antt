@@ -1,5 +1,4 @@
-use Rattle.std.specs.Prelude.{◌≡◌, ◌+◌, ◌<◌}
-use Rattle.applied.proofs.Common.{ℕ, slice_index, slice_index_or}
+use Rattle.applied.proofs.Common.{◌≡◌, ◌+◌, ◌<◌, ℕ, slice_index, slice_index_or}
 use Rattle.applied.proofs.ranking.first_to_rise.Given as goal
 
 -- no number before the place can rise

@@ -1,5 +1,4 @@
-use Rattle.std.specs.Prelude.{◌<◌, ◌≤◌, ◌-◌}
-use Rattle.applied.proofs.Common.{coefficient}
+use Rattle.applied.proofs.Common.{◌<◌, ◌≤◌, ◌-◌, coefficient}
 use Rattle.applied.proofs.ranking.greatest_within.Given as goal
 
 abbrev pub invariant-loop-low : goal.invariant-loop-low

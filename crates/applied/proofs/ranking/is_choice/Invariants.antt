@@ -1,5 +1,4 @@
-use Rattle.std.specs.Prelude.{◌+◌, ◌<◌}
-use Rattle.applied.proofs.Common.{ℕ, slice_index, slice_index_or}
+use Rattle.applied.proofs.Common.{◌+◌, ◌<◌, ℕ, slice_index, slice_index_or}
 use Rattle.applied.proofs.ranking.is_choice.Given as goal
 
 -- each number before the place is below the one after it

@@ -1,5 +1,4 @@
-use Rattle.std.specs.Prelude.{◌≡◌, ◌<◌, ◌≤◌}
-use Rattle.applied.proofs.Common.{ℕ, slice_index}
+use Rattle.applied.proofs.Common.{◌≡◌, ◌<◌, ◌≤◌, ℕ, slice_index}
 use Rattle.applied.proofs.ranking.number_from_zero.Given as goal
 
 abbrev pub invariant-loop-i : goal.invariant-loop-i

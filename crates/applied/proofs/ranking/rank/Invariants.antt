@@ -1,4 +1,4 @@
-use Rattle.std.specs.Prelude.{◌≡◌}
+use Rattle.applied.proofs.Common.{◌≡◌}
 use Rattle.applied.proofs.Choices.{rank_of_first}
 use Rattle.applied.proofs.ranking.rank.Given as goal
 

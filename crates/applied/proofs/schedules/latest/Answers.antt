@@ -6,10 +6,9 @@ pub loop-schedule-preserved : goal.loop-schedule-preserved
 loop-schedule-preserved g c =
     let so_far = c.loop-schedule.invariant in
     let more = c.maximum-latest.ensures.maximum in
-    let within = c.loop-schedule-test.true in
     record {
       in_range = c.maximum-latest.ensures.in_range;
       from_there = omega (arith, linear, so_far.from_there, more.from_there);
-      begun = begun_more g.T.Number.value c.args.schedules.now c.loop-schedule.schedule-index c.schedule-item.result within c.schedule-item.is more.from_there more.holds so_far.begun;
-      least = λ u above begun. more.least u (so_far.least u above begun) (rw (← c.schedule-item.is) at (begun c.loop-schedule.schedule-index c.schedule-item.result within));
+      begun = begun_more g.T.Number.value c.args.schedules.now c.loop-schedule.schedule-index c.schedule-item.result c.loop-schedule-test.true c.schedule-item.is more.from_there more.holds so_far.begun;
+      least = λ u above begun. more.least u (so_far.least u above begun) (rw (← c.schedule-item.is) at (begun c.loop-schedule.schedule-index c.schedule-item.result c.loop-schedule-test.true));
     }

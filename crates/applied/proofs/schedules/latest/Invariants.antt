@@ -1,5 +1,4 @@
-use Rattle.std.specs.Prelude.{◌<◌, ◌≤ℤ◌}
-use Rattle.applied.proofs.Common.{ℕ, ℤ, slice_index_or, HaveBegun}
+use Rattle.applied.proofs.Common.{◌<◌, ◌≤ℤ◌, ℕ, ℤ, slice_index_or, HaveBegun}
 use Rattle.applied.proofs.schedules.latest.Given as goal
 
 -- the least time from now on that is not before the first times so far

@@ -1,9 +1,6 @@
-use Rattle.applied.proofs.Common.{arith, ℕ, get_or-le-sum_by}
+use Rattle.applied.proofs.Common.{arith}
 use Rattle.applied.proofs.WeightedShares.{all_shared, one_more_shared, shares_are_near, shares_are_only, shares_are_whole}
 use Rattle.applied.proofs.shares.shares.Goals as goal
-
-pub next_share-share-requires-clause-within : goal.next_share-share-requires-clause-within
-next_share-share-requires-clause-within c = rw c.in_ok-total.ensures.total.1 (get_or-le-sum_by (λ (x : ℕ). x) c.args.weights.now c.loop-i.i 0 c.loop-i-test.true)
 
 pub loop-i-preserved : goal.loop-i-preserved
 loop-i-preserved c = one_more_shared c.next_share-share.result.0 c.loop-i-test.true c.next_share-share.ensures.share c.next_share-share.ensures.below c.loop-i.invariant

@@ -1,9 +1,6 @@
-use Rattle.applied.proofs.Common.{FitsSigned, w64, arith, rules, ℕ, ints, to_z-of_z, get_or-le-sum_by}
+use Rattle.applied.proofs.Common.{FitsSigned, w64, arith, rules, ints, to_z-of_z}
 use Rattle.applied.proofs.WeightedShares.{one_more_signed, signed_shares_are_only, signed_shares_are_whole}
 use Rattle.applied.proofs.shares.signed_shares.Goals as goal
-
-pub next_share-share-requires-clause-within : goal.next_share-share-requires-clause-within
-next_share-share-requires-clause-within c = rw c.in_ok-total.ensures.total.1 (get_or-le-sum_by (λ (x : ℕ). x) c.args.weights.now c.loop-i.i 0 c.loop-i-test.true)
 
 pub loop-i-preserved : goal.loop-i-preserved
 loop-i-preserved c =
@@ -11,10 +8,7 @@ loop-i-preserved c =
     let written = to_z-of_z w64 c.with_sign_of.result share in
     one_more_signed _ c.loop-i-test.true
     (rw (written, c.with_sign_of.ensures.magnitude, ← c.unsigned_abs.ensures.value) c.next_share-share.ensures.share)
-    c.next_share-share.ensures.below
-    (λ sign. omega (arith, ints))
-    (λ sign. omega (arith, ints))
-    c.loop-i.invariant
+    c.next_share-share.ensures.below (λ sign. omega (arith, ints)) (λ sign. omega (arith, ints)) c.loop-i.invariant
 
 pub returns-clause-shares : goal.returns-clause-shares
 returns-clause-shares c = grind arith

@@ -6,8 +6,7 @@ successor-factor-requires-clause-sum_fits g c =
     next_factor_fits c.loop-high.invariant c.requires.from_zero (c.is_below.ensures.0 c.loop-high-test.true) g.met.T.Integer.range_law c.requires.in_range.1
 
 pub returns-in_err-ways : goal.returns-in_err-ways
-returns-in_err-ways g c =
-    rw c.from_residual.ensures (λ fits.
+returns-in_err-ways g c = rw c.from_residual.ensures (λ fits.
     c.in_err-ways.ensures (rw c.successor-factor.ensures.value (next_product_fits c.loop-high.invariant c.requires.from_zero (c.is_below.ensures.0 c.loop-high-test.true) g.met.T.Integer.range_law fits)))
 
 pub loop-high-init : goal.loop-high-init
@@ -15,6 +14,5 @@ loop-high-init g c = product_first c.requires.in_range.0 c.one-ways.ensures.in_r
 
 pub loop-high-preserved : goal.loop-high-preserved
 loop-high-preserved g c =
-    let next = c.successor-factor.ensures in
-    let times = c.in_ok-ways.ensures.1 in
-    rw (times.1, next.value) (product_next c.loop-high.invariant c.requires.from_zero (c.is_below.ensures.0 c.loop-high-test.true) (rw next.value at next.in_range) (rw (times.1, next.value) at times.0))
+    product_next c.loop-high.invariant c.requires.from_zero (c.is_below.ensures.0 c.loop-high-test.true) c.successor-factor.ensures.value c.in_ok-ways.ensures.1.1
+    c.successor-factor.ensures.in_range c.in_ok-ways.ensures.1.0

@@ -1,8 +1,5 @@
-use Rattle.applied.proofs.SignedSums.{total_more, total_of_all, wide_out_of_range}
+use Rattle.applied.proofs.SignedSums.{total_of_all, wide_out_of_range}
 use Rattle.applied.proofs.lists.checked.dot_product.Goals as goal
-
-pub loop-a-preserved : goal.loop-a-preserved
-loop-a-preserved g c = total_more c.loop-a.invariant c.loop-a-test.true c.loop-a-item.is c.parts_of_product.ensures c.plus-total.ensures.value c.plus-total.ensures.over c.plus-total.ensures.under
 
 pub returns-in_err-parts : goal.returns-in_err-parts
 returns-in_err-parts g c = rw c.from_residual.ensures (wide_out_of_range g.met.T.Integer.range_law (rw (total_of_all c.loop-a.invariant c.loop-a-test.false) at c.in_err-parts.ensures))

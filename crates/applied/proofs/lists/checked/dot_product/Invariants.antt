@@ -1,4 +1,4 @@
-use Rattle.std.specs.Prelude.{◌*ℤ◌}
+use Rattle.applied.proofs.Common.{◌*ℤ◌}
 use Rattle.applied.proofs.SignedSums.{IsTotalOf}
 use Rattle.applied.proofs.lists.checked.dot_product.Given as goal
 

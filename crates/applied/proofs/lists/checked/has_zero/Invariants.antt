@@ -1,5 +1,4 @@
-use Rattle.std.specs.Prelude.{◌≢◌}
-use Rattle.applied.proofs.Common.{pos, AllWithin}
+use Rattle.applied.proofs.Common.{◌≢◌, pos, AllWithin}
 use Rattle.applied.proofs.lists.checked.has_zero.Given as goal
 
 -- none of the numbers so far is 0

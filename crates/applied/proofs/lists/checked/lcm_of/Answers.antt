@@ -10,8 +10,7 @@ returns-then-has_zero g c =
     lcm_of_result g.T.Number.fits c.zero.ensures.in_range (rw c.zero.ensures.value (lcm_of_with_zero g.T.Number.value c.args.numbers.now found.0 found.1 found.2))
 
 pub returns-in_err-multiple : goal.returns-in_err-multiple
-returns-in_err-multiple g c =
-    rw c.from_residual.ensures
+returns-in_err-multiple g c = rw c.from_residual.ensures
     (lcm_of_out_of_range g.T.Number.value c.args.numbers.now c.loop-number.number-index g.met.T.Integer.range_law (c.if-has_zero.ensures.none refl)
     c.loop-number.invariant.so_far c.loop-number-test.true c.number-item.is c.in_err-multiple.ensures)
 
@@ -22,6 +21,5 @@ loop-number-preserved g c = record {
 }
 
 pub returns : goal.returns
-returns g c =
-    lcm_of_result g.T.Number.fits c.loop-number.invariant.in_range
+returns g c = lcm_of_result g.T.Number.fits c.loop-number.invariant.in_range
     (rw (take_all c.loop-number.number-index c.args.numbers.now c.loop-number-test.false) at c.loop-number.invariant.so_far)

@@ -1,5 +1,5 @@
 -- The loop keeps a number whose magnitude is the greatest common divisor of the numbers so far.
-use Rattle.std.specs.Prelude.{◌+◌}
+use Rattle.applied.proofs.Common.{◌+◌}
 use Rattle.applied.proofs.ListDivisors.{gcd_of_next, gcd_of_one}
 use Rattle.applied.proofs.lists.checked.signed_gcd_of.Goals as goal
 

@@ -1,5 +1,4 @@
-use Rattle.std.specs.Prelude.{◌≡◌, ◌≤◌, take}
-use Rattle.applied.specs.Shares.{count_from}
+use Rattle.applied.proofs.Common.{◌≡◌, ◌≤◌, take, count_from}
 use Rattle.applied.proofs.shares.remainders.reaching.Given as goal
 
 abbrev pub invariant-loop-weight : goal.invariant-loop-weight

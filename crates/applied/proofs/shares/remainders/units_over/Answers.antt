@@ -1,14 +1,9 @@
-use Rattle.std.proofs.Common.{arith}
-use Rattle.std.proofs.lemmas.List.{take_all}
-use Rattle.std.proofs.lemmas.List.Sums.{sum_by-take-le, sum_by_more}
-use Rattle.applied.specs.Shares.{rounded_down}
+use Rattle.applied.proofs.Common.{arith, take_all, sum_by-take-le, sum_by_more, rounded_down}
 use Rattle.applied.proofs.LargestRemainders.{down_within, units_within}
 use Rattle.applied.proofs.shares.remainders.units_over.Goals as goal
 
 pub overflow_sub-over : goal.overflow_sub-over
-overflow_sub-over c =
-    let more = sum_by_more (rounded_down c.args.amount c.args.total) c.args.weights.now c.loop-weight.weight-index 0 c.loop-weight-test.true in
-    grind (arith, sum_by-take-le, down_within)
+overflow_sub-over c = grind (arith, sum_by-take-le, down_within, sum_by_more (rounded_down c.args.amount c.args.total) _ _ 0 c.loop-weight-test.true)
 
 pub loop-weight-preserved : goal.loop-weight-preserved
 loop-weight-preserved c =

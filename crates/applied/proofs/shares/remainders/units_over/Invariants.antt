@@ -1,5 +1,4 @@
-use Rattle.std.specs.Prelude.{◌≡◌, ◌+◌, sum_by, take}
-use Rattle.applied.specs.Shares.{rounded_down}
+use Rattle.applied.proofs.Common.{◌≡◌, ◌+◌, sum_by, take, rounded_down}
 use Rattle.applied.proofs.shares.remainders.units_over.Given as goal
 
 abbrev pub invariant-loop-weight : goal.invariant-loop-weight
