@@ -115,10 +115,10 @@ pub parts_positive : {part parts : ℤ} → pos 0 ≤ℤ part → part <ℤ part
 parts_positive part_up within = omega (arith, linear)
 
 -- so where a part begins fits, and so does the product that leads to it
-pub start_fits : {fits : ℤ → Type 0} {low high parts items size longer part : ℤ} → IsRange fits low high → fits items → pos 0 <ℤ parts → pos 0 ≤ℤ items
-    → IsFloored items parts size longer → pos 0 ≤ℤ part → part ≤ℤ parts → fits (part *ℤ size) × fits (cut_at size longer part)
-start_fits range items_fit up from_zero division part_up within =
-    let start = cut_within up from_zero division part_up within in
+pub start_fits : {fits : ℤ → Type 0} {low high parts items size longer part at : ℤ} → IsRange fits low high → fits items → pos 0 ≤ℤ items
+    → IsFloored items parts size longer → pos 0 ≤ℤ part → part <ℤ parts → pos 0 ≤ℤ at → at ≤ℤ parts → fits (at *ℤ size) × fits (cut_at size longer at)
+start_fits range items_fit from_zero division part_up below at_up within =
+    let start = cut_within (parts_positive part_up below) from_zero division at_up within in
     (fits_below range items_fit start.0 (omega (arith, linear, start.1, start.2)), fits_below range items_fit (omega (arith, linear, start.0, start.1)) start.2)
 
 pub part_range : {parts items size longer part : ℤ} → pos 0 ≤ℤ items → IsFloored items parts size longer → pos 0 ≤ℤ part → part <ℤ parts

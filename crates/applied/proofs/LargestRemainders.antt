@@ -108,11 +108,11 @@ module _ {F R : ℕ → ℕ} {bar extra i left : ℕ} {weights shares : List ℕ
             let written = ap sum (take_more_set shares i share room) ∙ sum_by_push (λ (x : ℕ). x) (take i shares) share in
             rw (written, sum_by_more F weights i 0 within) (omega (arith, h.whole, own.1));
         enough = own.2;
-        rounded = λ k upto. grind (arith, cases_lt k i, before k, here, h.rounded k, own.3) steps 300000;
-        raised = λ k upto. grind (arith, cases_lt k i, before k, here, h.raised k, own.4) steps 300000;
-        kept = λ k upto. grind (arith, cases_lt k i, before k, here, h.kept k, own.0, own.5) steps 300000;
+        rounded = λ k upto. grind (arith, cases_lt k i, before k, here, h.rounded k, own.3);
+        raised = λ k upto. grind (arith, cases_lt k i, before k, here, h.raised k, own.4);
+        kept = λ k upto. grind (arith, cases_lt k i, before k, here, h.kept k, own.0, own.5);
         order = λ j k j_upto k_upto up down.
-            grind (arith, cases_lt j i, cases_lt k i, before j, before k, here, h.order j k, h.raised j, h.kept k, own.4, own.5) steps 300000;
+            grind (arith, cases_lt j i, cases_lt k i, before j, before k, here, h.order j k, h.raised j, h.kept k, own.4, own.5);
       }
 
 -- ---- all shares

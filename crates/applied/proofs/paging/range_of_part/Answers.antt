@@ -9,9 +9,8 @@ div_mod_floor-size-requires-clause-quotient_fits g c = λ q h.
 
 pub start_of-first-requires : goal.start_of-first-requires
 start_of-first-requires g c =
-    let up = parts_positive c.requires.part_from_zero c.requires.part_below in
-    let first = start_fits g.met.T.Integer.range_law c.requires.in_range.2 up c.requires.from_zero c.div_mod_floor-size.ensures.floored c.requires.part_from_zero
-    (omega (arith, linear, c.requires.part_below)) in
+    let first = start_fits g.met.T.Integer.range_law c.requires.in_range.2 c.requires.from_zero c.div_mod_floor-size.ensures.floored
+    c.requires.part_from_zero c.requires.part_below c.requires.part_from_zero (omega (arith, linear, c.requires.part_below)) in
     let sizes = c.div_mod_floor-size.ensures.in_range in
     record { in_range = (c.requires.in_range.0, sizes.0, sizes.1); product_fits = first.0; start_fits = first.1 }
 
@@ -21,8 +20,8 @@ successor-requires-clause-sum_fits g c =
 
 pub start_of-requires : goal.start_of-requires
 start_of-requires g c =
-    let up = parts_positive c.requires.part_from_zero c.requires.part_below in
-    let next = start_fits {part = g.T.Number.value c.successor.result} g.met.T.Integer.range_law c.requires.in_range.2 up c.requires.from_zero c.div_mod_floor-size.ensures.floored
+    let next = start_fits {at = g.T.Number.value c.successor.result} g.met.T.Integer.range_law c.requires.in_range.2 c.requires.from_zero
+    c.div_mod_floor-size.ensures.floored c.requires.part_from_zero c.requires.part_below
     (omega (arith, linear, c.successor.ensures.value, c.requires.part_from_zero)) (omega (arith, linear, c.successor.ensures.value, c.requires.part_below)) in
     let sizes = c.div_mod_floor-size.ensures.in_range in
     record { in_range = (c.successor.ensures.in_range, sizes.0, sizes.1); product_fits = next.0; start_fits = next.1 }
