@@ -38,7 +38,7 @@ rank_of_first_below xs (suc i) m up within last =
 
 pub rank_is_below : RankIsBelow
 rank_is_below = λ n xs h.
-    omega (arith, rank_of_first_below xs (length xs) n h.increasing (omega arith) (λ j e. h.below j 0 (omega arith)), rank_of_all xs (length xs) refl)
+    omega (arith, rank_of_first_below xs (length xs) n h.increasing (omega arith) (λ j e. h.below j 0 (omega arith)), rank_of_all)
 
 -- each sum on the way is at most the rank
 pub next_rank_at_most : (xs : List ℕ) (i : ℕ) → i < length xs → rank_of_first i xs + coefficient (slice_index xs i) (i + 1) ≤ rank_of xs
@@ -77,7 +77,10 @@ none_written {n} below = record {
   below = below;
   completes = λ xs same h. record {
     size = same.size;
-    choice = record { increasing = λ j k. h.increasing j (omega (arith, same.size)); below = All-from_get_or (λ (c : ℕ). c < n) xs 0 (λ j k. h.below j (omega (arith, same.size))) };
+    choice = record {
+      increasing = λ j k. h.increasing j (omega arith);
+      below = All-from_get_or (λ (c : ℕ). c < n) xs 0 (λ j k. h.below j (omega arith));
+    };
     rank = sym (rank_of_all xs _ (sym same.size)) ∙ h.rank;
   };
 }
@@ -132,12 +135,13 @@ before_first (suc i) xs ys up in_xs in_ys h = elim (cases_lt h.place i) [
   | inr last ↦
       -- whatever the numbers before it, a lesser number makes the rank less
       let e : h.place ≡ i = omega (arith, h.within) in
-      let most = rank_of_first_below xs (suc i) (slice_index ys i) up (omega arith) (λ j same. let here : j ≡ i = omega arith in rw here (rw e at h.lesser)) in
+      let most = rank_of_first_below xs (suc i) (slice_index ys i) up (omega arith)
+      (λ j same. let here : j ≡ i = omega arith in rw here (rw e at h.lesser)) in
       omega (arith, most, rank_of_more ys i (omega arith))
 ]
 
 before_less : {xs ys : List ℕ} {k : ℕ} → IsStrictlyIncreasing xs → length xs ≡ k → length ys ≡ k → IsBefore k xs ys → rank_of xs < rank_of ys
-before_less {xs} {ys} {k} up xs_size ys_size h = omega (arith, before_first k xs ys up (omega arith) (omega arith) h, rank_of_all xs k (sym xs_size), rank_of_all ys k (sym ys_size))
+before_less {xs} {ys} {k} up xs_size ys_size h = omega (arith, before_first k xs ys up (omega arith) (omega arith) h, rank_of_all)
 
 -- a choice is before another exactly if its rank is less
 pub before_exactly : {n : ℕ} {xs ys : List ℕ} → IsChoice n xs → IsChoice n ys → length xs ≡ length ys → IsBefore (length ys) xs ys ↔ (rank_of xs < rank_of ys)
@@ -184,7 +188,8 @@ rank_of_run n xs (suc i) within run =
     rw (← next) (omega (arith, before, rank_of_more xs i (omega arith), pascal (slice_index xs i) i))
 
 pub last_rank : (n : ℕ) (xs : List ℕ) → IsLastChoice n xs → rank_of xs + 1 ≡ coefficient n (length xs)
-last_rank n xs run = rw (rank_of_all xs (length xs) refl, get_or_past xs (length xs) n (omega arith)) at (rank_of_run n xs (length xs) (omega arith) run)
+last_rank n xs run =
+    rw (rank_of_all xs (length xs) refl, get_or_past xs (length xs) n (omega arith)) at (rank_of_run n xs (length xs) (omega arith) run)
 
 -- ---- one number raised
 
@@ -232,5 +237,5 @@ next_choice_is {n} {i} {xs} {ys} choice first h = record {
     increasing = grind (arith, from_place, get_or_default);
     below = All-from_get_or (λ (c : ℕ). c < n) ys 0 (λ j within. grind (arith, from_place, get_or_default, get_or_past));
   };
-  rank = omega (arith, raised_rank first h (length xs) first.within (omega arith), rank_of_all xs (length xs) refl, rank_of_all ys (length xs) (sym h.size));
+  rank = omega (arith, raised_rank first h (length xs) first.within (omega arith), rank_of_all, h.size);
 }

@@ -90,9 +90,11 @@ module _ {fits : ℤ → Type 0} {low high : ℤ} where
         let rest = unsigned_abs (high -ℤ (factor +ℤ pos 1)) in
         let top : unsigned_abs high ≡ unsigned_abs low + suc h.count + rest = omega (arith, sizes, h.at) in
         let all : unsigned_abs (high -ℤ low) ≡ suc h.count + rest = omega (arith, sizes, h.at) in
-        rw next_is (fits_below range (rw (top, all) at last_fits) (omega (arith, ints)) (omega (arith, ints, falling_grows (unsigned_abs low) (suc h.count) rest)))
+        rw next_is (fits_below range (rw (top, all) at last_fits) (omega (arith, ints))
+        (omega (arith, ints, falling_grows (unsigned_abs low) (suc h.count) rest)))
 
-    pub product_next : {next times : ℤ} → factor <ℤ high → next ≡ factor +ℤ pos 1 → times ≡ product *ℤ next → fits next → fits times → IsProductSoFar fits low next high times
+    pub product_next : {next times : ℤ} → factor <ℤ high → next ≡ factor +ℤ pos 1 → times ≡ product *ℤ next → fits next → fits times
+        → IsProductSoFar fits low next high times
     product_next more next_at times_at next_fits times_fits = record {
       factor_in_range = next_fits;
       product_in_range = times_fits;

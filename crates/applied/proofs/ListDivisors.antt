@@ -34,7 +34,7 @@ pub only_gcd_of : {numbers : List ℤ} {g h : ℤ} → IsGreatestCommonDivisorOf
 only_gcd_of x y = Divides-antisym x.from_zero y.from_zero (y.greatest _ x.divides_each) (x.greatest _ y.divides_each)
 
 pub gcd_of_exists : (numbers : List ℤ) → (g : ℤ) × IsGreatestCommonDivisorOf numbers g
-gcd_of_exists numbers = each_list (λ x. x ≡ x) IsGreatestCommonDivisorOf (λ first x g _ own. let both = gcd_exists g x in (both.0, gcd_of_more own both.1))
+gcd_of_exists numbers = each_list (λ x. x ≡ x) IsGreatestCommonDivisorOf (λ first x g _ own. let h = gcd_exists g x in (h.0, gcd_of_more own h.1))
     [] numbers (pos 0) gcd_of_none (λ k d within. refl)
 
 -- ---- when the gcd fits
@@ -46,7 +46,7 @@ gcd_of_fits_exactly fits = λ low high numbers range each. (
         -- in a type without -1 each list has one that fits
         let g = each_list fits (λ first g. IsGreatestCommonDivisorOf first g × fits g)
         (λ first x g x_fits own. let both = gcd_exists g x in
-        (both.0, (gcd_of_more own.0 both.1, (gcd_fits_is range own.1 x_fits).0 (λ minus_one. absurd (no_minus_one range none minus_one)) both.0 both.1)))
+        (both.0, (gcd_of_more own.0 both.1, (gcd_fits_is range own.1 x_fits).0 (λ one. absurd (no_minus_one range none one)) both.0 both.1)))
         [] numbers (pos 0) (gcd_of_none, zero_fits range) each in
         λ z is. subst fits (only_gcd_of g.1.0 is) g.1.1
     | inr signed ↦ h ((range.between (negsuc 0)).1 (omega (arith, linear, range.low_end, range.positive)))
@@ -118,7 +118,7 @@ pub only_lcm_of : {numbers : List ℤ} {l m : ℤ} → IsLeastCommonMultipleOf n
 only_lcm_of x y = Divides-antisym x.from_zero y.from_zero (x.least _ y.each_divides) (y.least _ x.each_divides)
 
 pub lcm_of_exists : (numbers : List ℤ) → (l : ℤ) × IsLeastCommonMultipleOf numbers l
-lcm_of_exists numbers = each_list (λ x. x ≡ x) IsLeastCommonMultipleOf (λ first x l _ own. let both = lcm_exists l x in (both.0, lcm_of_more own both.1))
+lcm_of_exists numbers = each_list (λ x. x ≡ x) IsLeastCommonMultipleOf (λ first x l _ own. let m = lcm_exists l x in (m.0, lcm_of_more own m.1))
     [] numbers (pos 1) lcm_of_none (λ k d within. refl)
 
 -- numbers that are not 0 have a positive one
@@ -139,9 +139,11 @@ lcm_of_zero {numbers} k within zero = record {
       rw none (Divides-zero (pos 0));
 }
 
-pub lcm_of_with_zero : {X : Type 0} (value : X → ℤ) (numbers : List X) (k : ℕ) → k < length numbers → HoldsAt (λ x. value x ≡ pos 0) numbers k → IsLeastCommonMultipleOf (map value numbers) (pos 0)
+pub lcm_of_with_zero : {X : Type 0} (value : X → ℤ) (numbers : List X) (k : ℕ) → k < length numbers → HoldsAt (λ x. value x ≡ pos 0) numbers k
+    → IsLeastCommonMultipleOf (map value numbers) (pos 0)
 lcm_of_with_zero value [] k within zero = absurd (omega arith)
-lcm_of_with_zero value (x ∷ numbers) k within zero = lcm_of_zero k (omega (arith, length-map (x ∷ numbers) value)) (λ d. get_or-map value (x ∷ numbers) k x d within ∙ zero x)
+lcm_of_with_zero value (x ∷ numbers) k within zero =
+    lcm_of_zero k (omega (arith, length-map (x ∷ numbers) value)) (λ d. get_or-map value (x ∷ numbers) k x d within ∙ zero x)
 
 -- ---- the result of `lcm_of`
 
@@ -151,7 +153,7 @@ lcm_of_result fits {numbers} l_fits own = answer_only {P = IsLeastCommonMultiple
 -- a multiple of the number is the lcm of both
 pub lcm_of_divisor_fits : (fits : ℤ → Type 0) {l x : ℤ} → fits l → pos 0 ≤ℤ l → Divides x l → EachFits fits (IsLeastCommonMultiple l x) × (fits l × IsLeastCommonMultiple l x l)
 lcm_of_divisor_fits fits {l} {x} l_fits up divides =
-    let own : IsLeastCommonMultiple l x l = record { from_zero = up; left_divides = Divides-refl l; right_divides = divides; least = λ m left _. left } in
+    let own : IsLeastCommonMultiple l x l = record { from_zero = up; left_divides = Divides-refl l; right_divides = divides; least = λ m h _. h } in
     answer_only {P = IsLeastCommonMultiple l x} own (λ y. only_lcm own) l_fits refl
 
 -- ---- the loop of `lcm_of`

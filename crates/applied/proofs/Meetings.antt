@@ -46,7 +46,7 @@ times_from {from = from} {first = first} {start = start'} period to start (t ∷
     least = λ u above h. next.least u (start.least u above h.time.from_first) record { to_there = h.to_there; congruent = h.time.congruent };
   },
   times_from {from = t +ℤ pos 1} {first = first} {start = t +ℤ pos 1} period to
-      (record { from_there = omega (arith, linear); holds = omega (arith, linear, start.holds, next.from_there); least = λ u above _. above }) items rest,
+      (record { from_there = omega (arith, linear); holds = omega (arith, linear, start.holds, next.from_there); least = λ u up _. up }) items rest,
 )
 
 count_of_times : {from first period to start n : ℤ} → IsLeastFrom from (λ z. first ≤ℤ z) start → IsCountOfCongruent start to first period n → IsCountOfTimes from to first period n

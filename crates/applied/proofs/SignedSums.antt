@@ -26,7 +26,8 @@ module _ {X : Type 0} {value : X → ℤ} {items : List X} {i low over under : �
   pub total_more : {x : X} {v : ℤ} {next_low next_over next_under : ℕ} → i < length items → x ≡ get_or items i x → v ≡ value x → wrapped next_low next_over next_under ≡ wrapped low over under +ℤ v
       → next_over ≤ over + 1 → next_under ≤ under + 1 → IsTotalOf value items (i + 1) next_low next_over next_under
   total_more {x} within at is sum over_more under_more = record {
-    so_far = rw (map_more value items i x within, ← at, signed_sum-append (map value (take i items)) (value x ∷ [])) (omega (arith, linear, total.so_far, is, sum));
+    so_far = rw (map_more value items i x within, ← at, signed_sum-append (map value (take i items)) (value x ∷ []))
+        (omega (arith, linear, total.so_far, is, sum));
     over_times = omega (arith, total.over_times);
     under_times = omega (arith, total.under_times);
   }

@@ -45,6 +45,7 @@ pub fn falling<T: Fits>(n: T, k: T) -> Option<T>
 
 /// Returns the product of the numbers above `low` up to `high`, or `None` if it does not fit. The loop stops at
 /// the first product that does not.
+#[tactic(auto, using(crate::proofs::FallingFactorials::product_first, crate::proofs::FallingFactorials::product_next))]
 fn product_above<T: Fits>(low: T, high: T) -> Option<T>
     requires in_range { T.fits (T.value low) × T.fits (T.value high) }
     requires from_zero { pos 0 ≤ℤ T.value low }

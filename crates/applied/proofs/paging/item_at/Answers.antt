@@ -20,7 +20,8 @@ returns-in_err-next_page-clause-place g c =
 pub returns-in_err-first-clause-place : goal.returns-in_err-first-clause-place
 returns-in_err-first-clause-place g c =
     let up = from_test c.is_negative-2.ensures c.if-is_negative.false in
-    rw c.from_residual-in_err-first.ensures (λ each. c.in_err-first.ensures (page_fits g.met.T.Integer.range_law c.requires.place_from_zero c.requires.place_below each up))
+    rw c.from_residual-in_err-first.ensures (λ each.
+    c.in_err-first.ensures (page_fits g.met.T.Integer.range_law c.requires.place_from_zero c.requires.place_below each up))
 
 pub returns-in_ok-next_page-clause-place : goal.returns-in_ok-next_page-clause-place
 returns-in_ok-next_page-clause-place g c =

@@ -24,13 +24,15 @@ product-first-requires-clause-product_fits g c =
 pub difference-requires-clause-difference_fits : goal.difference-requires-clause-difference_fits
 difference-requires-clause-difference_fits g c =
     let within = begins_in c.requires.positive c.div_floor.ensures.floored.division (from_test c.is_negative-2.ensures c.if-is_negative.false) (from_test c.is_below-2.ensures c.if-is_below.false) in
-    rw c.product-first.ensures.value (fits_below g.met.T.Integer.range_law c.requires.in_range.2 (omega (arith, linear, within.1)) (omega (arith, linear, within.0)))
+    rw c.product-first.ensures.value (fits_below g.met.T.Integer.range_law c.requires.in_range.2
+    (omega (arith, linear, within.1)) (omega (arith, linear, within.0)))
 
 pub sum-requires-clause-sum_fits : goal.sum-requires-clause-sum_fits
 sum-requires-clause-sum_fits g c =
     let within = begins_in c.requires.positive c.div_floor.ensures.floored.division (from_test c.is_negative-2.ensures c.if-is_negative.false) (from_test c.is_below-2.ensures c.if-is_below.false) in
     let enough = rw c.difference.ensures.value at (from_test c.is_below-3.ensures c.if-is_below-2.false) in
-    fits_below g.met.T.Integer.range_law c.requires.in_range.2 (omega (arith, linear, within.0, c.product-first.ensures.value, c.requires.positive)) (omega (arith, linear, enough))
+    fits_below g.met.T.Integer.range_law c.requires.in_range.2
+    (omega (arith, linear, within.0, c.product-first.ensures.value, c.requires.positive)) (omega (arith, linear, enough))
 
 pub returns-then-is_below-2 : goal.returns-then-is_below-2
 returns-then-is_below-2 g c =

@@ -16,13 +16,15 @@ start_of-first-requires g c =
 
 pub successor-requires-clause-sum_fits : goal.successor-requires-clause-sum_fits
 successor-requires-clause-sum_fits g c =
-    fits_below g.met.T.Integer.range_law c.requires.in_range.1 (omega (arith, linear, c.requires.part_from_zero)) (omega (arith, linear, c.requires.part_below))
+    fits_below g.met.T.Integer.range_law c.requires.in_range.1
+    (omega (arith, linear, c.requires.part_from_zero)) (omega (arith, linear, c.requires.part_below))
 
 pub start_of-requires : goal.start_of-requires
 start_of-requires g c =
     let next = start_fits {at = g.T.Number.value c.successor.result} g.met.T.Integer.range_law c.requires.in_range.2 c.requires.from_zero
     c.div_mod_floor-size.ensures.floored c.requires.part_from_zero c.requires.part_below
-    (omega (arith, linear, c.successor.ensures.value, c.requires.part_from_zero)) (omega (arith, linear, c.successor.ensures.value, c.requires.part_below)) in
+    (omega (arith, linear, c.successor.ensures.value, c.requires.part_from_zero))
+    (omega (arith, linear, c.successor.ensures.value, c.requires.part_below)) in
     let sizes = c.div_mod_floor-size.ensures.in_range in
     record { in_range = (c.successor.ensures.in_range, sizes.0, sizes.1); product_fits = next.0; start_fits = next.1 }
 

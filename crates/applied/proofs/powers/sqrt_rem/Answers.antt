@@ -11,4 +11,5 @@ product-requires-clause-product_fits g c =
 pub difference-requires-clause-difference_fits : goal.difference-requires-clause-difference_fits
 difference-requires-clause-difference_fits g c =
     let square = square_rest c.requires.from_zero c.sqrt-root.ensures.root in
-    rw c.product.ensures.value (fits_below g.met.T.Integer.range_law c.requires.in_range (omega (arith, linear, square.1)) (omega (arith, linear, square.0)))
+    rw c.product.ensures.value (fits_below g.met.T.Integer.range_law c.requires.in_range
+    (omega (arith, linear, square.1)) (omega (arith, linear, square.0)))

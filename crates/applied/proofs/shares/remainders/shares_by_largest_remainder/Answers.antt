@@ -4,7 +4,8 @@ use Rattle.applied.proofs.shares.remainders.shares_by_largest_remainder.Goals as
 
 pub loop-i-preserved : goal.loop-i-preserved
 loop-i-preserved c =
-    one_more_raised _ _ c.loop-i-test.true c.loop-i.invariant c.bar_of-bar.ensures.bar (λ some. (c.bar_of-bar.ensures.left some).0) c.rounded_share-share.ensures.rounds
+    one_more_raised _ _ c.loop-i-test.true c.loop-i.invariant c.bar_of-bar.ensures.bar (λ some. (c.bar_of-bar.ensures.left some).0)
+    c.rounded_share-share.ensures.rounds
 
 pub returns-clause-shares : goal.returns-clause-shares
 returns-clause-shares c =
