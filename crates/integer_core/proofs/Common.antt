@@ -14,5 +14,5 @@ pub use Rattle.std.proofs.lemmas.Bool.{cases_eq, cases_lt, iff_false}
 pub use Rattle.std.proofs.lemmas.Int.{by_lt_z, ints, quot-rem, rem_below, unsigned_abs-mul}
 pub use Rattle.std.proofs.lemmas.Nat.{and_le_l, and_le_r, div_below, le-div, mul-le, mul-lt, one_shl, or_lt, xor_lt, xor_mod}
 pub use Rattle.std.proofs.lemmas.Nat.Gcd.{IsGcd-from_sub, IsGcd-swap, dvd_antisymm, dvd_of_mod-eq-zero, dvd_refl, dvd_trans, le_of_dvd, mod-eq-zero_of_dvd}
-pub use Rattle.std.specs.Int.{◌∣◌, FitsUnsignedBits, IsGcd, IsPowerOfTwo, Width, int_pow, trailing_zeros, w128, w16, w32, w64, w8}
+pub use Rattle.std.specs.Int.{◌∣◌, FitsUnsignedBits, IsGcd, IsPowerOfTwo, Width, int_pow, trailing_zeros, w128, w64}
 pub use borrow.Author.Differences.{abs_is}

@@ -1,7 +1,7 @@
 -- Greatest common divisors and least common multiples.
 use Rattle.integer_core.proofs.Common.{rules, ◌≡◌, ◌≢◌, ◌⊎◌, ◌<◌, ◌≤ℤ◌, ◌*ℤ◌, ◌↔◌, ℤ, pos, unsigned_abs, int_div, arith, inl, inr, sym, ints, unsigned_abs-mul, linear, sizes, products, comm, left_comm, dist-left, Divides, IsGreatestCommonDivisor, IsLeastCommonMultiple, GcdFits, IsRange, EachFits}
 pub use Rattle.integer_core.proofs.Divisibility.{Divides-trans, Divides-zero, Divides-antisym, magnitude_divides, divides_magnitude, Divides-sum, Divides-times, Divides-cancel, exact_quotient, divisor_size, only_gcd, gcd-swap, gcd-nonzero, gcd-positive, gcd-divisor, gcd-zero, gcd-remainder, zero_or_not, cancel, zero_divides, from_natural, to_natural, Divides-minus_one, divides_from_exact, exact_from_divides, mul-one}
-pub use Rattle.integer_core.proofs.Ranges.{within_fits, no_minus_one, lcm_is_magnitude, magnitude_by_distance}
+pub use Rattle.integer_core.proofs.Ranges.{within_fits, lcm_is_magnitude, magnitude_by_distance}
 use Rattle.integer_core.proofs.BezoutAnswers.{bezout_answer_exists}
 
 -- ---- greatest common divisors
