@@ -1,8 +1,9 @@
 -- Calls that return a result exactly in their domain.
-use Rattle.num_integer.proofs.Common.{◌≡◌, ◌≢◌, ◌⊎◌, ◌↔◌, ◌≤ℤ◌, ◌<ℤ◌, ◌*ℤ◌, natural, ℤ, pos, neg_ℤ, unsigned_abs, int_div, Option, Some, None, arith, inl, inr, refl, subst, sym, ap, ◌∙◌, unsigned_abs-mul, linear, left_comm, sizes, IsGreatestCommonDivisor, IsLeastCommonMultiple, EachFits, IsRange, lcm-product, gcd-nonzero, lcm-zero, lcm_exists, only_lcm, Divides-trans, exact_quotient, each_fits, fits_below, product_from_zero}
+use Rattle.num_integer.proofs.Common.{◌≡◌, ◌≢◌, ◌⊎◌, ◌↔◌, ◌≤ℤ◌, ◌<ℤ◌, ◌*ℤ◌, natural, ℤ, pos, neg_ℤ, unsigned_abs, int_div, Option, Some, None, arith, refl, subst, sym, ap, ◌∙◌, unsigned_abs-mul, left_comm, sizes, IsGreatestCommonDivisor, IsLeastCommonMultiple, EachFits, IsRange, lcm-product, gcd-nonzero, lcm-zero, lcm_exists, only_lcm, Divides-trans, exact_quotient, each_fits, fits_below, product_from_zero, IsOnly}
 use Rattle.integer_core.proofs.DivisorSizes.{divisor_at_most, lcm-positive}
-use Rattle.num_integer.specs.Checked.{AnswersWhere}
-use Rattle.std.specs.Prelude.{IsSome}
+use Rattle.num_integer.specs.Checked.{AnswersWhere, FitsWith}
+use Rattle.std.specs.Prelude.{IsSome, Result, Ok, Err}
+use Rattle.std.specs.Result.{OkIff, result_ok}
 
 -- the domain and the result of a call may be said in other words
 pub answers_as : {D E X : Type 0} {A B : X → Type 0} (r : Option X) → D ↔ E → ((x : X) → A x → B x) → AnswersWhere D A r → AnswersWhere E B r
@@ -31,10 +32,7 @@ product_fits_by_size {low = low} a b range a_fits b_fits size_fits =
     let a_in = (range.between a).0 a_fits in
     let b_in = (range.between b).0 b_fits in
     let most = ((range.between _).0 size_fits).1 in
-    let least : low ≤ℤ (a *ℤ b) = elim range.low_end [
-      | inl none ↦ omega (arith, linear, product_from_zero a b (omega (arith, linear)) (omega (arith, linear)))
-      | inr signed ↦ omega (arith, sizes)
-    ] in
+    let least : low ≤ℤ (a *ℤ b) = grind (arith, sizes, product_from_zero a b, range.low_end) in
     (range.between (a *ℤ b)).1 (least, omega (arith, sizes))
 
 -- the negation of a negative number is its magnitude
@@ -61,3 +59,16 @@ pub gcd_fits_with_lcm : {fits : ℤ → Type 0} {low high a b : ℤ} → IsRange
 gcd_fits_with_lcm {a = a} {b = b} range a_nonzero b_nonzero each g greatest =
     let own = lcm_exists a b in
     fits_below range (each own.0 own.1) greatest.from_zero (divisor_at_most (lcm-positive own.1 a_nonzero b_nonzero) (Divides-trans greatest.divides_right own.1.right_divides))
+
+-- ---- results that are computed in a wider type and converted to a narrower one
+
+-- The only number with a property, converted to a type, is the result exactly if it fits the type.
+pub narrowed : {X E D : Type 0} (value : X → ℤ) (fits P : ℤ → Type 0) {y : X} (r : Result X E) → D → P (value y) → IsOnly P (value y) → OkIff r (fits (value y)) y
+    → AnswersWhere (D × EachFits fits P) (FitsWith fits value P) (result_ok r)
+narrowed value fits P (Ok x) domain is only converted =
+    ((domain, λ z own. subst fits (sym (only z own)) converted.0), (rw converted.1 converted.0, rw converted.1 is))
+narrowed value fits P (Err e) domain is only outside = λ each. outside (each.1 _ is)
+
+-- If a number with the property does not fit the wider type, it does not fit the narrower one.
+pub none_narrower : {D : Type 0} (narrow wide P : ℤ → Type 0) → ((z : ℤ) → narrow z → wide z) → ¬ (D × EachFits wide P) → ¬ (D × EachFits narrow P)
+none_narrower narrow wide P wider none each = none (each.0, λ z is. wider z (each.1 z is))

@@ -6,7 +6,7 @@ use Rattle.integer_core.proofs.Divisibility.{Divides-refl, abs_zero, divisor_siz
 use Rattle.integer_core.proofs.Quotients.{only_multiple, floored_by_minus_one, other_quotient_fits}
 use Rattle.integer_core.proofs.Ranges.{within_fits}
 use Rattle.num_integer.specs.Parts.{IsWithin, signed}
-pub use Rattle.integer_core.proofs.DivisionKinds.{IsKind, truncated, floored, ceiled, each_kind}
+pub use Rattle.integer_core.proofs.DivisionKinds.{IsKind, floored, ceiled, each_kind}
 pub use Rattle.integer_core.proofs.Whole.{from_test}
 
 -- ---- what fits a lawful type
@@ -32,8 +32,7 @@ each_fits_by {fits} {P} nonzero own only test = let each = each_fits {fits = fit
 
 -- a power of two that fits has fewer than 128 twos
 pub few_bits : {fits : ℤ → Type 0} {low high : ℤ} (t c : ℕ) → IsRange fits low high → fits (pos c) → 2 ^ t ≤ c → t < 128
-few_bits t c range h power =
-    lt_of_not-le (λ many. omega (arith, ints, (range.between (pos c)).0 h, pow-le-pow_right {n = 2} (omega arith) many))
+few_bits t c range h power = lt_of_not-le (λ many. omega (arith, ints, (range.between (pos c)).0 h, pow-le-pow_right {n = 2} (omega arith) many))
 
 -- the test whether the gcd fits is that of the condition of the call
 pub gcd_domain : {fits : ℤ → Type 0} {low high a b : ℤ} {answer : Bool} → IsRange fits low high → fits a → fits b

@@ -9,10 +9,6 @@ pub exact_floored : (negative : Bool) (m d : ℕ) → 0 < d → m % d ≡ 0 → 
 exact_floored false m d up none = natural_division m d up
 exact_floored true m d up none = let h = (natural_division m d up).division.equation in floored_by_range (grind (arith, products, none, h)) (omega (arith, ints)) (omega (arith, ints, none))
 
--- both numbers negated have the same quotient, and the remainder negated
-negated_floored : {n d q r : ℤ} → IsFloored n d q r → IsFloored (neg_ℤ n) (neg_ℤ d) q (neg_ℤ r)
-negated_floored h = grind (arith, products, sizes)
-
 -- a product, by signs and magnitudes
 pub signed_product : (s t : Bool) (m n : ℕ) → signed s m *ℤ signed t n ≡ signed (not (beq s t)) (m * n)
 signed_product true true m n = grind (arith, products)
@@ -24,7 +20,7 @@ signed_product false false m n = grind (arith, products)
 pub division_by_magnitudes : (s u : Bool) (m e : ℕ) {q : ℤ} {r : ℕ} → IsFloored (signed (not (beq s u)) m) (pos e) q (pos r) → IsFloored (signed s m) (signed u e) q (signed u r)
 division_by_magnitudes true false m e h = h
 division_by_magnitudes false false m e h = h
-division_by_magnitudes true true m e h = negated_floored h
+division_by_magnitudes true true m e h = grind (arith, products, sizes)
 division_by_magnitudes false true m e h = grind arith
 
 -- a part of a number lies between 0 and the number, so it fits

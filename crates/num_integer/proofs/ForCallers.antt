@@ -16,7 +16,7 @@ pub use Rattle.num_integer.proofs.FittingAnswers.{fits_below, sum_fits_exactly}
 pub use Rattle.num_integer.proofs.FlooredProducts.{part_fits}
 -- ---- results of a wider type
 
-pub use Rattle.num_integer.proofs.NarrowerTypes.{narrowed, none_narrower}
+pub use Rattle.num_integer.proofs.CheckedAnswers.{narrowed, none_narrower}
 -- ---- what tests and checked calls say
 
 pub use Rattle.integer_core.proofs.Whole.{from_not_less, from_test}
@@ -47,7 +47,7 @@ pub use Rattle.integer_core.proofs.FlooredByPositive.{floored_range, floored_rem
 -- ---- sizes of divisors and multiples
 
 pub use Rattle.integer_core.proofs.DivisorSizes.{divisor_at_most, gcd_with_positive_fits, gcd_at_most, small_multiple_is_zero, lcm_at_most_product, lcm-positive}
-pub use Rattle.num_integer.proofs.FirstMultiples.{first_multiple_answers, first_multiple_at_u64, first_natural_multiple, lcm_is_first, natural_gcd_at_most}
+pub use Rattle.num_integer.proofs.Multiples.{first_multiple_answers, first_multiple_at_u64, first_natural_multiple, lcm_is_first, natural_gcd_at_most}
 -- ---- sums of divisors
 
 pub use Rattle.num_integer.proofs.DivisorSums.{divisor_added, divisor_passed, divisor_steps, no_divisors}
@@ -61,18 +61,16 @@ pub use Rattle.integer_roots.proofs.OnlyAnswers.{root_is_only_one}
 pub use Rattle.integer_core.proofs.IntegerPowers.{power_of_one, power_of_zero}
 pub use Rattle.integer_roots.proofs.Powers.{power_of_power}
 pub use Rattle.integer_core.proofs.IntegerPowers.{even_or_odd, even_power, int_pow-suc, int_pow-zero, odd_power, power_of_square, power_size}
-pub use Rattle.num_integer.proofs.ExponentSums.{int_pow_add, natural_power}
-pub use Rattle.num_integer.proofs.RootsOfPowers.{root_by_squares, exact_power_root, square_root_of_square}
+pub use Rattle.num_integer.proofs.Powers.{int_pow_add, natural_power, root_by_squares, exact_power_root, square_root_of_square}
 -- ---- coefficients
 
-pub use Rattle.num_integer.proofs.Pascal.{coefficient-pos, coefficient-zero, factorial-pos, none_above}
-pub use Rattle.num_integer.proofs.Pascal.{pascal, coefficient_grows}
+pub use Rattle.num_integer.proofs.Pascal.{coefficient-pos, coefficient-zero, factorial-pos, none_above, pascal, coefficient_grows}
 -- ---- the operators of the natural numbers
 
 pub use Rattle.integer_core.proofs.NaturalDivision.{quotient_is_natural, remainder_is_natural, division_is_natural, natural_quotient_fits, divides_is_natural, least_turns, quotients_grow, near}
 -- ---- literals
 
-pub use Rattle.num_integer.proofs.LiteralMultiples.{euclid, lcm_number, literal_lcm_fits, literal_lcm_fits_signed}
+pub use Rattle.num_integer.proofs.Multiples.{euclid, lcm_number, literal_lcm_fits, literal_lcm_fits_signed}
 -- ---- division by literals
 
 pub use Rattle.integer_core.proofs.NaturalDivision.{floored_quotient_range, ceiled_quotient_range, divides_by_magnitude}

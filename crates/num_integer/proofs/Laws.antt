@@ -14,8 +14,8 @@ pub use Rattle.integer_core.proofs.Quotients.{division_exists, negation_turns_mu
 pub use Rattle.integer_roots.proofs.MagnitudeRoots.{first_root}
 pub use Rattle.integer_roots.proofs.OnlyAnswers.{average_ceil_is_only, average_floor_is_only, square_root_iterations_are_only}
 pub use Rattle.num_integer.proofs.DivisorSums.{sum_of_divisors_ends_at_the_number, sum_of_divisors_exists, sum_of_divisors_is_only}
-pub use Rattle.num_integer.proofs.ExponentSums.{exponents_add}
-pub use Rattle.num_integer.proofs.FirstMultiples.{gcd_is_at_most_each_bound, lcm_is_first_common_multiple}
+pub use Rattle.num_integer.proofs.Powers.{exponents_add}
+pub use Rattle.num_integer.proofs.Multiples.{gcd_is_at_most_each_bound, lcm_is_first_common_multiple}
 pub use Rattle.num_integer.proofs.Multinomials.{is_multinomial as multinomial_formula, multinomial_ignores_order}
 pub use Rattle.num_integer.proofs.Pascal.{coefficient_mirror, divides_factorials as factorial_formula, none_above as coefficient_above_row}
 pub use Rattle.num_integer.proofs.RowSteps.{row_is_greatest_in_middle, row_is_palindrome, row_length}
@@ -23,18 +23,15 @@ pub use Rattle.num_integer.proofs.RowSteps.{row_is_greatest_in_middle, row_is_pa
 -- ---- division and multiples
 
 pub quotient_is_only : law.QuotientIsOnly
-quotient_is_only =
-    each_kind {P = λ Kind. (n d q : ℤ) → IsQuotient Kind n d q → IsOnly (IsQuotient Kind n d) q}
+quotient_is_only = each_kind {P = λ Kind. (n d q : ℤ) → IsQuotient Kind n d q → IsOnly (IsQuotient Kind n d) q}
     (λ Kind kind n d q h other k. (kind.only k.division h.division).0)
 
 pub remainder_is_only : law.RemainderIsOnly
-remainder_is_only =
-    each_kind {P = λ Kind. (n d r : ℤ) → IsRemainder Kind n d r → IsOnly (IsRemainder Kind n d) r}
+remainder_is_only = each_kind {P = λ Kind. (n d r : ℤ) → IsRemainder Kind n d r → IsOnly (IsRemainder Kind n d) r}
     (λ Kind kind n d r h other k. (kind.only k.division h.division).1)
 
 pub multiple_is_only : law.MultipleIsOnly
-multiple_is_only =
-    each_kind {P = λ Kind. (n d m : ℤ) → IsMultiple Kind n d m → IsOnly (IsMultiple Kind n d) m}
+multiple_is_only = each_kind {P = λ Kind. (n d m : ℤ) → IsMultiple Kind n d m → IsOnly (IsMultiple Kind n d) m}
     (λ Kind kind n d m. quotients.only_multiple (λ q r p s. kind.only))
 
 pub floored_parts_add_up : law.FlooredPartsAddUp

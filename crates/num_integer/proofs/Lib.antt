@@ -1,15 +1,12 @@
 pub mod Common
 pub mod Pascal
 pub mod FittingAnswers
-pub mod RootsOfPowers
 pub mod RowSteps
 pub mod CheckedAnswers
 pub mod Multinomials
 pub mod FlooredProducts
-pub mod NarrowerTypes
-pub mod FirstMultiples
-pub mod ExponentSums
+pub mod Multiples
+pub mod Powers
 pub mod DivisorSums
 pub mod Laws
-pub mod LiteralMultiples
 pub mod ForCallers

@@ -1,10 +1,11 @@
 -- Multinomials: the product of the coefficients of the running sums, in any order, and the loops over counts.
-use Rattle.num_integer.proofs.Common.{◌≡◌, ◌+◌, ◌<◌, ◌≤◌, ◌≤ℤ◌, ◌+ℤ◌, ◌*ℤ◌, ◌*◌, ◌-◌, All, AllWithin, swap, ◌∷◌, ℤ, pos, unsigned_abs, List, [], map, sum, length, get_or, drop, ℕ, zero, suc, set, ap, sym, ◌∙◌, arith, refl, subst, inl, inr, zero-add, le-mul_of_pos_right, mul-pos, eq_of_mul-eq-mul_left, cases_eq, ints, unsigned_abs-mul, comm, IsRange, EachFits, at_drop_all, at_drop_more, get_or-set_other, get_or-set_same, length-set, All-from_all_within, AllWithin-more, AllWithin-upto, at_read, cancel, fits_below, product_from_zero}
+use Rattle.num_integer.proofs.Common.{◌≡◌, ◌+◌, ◌<◌, ◌≤◌, ◌≤ℤ◌, ◌<ℤ◌, ◌+ℤ◌, ◌*ℤ◌, ◌*◌, ◌-◌, All, AllWithin, swap, ◌∷◌, ℤ, pos, unsigned_abs, List, [], map, sum, length, get_or, drop, ℕ, zero, suc, set, ap, sym, ◌∙◌, arith, refl, subst, inl, inr, zero-add, le-mul_of_pos_right, mul-pos, eq_of_mul-eq-mul_left, cases_eq, ints, unsigned_abs-mul, IsRange, EachFits, at_drop_all, at_drop_more, get_or-set_other, get_or-set_same, length-set, All-from_all_within, AllWithin-more, AllWithin-upto, at_read, products, cancel, fits_below}
 use Rattle.std.proofs.lemmas.List.Edits.{swap_is}
 use Rattle.std.proofs.lemmas.List.Sorted.{IsPermutation-keeps, IsPermutation-map, sum_by-IsPermutation}
 use Rattle.std.proofs.lemmas.List.Sums.{sum_by-cons}
-use Rattle.num_integer.proofs.Pascal.{coefficient-pos, divides_factorials, factorial-pos, not_below_top}
-use Rattle.num_integer.specs.Coefficient.{coefficient, factorial, coefficient_of}
+use Rattle.integer_core.proofs.Whole.{product_positive}
+use Rattle.num_integer.proofs.Pascal.{coefficient-pos, divides_factorials, factorial-pos, sum_at_most}
+use Rattle.num_integer.specs.Coefficient.{factorial, coefficient_of}
 use Rattle.num_integer.specs.Laws.{MultinomialIgnoresOrder}
 use Rattle.num_integer.specs.Multinomial.{IsMultinomial, coefficients_from, product}
 
@@ -30,11 +31,10 @@ unfolding coefficients_from
 shared_out before [] = let e : before + 0 ≡ before = omega arith in rw e (omega arith)
 shared_out before (count ∷ counts) =
     let e : before + count - count ≡ before = omega arith in
-    let f : before + count + sum counts ≡ before + sum (count ∷ counts) = omega (arith, sum_by-cons (λ x. x) count counts) in
+    let f : before + sum (count ∷ counts) ≡ before + count + sum counts = omega (arith, sum_by-cons (λ x. x) count counts) in
     let ways = rw e at (divides_factorials (before + count) count (omega arith)) in
     let times = ap (λ (t : ℕ). product (coefficients_from (before + count) counts) * product (map factorial counts) * t) ways in
-    let all : product (coefficients_from before (count ∷ counts)) * product (map factorial (count ∷ counts)) * factorial before ≡ factorial (before + count + sum counts) = omega (arith, shared_out (before + count) counts) in
-    all ∙ ap factorial f
+    rw f (omega (arith, shared_out (before + count) counts))
 
 -- that product is the multinomial
 pub is_multinomial : (counts : List ℤ) → IsMultinomial counts (pos (product_of counts))
@@ -46,48 +46,48 @@ is_multinomial counts =
 -- and no other number is
 pub only_multinomial : {counts : List ℤ} {m : ℤ} → IsMultinomial counts m → m ≡ pos (product_of counts)
 only_multinomial {counts} {m} h =
-    let n : ℤ = pos (product_of counts) in
-    let factorials : ℕ = product (map factorial (map unsigned_abs counts)) in
-    cancel (pos factorials) m n (λ z. absurd (omega (arith, ints, factorials-pos (map unsigned_abs counts))))
-    (comm (pos factorials) m ∙ h.factorials ∙ sym (is_multinomial counts).factorials ∙ comm n (pos factorials))
+    cancel (pos (product (map factorial (map unsigned_abs counts)))) m (pos (product_of counts)) (λ z. absurd (omega (arith, ints, factorials-pos (map unsigned_abs counts))))
+    (omega (arith, products, h.factorials, (is_multinomial counts).factorials))
 
 -- ---- a loop over the counts
 
--- the counts before the i-th are not negative and make up the total, and m is the product of their coefficients
-pub record IsSharedSoFar {X : Type 0} (value : X → ℤ) (counts : List X) (i total m : ℕ) : Type 0 where
+-- the counts before the i-th are not negative, t is their sum, and m is the product of their coefficients
+pub record IsSharedSoFar {X : Type 0} (value : X → ℤ) (counts : List X) (i : ℕ) (m t : ℤ) : Type 0 where
+  pub total_from_zero : pos 0 ≤ℤ t
+  pub positive : pos 0 <ℤ m
   pub from_zero : AllWithin (λ (x : X). pos 0 ≤ℤ value x) counts 0 i
-  pub positive : 0 < m
-  pub rest : m * product (coefficients_from total (map unsigned_abs (map value (drop i counts)))) ≡ product_of (map value counts)
+  pub rest : unsigned_abs m * product (coefficients_from (unsigned_abs t) (map unsigned_abs (map value (drop i counts)))) ≡ product_of (map value counts)
 
-module _ {X : Type 0} {value : X → ℤ} {counts : List X} where
-  pub shared_first : IsSharedSoFar value counts 0 0 1
-  shared_first = record { from_zero = λ k d l h. absurd (omega arith); positive = omega arith; rest = omega arith }
-
+module _ {X : Type 0} {value : X → ℤ} {counts : List X} {i : ℕ} {m t : ℤ} (h : IsSharedSoFar value counts i m t) where
   -- an iteration
-  pub shared_next : {i t m k : ℕ} {x : X} → IsSharedSoFar value counts i t m → i < length counts → x ≡ get_or counts i x → pos 0 ≤ℤ value x
-      → k ≡ unsigned_abs (value x) → IsSharedSoFar value counts (i + 1) (t + k) (m * coefficient (t + k) k)
+  pub shared_next : {x : X} → i < length counts → x ≡ get_or counts i x → pos 0 ≤ℤ value x
+      → IsSharedSoFar value counts (i + 1) (m *ℤ coefficient_of (t +ℤ value x) (value x)) (t +ℤ value x)
   unfolding coefficients_from
-  shared_next {i} {t} {m} {k} {x} h inside at up size =
-      let first = at_drop_more (λ (xs : List X). m * product (coefficients_from t (map unsigned_abs (map value xs)))) counts i x inside in
-      let next = rw (← at, ← size) at first in
+  shared_next {x} inside at up =
+      let sum : unsigned_abs (t +ℤ value x) ≡ unsigned_abs t + unsigned_abs (value x) = omega (arith, ints, h.total_from_zero) in
+      let product_so_far = λ (xs : List X). unsigned_abs m * product (coefficients_from (unsigned_abs t) (map unsigned_abs (map value xs))) in
+      let next = rw (← at) at (at_drop_more product_so_far counts i x inside) in
       record {
+        total_from_zero = omega (arith, ints, h.total_from_zero);
+        positive = product_positive m _ h.positive (omega (arith, ints, coefficient-pos (unsigned_abs (t +ℤ value x)) (unsigned_abs (value x)) (omega arith)));
         from_zero = AllWithin-more (λ (y : X). pos 0 ≤ℤ value y) counts 0 i h.from_zero (at_read counts (λ (y : X). pos 0 ≤ℤ value y) i x inside at up);
-        positive = mul-pos h.positive (coefficient-pos (t + k) k (omega arith));
-        rest = omega (arith, h.rest);
+        rest = rw (unsigned_abs-mul m (coefficient_of (t +ℤ value x) (value x)), sum) (omega (arith, h.rest));
       }
 
   -- on the way m does not exceed the multinomial
-  pub shared_below : {i t m : ℕ} → IsSharedSoFar value counts i t m → m ≤ product_of (map value counts)
-  shared_below {i} {t} {m} h = omega (arith, h.rest, le-mul_of_pos_right m (coefficients-pos t (map unsigned_abs (map value (drop i counts)))))
+  pub shared_below : unsigned_abs m ≤ product_of (map value counts)
+  shared_below =
+      omega (arith, h.rest, le-mul_of_pos_right (unsigned_abs m) (coefficients-pos (unsigned_abs t) (map unsigned_abs (map value (drop i counts)))))
 
   -- and at the end it is the multinomial, and no count is negative
-  pub shared_last : {i t m : ℕ} → IsSharedSoFar value counts i t m → length counts ≤ i
-      → (m ≡ product_of (map value counts)) × All (λ (x : X). pos 0 ≤ℤ value x) counts
+  pub shared_last : length counts ≤ i → IsMultinomial (map value counts) m × All (λ (x : X). pos 0 ≤ℤ value x) counts
   unfolding coefficients_from
-  shared_last {i} {t} {m} h done =
-      let none = at_drop_all (λ (xs : List X). m * product (coefficients_from t (map unsigned_abs (map value xs)))) counts i done in
+  shared_last done =
+      let product_so_far = λ (xs : List X). unsigned_abs m * product (coefficients_from (unsigned_abs t) (map unsigned_abs (map value xs))) in
+      let none = at_drop_all product_so_far counts i done in
       let up = λ (y : X). pos 0 ≤ℤ value y in
-      (omega (arith, h.rest), All-from_all_within up counts (AllWithin-upto up counts 0 i (length counts) done h.from_zero))
+      let same : m ≡ pos (product_of (map value counts)) = omega (arith, ints, h.rest, h.positive) in
+      (rw same (is_multinomial (map value counts)), All-from_all_within up counts (AllWithin-upto up counts 0 i (length counts) done h.from_zero))
 
 -- ---- the loops of `multinomial` and of `checked::multinomial`: no number on the way leaves the type
 
@@ -95,13 +95,11 @@ module _ {X : Type 0} {value : X → ℤ} {counts : List X} where
 abbrev pub HasFittingMultinomial : {X : Type 0} → (ℤ → Type 0) → (X → ℤ) → List X → Type 0
 HasFittingMultinomial {X} fits value counts = All (λ (x : X). pos 0 ≤ℤ value x) counts × EachFits fits (IsMultinomial (map value counts))
 
--- m is the multinomial and t the sum of the counts before the i-th
+-- m is the multinomial and t the sum of the counts before the i-th, and both fit
 pub record IsMultinomialSoFar {X : Type 0} (fits : ℤ → Type 0) (value : X → ℤ) (counts : List X) (i : ℕ) (m t : ℤ) : Type 0 where
   pub total_in_range : fits t
-  pub total_from_zero : pos 0 ≤ℤ t
   pub in_range : fits m
-  pub from_zero : pos 0 ≤ℤ m
-  pub shared : IsSharedSoFar value counts i (unsigned_abs t) (unsigned_abs m)
+  pub shared : IsSharedSoFar value counts i m t
 
 -- an iteration fits: the count is not negative, and the sum, its coefficient and the product fit
 pub record IterationFits (fits : ℤ → Type 0) (m t x : ℤ) : Type 0 where
@@ -110,63 +108,51 @@ pub record IterationFits (fits : ℤ → Type 0) (m t x : ℤ) : Type 0 where
   pub ways : fits (coefficient_of (t +ℤ x) x)
   pub multinomial : fits (m *ℤ coefficient_of (t +ℤ x) x)
 
--- a sum is at most what bounds its numbers and its coefficient
-sum_at_most : (s t k most : ℕ) → s ≡ t + k → t ≤ most → k ≤ most → coefficient s k ≤ most → s ≤ most
-sum_at_most s t k most is t_below k_below below = let above = not_below_top s k in grind arith
-
 module _ {X : Type 0} {fits : ℤ → Type 0} {value : X → ℤ} {counts : List X} where
   -- before the first iteration
   pub multinomial_first : {m t : ℤ} → fits m → m ≡ pos 1 → fits t → t ≡ pos 0 → IsMultinomialSoFar fits value counts 0 m t
   multinomial_first m_fits one t_fits none =
-      record { total_in_range = t_fits; total_from_zero = omega (arith, ints); in_range = m_fits; from_zero = omega (arith, ints); shared = rw (one, none) shared_first }
+      let first : IsSharedSoFar value counts 0 (pos 1) (pos 0) =
+      record { total_from_zero = omega (arith, ints); positive = omega (arith, ints); from_zero = λ k d l h. absurd (omega arith); rest = omega arith } in
+      record { total_in_range = t_fits; in_range = m_fits; shared = rw (one, none) first }
 
   module _ {i : ℕ} {x : X} {m t : ℤ} (before : IsMultinomialSoFar fits value counts i m t) (inside : i < length counts) (at : x ≡ get_or counts i x) where
     -- after an iteration at a count that is not negative
-    after : pos 0 ≤ℤ value x → IsSharedSoFar value counts (i + 1) (unsigned_abs (t +ℤ value x)) (unsigned_abs (m *ℤ coefficient_of (t +ℤ value x) (value x)))
-    after up =
-        let sum : unsigned_abs (t +ℤ value x) ≡ unsigned_abs t + unsigned_abs (value x) = omega (arith, ints, before.total_from_zero) in
-        rw (unsigned_abs-mul m (coefficient_of (t +ℤ value x) (value x)), sum) (shared_next before.shared inside at up refl)
-
-    -- whose numbers are these
     pub multinomial_next : {t' c m' : ℤ} → pos 0 ≤ℤ value x → fits t' → t' ≡ t +ℤ value x → c ≡ coefficient_of t' (value x) → fits m' → m' ≡ m *ℤ c → IsMultinomialSoFar fits value counts (i + 1) m' t'
-    multinomial_next {c = c} up t_fits total ways m_fits next = record {
-      total_in_range = t_fits;
-      total_from_zero = omega (arith, ints, before.total_from_zero);
-      in_range = m_fits;
-      from_zero = rw next (product_from_zero m c before.from_zero (omega (arith, ints)));
-      shared = rw (next, ways, total) (after up);
-    }
+    multinomial_next up t_fits total ways m_fits next =
+        record { total_in_range = t_fits; in_range = m_fits; shared = rw (next, ways, total) (shared_next before.shared inside at up) }
 
     -- an iteration fits if the multinomial of all counts does, and none is negative
     pub iteration_fits : {low high : ℤ} → IsRange fits low high → All (λ (y : X). fits (value y)) counts → HasFittingMultinomial fits value counts → IterationFits fits m t (value x)
     iteration_fits {high = high} range in_range (from_zero, all_fits) =
         let x_up = rw (← at) at (from_zero i x inside) in
+        let after = shared_next before.shared inside at x_up in
         let c : ℤ = coefficient_of (t +ℤ value x) (value x) in
         let whole = all_fits _ (is_multinomial (map value counts)) in
-        let most = shared_below (after x_up) in
-        let below : unsigned_abs c ≤ product_of (map value counts) = omega (arith, most, unsigned_abs-mul m c, le-mul_of_pos_right (unsigned_abs c) before.shared.positive) in
+        let some : 0 < unsigned_abs m = omega (arith, ints, before.shared.positive) in
+        let below : unsigned_abs c ≤ product_of (map value counts) = omega (arith, shared_below after, unsigned_abs-mul m c, le-mul_of_pos_right (unsigned_abs c) some) in
         let t_in = (range.between t).0 before.total_in_range in
         let x_in = (range.between (value x)).0 (rw (← at) at (in_range i x inside)) in
         let whole_in = (range.between _).0 whole in
-        let sum : unsigned_abs (t +ℤ value x) ≡ unsigned_abs t + unsigned_abs (value x) = omega (arith, ints, before.total_from_zero) in
+        let sum : unsigned_abs (t +ℤ value x) ≡ unsigned_abs t + unsigned_abs (value x) = omega (arith, ints, before.shared.total_from_zero) in
         let few = sum_at_most (unsigned_abs (t +ℤ value x)) (unsigned_abs t) (unsigned_abs (value x)) (unsigned_abs high) sum (omega (arith, ints)) (omega (arith, ints)) (omega (arith, ints)) in
         record {
           from_zero = x_up;
-          total = (range.between _).1 (omega (arith, ints, before.total_from_zero));
+          total = (range.between _).1 (omega (arith, ints, before.shared.total_from_zero));
           ways = fits_below range whole (omega (arith, ints)) (omega (arith, ints));
-          multinomial = fits_below range whole (product_from_zero m c before.from_zero (omega (arith, ints))) (omega (arith, ints, product_from_zero m c before.from_zero (omega (arith, ints))));
+          multinomial = fits_below range whole (omega (arith, ints, after.positive)) (omega (arith, ints, after.positive, shared_below after));
         }
 
   module _ {i : ℕ} {m t : ℤ} (before : IsMultinomialSoFar fits value counts i m t) (done : length counts ≤ i) where
     -- after the last iteration
     pub multinomial_last : IsMultinomial (map value counts) m
-    multinomial_last = subst (IsMultinomial (map value counts)) (omega (arith, ints, before.from_zero, (shared_last before.shared done).0)) (is_multinomial (map value counts))
+    multinomial_last = (shared_last before.shared done).0
 
     -- where each number fitted
     pub checked_last : HasFittingMultinomial fits value counts × (fits m × IsMultinomial (map value counts) m)
     checked_last =
-        let own = multinomial_last in
-        (((shared_last before.shared done).1, λ z other. subst fits (only_multinomial own ∙ sym (only_multinomial other)) before.in_range), (before.in_range, own))
+        let own = shared_last before.shared done in
+        ((own.1, λ z other. subst fits (only_multinomial own.0 ∙ sym (only_multinomial other)) before.in_range), (before.in_range, own.0))
 
 -- ---- counts in another order have the same multinomial
 

@@ -42,11 +42,8 @@ grows n k h =
 
 -- up to the middle a row rises
 pub rises : (n k m : ℕ) → k ≤ m → m + m ≤ n → coefficient n k ≤ coefficient n m
-rises n k zero h l = let e : k ≡ 0 = omega arith in rw e (le_refl _)
-rises n k (suc m) h l = elim (cases_lt m k) [
-  | inl top ↦ let e : k ≡ suc m = omega arith in rw e (le_refl _)
-  | inr below ↦ le_trans (rises n k m below (omega arith)) (grows n m (omega arith))
-]
+rises n k zero h l = grind arith
+rises n k (suc m) h l = grind (arith, cases_lt m k, rises n k m, grows n m)
 
 -- up to the middle a coefficient is at least a power of two
 power_below : (n k : ℕ) → k + k ≤ n → 2 ^ k ≤ coefficient n k
@@ -62,10 +59,8 @@ divides_factorials n zero h = let e : n - 0 ≡ n = omega arith in rw (coefficie
 divides_factorials zero (suc k) h = absurd (omega arith)
 divides_factorials (suc n) (suc k) h =
     let e : suc n - suc k ≡ n - k = omega arith in
-    let d = ap (λ (t : ℕ). suc k * factorial k * factorial t * coefficient (suc n) (suc k)) e in
     let f = ap (λ (t : ℕ). factorial k * factorial (n - k) * t) (absorb n k) in
-    let g = ap (λ (t : ℕ). suc n * t) (divides_factorials n k (omega arith)) in
-    omega arith
+    rw e (omega (arith, ap (λ (t : ℕ). suc n * t) (divides_factorials n k (omega arith))))
 
 -- a factorial is positive
 pub factorial-pos : (n : ℕ) → 0 < factorial n
@@ -88,17 +83,14 @@ nearer_same n k m h is = grind (arith, coefficient_mirror)
 pub below_answer : (n k m : ℕ) → k ≤ n → m ≤ min k (n - k) → coefficient n m ≤ coefficient n k
 below_answer n k m h l = rw (← nearer_same n k _ h refl) (rises n m (min k (n - k)) l (omega arith))
 
--- so between the ends of a row each item is at least n
-pub not_below_top : (n k : ℕ) → 0 < k → k < n → n ≤ coefficient n k
-not_below_top n k some inside =
-    let first = rw (coefficient-zero n) at (next_in_row n 0 (omega arith)) in omega (arith, below_answer n k 1 (omega arith) (omega arith))
+-- so a sum of two numbers is at most what bounds them and its coefficient
+pub sum_at_most : (s t k most : ℕ) → s ≡ t + k → t ≤ most → k ≤ most → coefficient s k ≤ most → s ≤ most
+sum_at_most s t k most is t_below k_below below =
+    let one = rw (coefficient-zero s) at (next_in_row s 0 (omega arith)) in grind (arith, below_answer s k 1)
 
 -- and the result is at least that power of two
 pub power_below_answer : (n k m : ℕ) → k ≤ n → m ≤ min k (n - k) → 2 ^ m ≤ coefficient n k
 power_below_answer n k m h l = le_trans (power_below n m (omega arith)) (below_answer n k m h l)
-
--- what a loop along a row needs
-pub ruleset row_steps = (coefficient-zero, none_above, nearer_same, below_answer, power_below_answer)
 
 -- ---- Pascal's rule, and coefficients out of more things
 

@@ -1,29 +1,22 @@
 -- Rows: from one coefficient to the next, and the rest of a row.
-use Rattle.num_integer.proofs.Common.{◌≤ℤ◌, ◌<ℤ◌, ◌+ℤ◌, ◌-ℤ◌, ◌*ℤ◌, ◌≢◌, ◌≡◌, ◌+◌, ◌-◌, ◌/◌, ◌≤◌, ◌*◌, All, ◌∷◌, add-one, ℤ, pos, negsuc, unsigned_abs, int_div, int_rem, ℕ, suc, List, [], length, drop, get_or, reverse, refl, sym, ap, ◌∙◌, arith, min, ints, abs_is, comm, expand, linear, products, Divides, IsGreatestCommonDivisor, IsRange, at_drop_more, drop_all, get_or-reverse, length-reverse, All-nil, gcd-nonzero, gcd-positive, gcd-remainder, gcd-swap, gcd-times, cancel, Divides-cancel, exact_quotient, divisor_size, truncated_is, coefficient, coefficient_of, fits_below, factor_positive}
+use Rattle.num_integer.proofs.Common.{iff_false, from_test, ◌≤ℤ◌, ◌<ℤ◌, ◌+ℤ◌, ◌-ℤ◌, ◌*ℤ◌, ◌≢◌, ◌≡◌, ◌+◌, ◌-◌, ◌/◌, ◌≤◌, ◌*◌, All, ◌∷◌, add-one, ℤ, pos, negsuc, unsigned_abs, int_div, int_rem, ℕ, suc, List, [], length, drop, get_or, reverse, refl, sym, ap, ◌∙◌, arith, min, ints, abs_is, comm, expand, linear, products, Divides, IsGreatestCommonDivisor, IsRange, at_drop_more, drop_all, get_or-reverse, length-reverse, All-nil, gcd-nonzero, gcd-positive, gcd-remainder, gcd-swap, gcd-times, cancel, Divides-cancel, exact_quotient, divisor_size, truncated_is, coefficient, coefficient_of, fits_below, factor_positive}
+use Rattle.integer_core.proofs.DivisorSizes.{divisor_at_most, gcd_with_positive_fits}
+use Rattle.integer_core.proofs.FlooredByPositive.{operator_quotient_fits}
 use Rattle.std.proofs.lemmas.List.FromFn.{fill_by_all, get_or-map-range_with_len, length-map-range_with_len}
-use Rattle.num_integer.proofs.Pascal.{below_answer, coefficient_mirror, next_in_row, nearer_same, rises}
+use Rattle.num_integer.proofs.Pascal.{below_answer, coefficient-zero, coefficient_mirror, next_in_row, nearer_same, rises}
 use Rattle.num_integer.specs.Laws.{RowIsGreatestInMiddle, RowIsPalindrome, RowLength}
 use Rattle.num_integer.specs.Row.{IsPlaceInRow, RowFits, row_of}
 
 -- ---- from one coefficient of a row to the next, over the integers
 
--- what holds of natural numbers with k at most n holds of integers
-pub from_naturals : (P : ℤ → ℤ → Type 0) → ((n k : ℕ) → k ≤ n → P (pos n) (pos k)) → (n k : ℤ) → pos 0 ≤ℤ k → k ≤ℤ n → P n k
-from_naturals P own (pos n) (pos k) up within = own n k (omega (arith, ints))
-from_naturals P own n (negsuc k) up within = absurd (omega (arith, ints))
-from_naturals P own (negsuc n) (pos k) up within = absurd (omega (arith, ints))
-
--- the next coefficient, multiplied across
-next_across : (n k : ℤ) → pos 0 ≤ℤ k → k ≤ℤ n → coefficient_of n k *ℤ (n -ℤ k) ≡ (k +ℤ pos 1) *ℤ coefficient_of n (k +ℤ pos 1)
-next_across = from_naturals (λ n k. coefficient_of n k *ℤ (n -ℤ k) ≡ (k +ℤ pos 1) *ℤ coefficient_of n (k +ℤ pos 1)) (λ n k within.
-    let e : pos n -ℤ pos k ≡ pos (n - k) = omega (arith, ints) in
-    let across : coefficient n k * (n - k) ≡ (k + 1) * coefficient n (k + 1) = rw add-one (omega (arith, next_in_row n k within)) in
-    rw e (ap pos across))
-
 -- k + 1 divides the coefficient of k times n - k, and only the next coefficient is the quotient
 module _ {n k c a b : ℤ} (up : pos 0 ≤ℤ k) (below : k <ℤ n) (is : c ≡ coefficient_of n k) (rest : a ≡ n -ℤ k) (next : b ≡ k +ℤ pos 1) where
   product_is : c *ℤ a ≡ b *ℤ coefficient_of n (k +ℤ pos 1)
-  product_is = rw (is, rest, next) (next_across n k up (omega (arith, ints)))
+  product_is =
+      let left : a ≡ pos (unsigned_abs n - unsigned_abs k) = omega (arith, ints) in
+      let right : b ≡ pos (suc (unsigned_abs k)) = omega (arith, ints) in
+      let place : unsigned_abs (k +ℤ pos 1) ≡ suc (unsigned_abs k) = omega (arith, ints) in
+      rw (is, left, right, place) (omega (arith, ints, next_in_row (unsigned_abs n) (unsigned_abs k) (omega (arith, ints))))
 
   pub next_divides : Divides b (c *ℤ a)
   next_divides = record { factor = coefficient_of n (k +ℤ pos 1); product = product_is }
@@ -59,14 +52,11 @@ pub through_remainder : {r b g rest : ℤ} → pos 0 <ℤ b → rest ≡ int_rem
 through_remainder {r} {b} b_above is greatest = gcd-remainder (truncated_is r b (λ e. omega (arith, linear))).division (gcd-swap (rw is at greatest))
 
 module _ {r b g : ℤ} (b_above : pos 0 <ℤ b) (greatest : IsGreatestCommonDivisor r b g) where
-  nonzero : g ≢ pos 0
-  nonzero = gcd-nonzero greatest (λ e. absurd (omega (arith, linear)))
-
   pub g_above : pos 0 <ℤ g
   g_above = gcd-positive greatest (λ e. absurd (omega (arith, linear)))
 
-  pub g_below : g ≤ℤ b
-  g_below = omega (arith, linear, abs_is, greatest.from_zero, divisor_size greatest.divides_right (λ e. absurd (omega (arith, linear))))
+  nonzero : g ≢ pos 0
+  nonzero e = omega (arith, linear, g_above)
 
   -- the cofactor of g in b
   pub rest_above : {s : ℤ} → s ≡ int_div b g → pos 0 <ℤ s
@@ -75,9 +65,8 @@ module _ {r b g : ℤ} (b_above : pos 0 <ℤ b) (greatest : IsGreatestCommonDivi
   -- if g is b
   pub cancelled_whole : (a : ℤ) → b ≤ℤ g → int_div r b *ℤ a *ℤ b ≡ r *ℤ a
   cancelled_whole a large =
-      let same : g ≡ b = omega (arith, linear, g_below) in
-      let divides : Divides b r = rw same at greatest.divides_left in
-      regrouped r a b b (int_div r b) (pos 1) a (exact_quotient (rw same at nonzero) divides) (omega (arith, products)) (omega (arith, products))
+      let same : g ≡ b = omega (arith, linear, divisor_at_most b_above greatest.divides_right) in
+      regrouped r a b b (int_div r b) (pos 1) a (rw same at (exact_quotient nonzero greatest.divides_left)) (omega (arith, products)) (omega (arith, products))
 
   module _ {a : ℤ} (a_up : pos 0 ≤ℤ a) (whole : Divides b (r *ℤ a)) where
     rest_divides : {s : ℤ} → b ≡ g *ℤ s → Divides s a
@@ -114,24 +103,21 @@ row_at n k d h = get_or-map-range_with_len (λ k. pos (coefficient n k)) 0 (n + 
 
 -- what is left begins with the k-th item
 pub rest_next : (n k : ℤ) → pos 0 ≤ℤ k → k ≤ℤ n → drop (unsigned_abs k) (row_of n) ≡ coefficient_of n k ∷ drop (unsigned_abs (k +ℤ pos 1)) (row_of n)
-rest_next = from_naturals (λ n k. drop (unsigned_abs k) (row_of n) ≡ coefficient_of n k ∷ drop (unsigned_abs (k +ℤ pos 1)) (row_of n)) (λ n k within.
-    at_drop_more (λ (xs : List ℤ). xs) (row_of (pos n)) k (pos 0) (omega (arith, length-row n)) ∙ rw (row_at n k (pos 0) within) refl)
+rest_next (pos n) (pos k) up within =
+    at_drop_more (λ (xs : List ℤ). xs) (row_of (pos n)) k (pos 0) (omega (arith, ints, length-row n)) ∙ rw (row_at n k (pos 0) (omega (arith, ints))) refl
+rest_next n k up within = absurd (omega (arith, ints))
 
 -- past n no item is left
 pub rest_none : (n k : ℤ) → pos 0 ≤ℤ k → n <ℤ k → drop (unsigned_abs k) (row_of n) ≡ []
 unfolding row_of
-rest_none (pos n) (pos k) up above = drop_all k (row_of (pos n)) (omega (arith, ints, length-row n))
-rest_none (pos n) (negsuc k) up above = absurd (omega (arith, ints))
-rest_none (negsuc n) k up above = drop_all (unsigned_abs k) (row_of (negsuc n)) (omega (arith, ints))
+rest_none (pos n) k up above = drop_all (unsigned_abs k) (row_of (pos n)) (omega (arith, ints, length-row n))
+rest_none (negsuc n) k up above = drop_all (unsigned_abs k) [] (omega arith)
 
 -- ---- the shape of a row
 
 -- no item of the row is larger than the one in its middle
 below_middle : (n m : ℕ) → m ≤ n → coefficient n m ≤ coefficient n (n / 2)
-below_middle n m h =
-    let half : n / 2 + n / 2 ≤ n = omega arith in
-    let least : min m (n - m) ≤ n / 2 = omega arith in
-    rw (← nearer_same n m _ h refl) (rises n (min m (n - m)) (n / 2) least half)
+below_middle n m h = rw (← nearer_same n m _ h refl) (rises n (min m (n - m)) (n / 2) (omega arith) (omega arith))
 
 -- what holds of each coefficient holds of the items
 each_item : (P : ℤ → Type 0) (n : ℕ) → ((k : ℕ) → k ≤ n → P (pos (coefficient n k))) → All P (row_of (pos n))
@@ -148,9 +134,8 @@ unfolding row_of
 row_is_palindrome (pos n) =
     let long : length (reverse (row_of (pos n))) ≡ n + 1 = length-reverse (row_of (pos n)) ∙ length-row n in
     fill_by_all (λ k. pos (coefficient n k)) (reverse (row_of (pos n))) (n + 1) (pos 0) long (λ k h.
-    let within : k ≤ n = omega arith in
     let at : length (row_of (pos n)) - 1 - k ≡ n - k = omega (arith, length-row n) in
-    get_or-reverse (row_of (pos n)) k (pos 0) (omega (arith, length-row n)) ∙ rw (at, row_at n (n - k) (pos 0) (omega arith)) (ap pos (sym (coefficient_mirror n k within))))
+    get_or-reverse (row_of (pos n)) k (pos 0) (omega (arith, length-row n)) ∙ rw (at, row_at n (n - k) (pos 0) (omega arith)) (ap pos (sym (coefficient_mirror n k (omega arith)))))
 row_is_palindrome (negsuc n) = refl
 
 -- each item of a row that fits is in range
@@ -174,3 +159,9 @@ module _ {fits : ℤ → Type 0} {low high n k item : ℤ} (range : IsRange fits
 pub row_length : RowLength
 row_length (pos n) up = ap pos (length-row n)
 row_length (negsuc n) up = absurd (omega (arith, ints))
+
+-- ---- what the prover tries at `item_at` and `factors`
+
+pub ruleset item_steps = (linear, iff_false, fits_below, coefficient-zero)
+
+pub ruleset factor_steps = (linear, operator_quotient_fits, gcd_with_positive_fits, g_above)

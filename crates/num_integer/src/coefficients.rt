@@ -25,6 +25,7 @@ pub(crate) fn positive_quotient<T: Integer>(a: T, b: T) -> T
 /// Splits `r * a / b`, which is an integer, into the factors `r / g` and `a / (b / g)`. `g` is the
 /// gcd of `r` and `b`, computed as that of `r % b` and `b`. If `g` is `b` or 1, one division gives
 /// both factors. After <https://blog.plover.com/math/choose-2.html>.
+#[tactic(auto, using(crate::proofs::RowSteps::factor_steps))]
 fn factors<T: Integer + Copy>(r: T, a: T, b: T) -> (T, T)
     requires in_range { T.fits (T.value r) × T.fits (T.value a) × T.fits (T.value b) }
     requires a_from_zero { pos 0 ≤ℤ T.value a }

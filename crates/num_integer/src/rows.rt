@@ -57,6 +57,7 @@ impl<T: Integer> IterBinomial<T> {
 }
 
 /// Returns the `k`-th item of the row of `n`, counted from 0. `previous` is the item before it.
+#[tactic(auto, using(crate::proofs::RowSteps::item_steps))]
 fn item_at<T: Integer + Copy>(n: T, k: T, previous: T) -> T
     requires in_range { T.fits (T.value n) × T.fits (T.value k) × T.fits (T.value previous) }
     requires k_from_zero { pos 0 ≤ℤ T.value k }

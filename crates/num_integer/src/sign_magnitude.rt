@@ -10,6 +10,7 @@ use integer_core::{Magnitudes, NativeInteger};
 use num_traits::cast;
 
 /// Returns the sign and the magnitude of a number of a built-in type of at most 64 bits. `parts_of(-5)` is `(true, 5)`.
+#[tactic(auto, using(crate::proofs::FittingAnswers::signed_is))]
 pub fn parts_of<T: NativeInteger<Magnitude = u64>>(number: T) -> (bool, u64)
     requires { T.fits (T.value number) }
     ensures { signed result.0 result.1 ≡ T.value number }
@@ -18,6 +19,7 @@ pub fn parts_of<T: NativeInteger<Magnitude = u64>>(number: T) -> (bool, u64)
 }
 
 /// Returns the sign and the magnitude of `a * b`, which need not fit. `parts_of_product(-100i8, 100)` is `(true, 10000)`.
+#[tactic(auto, using(crate::proofs::FlooredProducts::signed_product))]
 pub fn parts_of_product<T: NativeInteger<Magnitude = u64>>(a: T, b: T) -> (bool, u128)
     requires { T.fits (T.value a) × T.fits (T.value b) }
     ensures { signed result.0 result.1 ≡ T.value a *ℤ T.value b }

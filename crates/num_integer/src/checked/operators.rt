@@ -60,6 +60,7 @@ pub fn product<T: Fits>(a: T, b: T) -> Option<T>
 
 /// Returns `-a`, or `None` if it does not fit. `negated(7)` is `Some(-7)`, and `negated(7u8)` is
 /// `None`.
+#[tactic(auto, using(integer_core::proofs::Whole::linear))]
 pub fn negated<T: Fits>(a: T) -> Option<T>
     requires { T.fits (T.value a) }
     ensures { AnswersWhere

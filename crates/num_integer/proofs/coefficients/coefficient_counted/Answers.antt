@@ -30,9 +30,7 @@ returns-clause-coefficient g c =
     c.nearer_end-last.ensures.lesser c.loop-n.invariant.within (from_test c.is_below-in-loop-n.ensures c.loop-n-test.false)
 
 pub returns-clause-iterations : goal.returns-clause-iterations
-returns-clause-iterations g c =
-    let done = from_test c.is_below-in-loop-n.ensures c.loop-n-test.false in
-    omega (arith, ints)
+returns-clause-iterations g c = omega (arith, ints, from_test c.is_below-in-loop-n.ensures c.loop-n-test.false)
 
 pub returns-clause-bound : goal.returns-clause-bound
 returns-clause-bound g c = λ within. power_below_answer _ _ _ (omega (arith, ints)) (omega (arith, ints))

@@ -1,22 +1,10 @@
-use Rattle.num_integer.proofs.RowSteps.{cancelled, cancelled_one, cancelled_whole, g_above, g_below, rest_above, through_remainder}
-use Rattle.num_integer.proofs.Common.{arith, fits_below, from_test, linear}
-use Rattle.integer_core.proofs.FlooredByPositive.{operator_quotient_fits}
+use Rattle.num_integer.proofs.RowSteps.{cancelled, cancelled_one, cancelled_whole, rest_above, through_remainder}
+use Rattle.num_integer.proofs.Common.{fits_below, from_test}
+use Rattle.integer_core.proofs.DivisorSizes.{divisor_at_most}
 use Rattle.num_integer.proofs.coefficients.factors.Goals as goal
 
-pub remainder-requires-clause-nonzero : goal.remainder-requires-clause-nonzero
-remainder-requires-clause-nonzero g c = λ e. absurd (omega (arith, linear))
-
-pub remainder-requires-clause-quotient_fits : goal.remainder-requires-clause-quotient_fits
-remainder-requires-clause-quotient_fits g c = operator_quotient_fits _ _ g.met.T.Integer.range_law c.requires.in_range.0 c.requires.in_range.2 c.requires.b_positive
-
 pub gcd-g-requires-clause-gcd_fits : goal.gcd-g-requires-clause-gcd_fits
-gcd-g-requires-clause-gcd_fits g c = λ _ z h. fits_below g.met.T.Integer.range_law c.requires.in_range.2 h.from_zero (g_below c.requires.b_positive h)
-
-pub positive_quotient-requires-then-is_below-clause-positive : goal.positive_quotient-requires-then-is_below-clause-positive
-positive_quotient-requires-then-is_below-clause-positive g c = g_above c.requires.b_positive c.gcd-g.ensures.greatest
-
-pub positive_quotient-requires-then-is_below-2-clause-positive : goal.positive_quotient-requires-then-is_below-2-clause-positive
-positive_quotient-requires-then-is_below-2-clause-positive g c = g_above c.requires.b_positive c.gcd-g.ensures.greatest
+gcd-g-requires-clause-gcd_fits g c = λ _ z h. fits_below g.met.T.Integer.range_law c.requires.in_range.2 h.from_zero (divisor_at_most c.requires.b_positive h.divides_right)
 
 pub positive_quotient-requires-then-is_below-3-clause-positive : goal.positive_quotient-requires-then-is_below-3-clause-positive
 positive_quotient-requires-then-is_below-3-clause-positive g c =

@@ -25,7 +25,7 @@ pub returns : goal.returns
 returns g c =
     let n = from_test c.is_negative.ensures c.if-is_negative.false in
     let k = from_test c.is_negative-else-is_negative.ensures c.if-is_negative-2.false in
-    let done = from_test c.is_below-in-loop-n.ensures c.loop-n-test.false in
-    let same = last_coefficient g.met.T.Integer.range_law c.loop-n.invariant.from_zero k (from_test c.is_below.ensures c.if-is_below.false) c.nearer_end-last.ensures.lesser c.loop-n.invariant.within done in
-    let is = c.loop-n.invariant.coefficient ∙ same in
+    let is =
+    c.loop-n.invariant.coefficient ∙ last_coefficient g.met.T.Integer.range_law c.loop-n.invariant.from_zero k (from_test c.is_below.ensures c.if-is_below.false)
+    c.nearer_end-last.ensures.lesser c.loop-n.invariant.within (from_test c.is_below-in-loop-n.ensures c.loop-n-test.false) in
     ((n, k, subst g.T.Number.fits is c.loop-n.invariant.in_range), (c.loop-n.invariant.in_range, is))

@@ -17,7 +17,7 @@ returns-in_err-binomial g c =
     let up = from_test c.is_negative.ensures c.if-is_negative.false in
     let none = rw c.in_ok-total.ensures.1.1 at c.in_err-binomial.ensures in
     rw c.from_residual-in_err-binomial.ensures (λ all_fit.
-    none (omega (arith, ints, c.loop-count.invariant.total_from_zero), up, (fitting g (goal.at.returns-in_err-binomial g c).After-count-item all_fit).ways))
+    none (omega (arith, ints, c.loop-count.invariant.shared.total_from_zero), up, (fitting g (goal.at.returns-in_err-binomial g c).After-count-item all_fit).ways))
 
 pub returns-in_err-multinomial : goal.returns-in_err-multinomial
 returns-in_err-multinomial g c = rw c.from_residual-in_err-multinomial.ensures (λ all_fit.

@@ -25,7 +25,5 @@ pub returns : goal.returns
 returns g c =
     let own = division g (goal.at.returns g c).After-floored-quotient in
     let q = c.in_ok-quotient.ensures in
-    let r = c.in_ok-rest.ensures in (
-      λ p h. subst g.T.Number.fits (only_floored own h.division).0 q.0,
-      (q.1.0, r.1.0, rw (q.1.1, r.1.1) own),
-    )
+    let r = c.in_ok-rest.ensures in
+    (λ p h. subst g.T.Number.fits (only_floored own h.division).0 q.0, (q.1.0, r.1.0, rw (q.1.1, r.1.1) own))
