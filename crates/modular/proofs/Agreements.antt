@@ -1,48 +1,34 @@
 -- Several congruences: if every two of them agree, they have a common solution, and all their solutions are congruent.
-use Rattle.modular.proofs.Common.{◌≡◌, ◌<◌, ◌≤◌, ◌+◌, ◌≤ℤ◌, ◌<ℤ◌, ◌+ℤ◌, ◌-ℤ◌, ◌*ℤ◌, ◌∷◌, ◌∙◌, ℤ, ℕ, pos, neg_ℤ, unsigned_abs, List, [], length, Option, Some, None, MatchOption, All, arith, ap, get_or, refl, subst, sym, take, All-cons, All-head, All-nil, All-tail, FitsWith, IsRange, Divides, IsGreatestCommonDivisor, IsLeastCommonMultiple, IsLeastFrom, Divides-cancel, Divides-sum, Divides-times, Divides-trans, comm, expand, gcd-nonzero, gcd-times, lcm-positive, linear, only_gcd, product_from_zero, products, sizes, bezout_answer_exists, division_exists, gcd_exists, gcd_times_lcm, lcm_exists, CommonSolution, Never, Beyond, At, MatchCommonSolution, Agree, AgreeInPairs, AgreesWithEach, AreCongruent, IsNextCongruent, IsResidueClass, IsSystem, SolvesBothCongruences, SolvesEach}
-use Rattle.modular.proofs.ListedItems.{all_items, at_item, one_item_more}
-use Rattle.modular.proofs.Congruences.{congruent-divisor, congruent-refl, congruent-sym, congruent-trans, congruent_by, remainder_is_residue}
+use Rattle.modular.proofs.Common.{◌≡◌, ◌<◌, ◌≤◌, ◌+◌, ◌≤ℤ◌, ◌<ℤ◌, ◌+ℤ◌, ◌-ℤ◌, ◌*ℤ◌, ◌∷◌, ◌∙◌, ℤ, ℕ, pos, neg_ℤ, unsigned_abs, List, [], length, Option, Some, None, MatchOption, All, arith, ap, get_or, refl, subst, sym, take, All-cons, All-head, All-nil, All-tail, FitsWith, IsRange, Divides, IsGreatestCommonDivisor, IsLeastCommonMultiple, IsLeastFrom, Divides-cancel, Divides-sum, Divides-times, Divides-trans, comm, expand, gcd-nonzero, lcm-positive, linear, only_gcd, products, sizes, bezout_answer_exists, gcd_exists, gcd_times_lcm, lcm_exists, CommonSolution, Never, Beyond, At, MatchCommonSolution, Agree, AgreeInPairs, AgreesWithEach, AreCongruent, IsNextCongruent, IsResidueClass, IsSystem, SolvesBothCongruences, SolvesEach, divides_multiple, magnitude_divides}
+use Rattle.modular.proofs.ListedItems.{at_item, one_item_more}
+use Rattle.modular.proofs.Congruences.{congruent-divisor, congruent-refl, congruent-sym, congruent-trans, congruent_by, divides_product, residue_exists}
 use Rattle.modular.proofs.NextCongruent.{next_congruent_is}
 
 -- ---- two congruences that agree
 
-divides_product : {a b c d : ℤ} → Divides a b → Divides c d → Divides (a *ℤ c) (b *ℤ d)
-divides_product h k = record { factor = h.factor *ℤ k.factor; product = rw (h.product, k.product) (simp expand refl) }
-
--- what divides m·n and m·k divides m·z, if the gcd of n and k divides z
-divides_multiple : {n k d f z : ℤ} (m : ℤ) → pos 0 ≤ℤ m → IsGreatestCommonDivisor n k d → Divides d z → Divides f (m *ℤ n) → Divides f (m *ℤ k) → Divides f (m *ℤ z)
-divides_multiple m from_zero h divides at_n at_k = Divides-trans ((gcd-times m from_zero h).greatest _ at_n at_k) (Divides-times m divides)
-
 -- what the gcds of m and of n with k divide, the gcd of their least common multiple with k divides
-divides_of_gcds : {m n k l z c d g : ℤ} → pos 0 <ℤ m → pos 0 <ℤ n → IsGreatestCommonDivisor m k c → IsGreatestCommonDivisor n k d → IsLeastCommonMultiple m n l
+divides_of_gcds : {m n k l z c d g : ℤ} → pos 0 <ℤ n → IsGreatestCommonDivisor m k c → IsGreatestCommonDivisor n k d → IsLeastCommonMultiple m n l
     → Divides c z → Divides d z → Divides g l → Divides g k → Divides g z
-divides_of_gcds {m} {n} {k} {l} {z} {c} {d} {g} m_up n_up at_m at_n least by_m by_n g_l g_k =
+divides_of_gcds {m} {n} {l = l} {z = z} n_up at_m at_n least by_m by_n g_l g_k =
     let bezout = bezout_answer_exists m n in
     let h = bezout.3.greatest in
-    let common : ℤ = bezout.0 in
-    let positive = product_from_zero m n (omega (arith, linear)) (omega (arith, linear)) in
-    let size : pos (unsigned_abs (m *ℤ n)) ≡ m *ℤ n = omega (arith, sizes) in
-    let whole : Divides (common *ℤ g) (m *ℤ n) = rw (gcd_times_lcm m n common l h least ∙ size) at (Divides-times common g_l) in
-    let exchanged : Divides (common *ℤ g) (n *ℤ m) = rw (comm m n) at whole in
-    let at_left = divides_multiple m (omega (arith, linear)) at_n by_n whole (divides_product h.divides_left g_k) in
-    let at_right = divides_multiple n (omega (arith, linear)) at_m by_m exchanged (divides_product h.divides_right g_k) in
+    let whole = Divides-trans (rw (gcd_times_lcm m n bezout.0 l h least) at (Divides-times bezout.0 g_l)) (magnitude_divides (m *ℤ n)) in
+    let at_left = Divides-trans (divides_multiple m at_n whole (divides_product h.divides_left g_k)) (Divides-times m by_n) in
+    let at_right = Divides-trans (divides_multiple n at_m (rw (comm m n) at whole) (divides_product h.divides_right g_k)) (Divides-times n by_m) in
     let split : bezout.1 *ℤ (m *ℤ z) +ℤ bezout.2 *ℤ (n *ℤ z) ≡ (bezout.1 *ℤ m +ℤ bezout.2 *ℤ n) *ℤ z = simp expand refl in
     let is = split ∙ ap (λ (t : ℤ). t *ℤ z) bezout.3.equation in
-    Divides-cancel common (gcd-nonzero h (λ none. omega (arith, linear))) (rw is at (Divides-sum bezout.1 bezout.2 at_left at_right))
+    Divides-cancel bezout.0 (gcd-nonzero h (λ none. omega (arith, linear))) (rw is at (Divides-sum bezout.1 bezout.2 at_left at_right))
 
 -- Two congruences that agree have a common solution, and those that have one agree.
 pub solution_of_two : {a m b n : ℤ} → Agree a m b n → (x : ℤ) × SolvesBothCongruences a m b n x
 solution_of_two {a} {m} {b} {n} h =
     let bezout = bezout_answer_exists m n in
     let near = (h.congruent bezout.0 bezout.3.greatest).divides in
-    let split : (bezout.1 *ℤ m +ℤ bezout.2 *ℤ n) *ℤ near.factor ≡ m *ℤ (bezout.1 *ℤ near.factor) +ℤ n *ℤ (bezout.2 *ℤ near.factor) = simp expand refl in
-    let gap = near.product ∙ ap (λ (t : ℤ). t *ℤ near.factor) (sym bezout.3.equation) ∙ split in (
-      a -ℤ m *ℤ (bezout.1 *ℤ near.factor),
-      record {
-        first = congruent_by (neg_ℤ (bezout.1 *ℤ near.factor)) (simp expand (omega (arith, linear)));
-        second = congruent_by (bezout.2 *ℤ near.factor) (omega (arith, linear));
-      },
-    )
+    let j : ℤ = bezout.1 *ℤ near.factor in
+    let k : ℤ = bezout.2 *ℤ near.factor in
+    let split : (bezout.1 *ℤ m +ℤ bezout.2 *ℤ n) *ℤ near.factor ≡ m *ℤ j +ℤ n *ℤ k = simp expand refl in
+    let gap = near.product ∙ ap (λ (t : ℤ). t *ℤ near.factor) (sym bezout.3.equation) ∙ split in
+    (a -ℤ m *ℤ j, record { first = congruent_by (neg_ℤ j) (simp expand (omega (arith, linear))); second = congruent_by k (omega (arith, linear)) })
 
 pub solved_agree : {a m b n x : ℤ} → AreCongruent m x a → AreCongruent n x b → Agree a m b n
 solved_agree h k = record { congruent = λ g common. congruent-trans (congruent-sym (congruent-divisor common.divides_left h)) (congruent-divisor common.divides_right k) }
@@ -52,34 +38,34 @@ pub agree_at_gcd : {a m b n g : ℤ} → IsGreatestCommonDivisor m n g → AreCo
 agree_at_gcd h near = record { congruent = λ k other. rw (only_gcd h other) at near }
 
 -- a congruence that agrees with two agrees with both at once
-merged_agree : {a m b n e k x l : ℤ} → pos 0 <ℤ m → pos 0 <ℤ n → SolvesBothCongruences a m b n x → IsLeastCommonMultiple m n l → Agree a m e k → Agree b n e k → Agree x l e k
-merged_agree {m = m} {n = n} {k = k} m_up n_up both least left right =
-    let at_m = gcd_exists m k in
-    let at_n = gcd_exists n k in
-    record {
-      congruent = λ g h. record {
-        divides = divides_of_gcds m_up n_up at_m.1 at_n.1 least
-            (congruent-trans (congruent-divisor at_m.1.divides_left both.first) (left.congruent at_m.0 at_m.1)).divides
-            (congruent-trans (congruent-divisor at_n.1.divides_left both.second) (right.congruent at_n.0 at_n.1)).divides
-            h.divides_left h.divides_right;
-      };
-    }
+merged_agree : {a m b n e k x l : ℤ} → pos 0 <ℤ n → SolvesBothCongruences a m b n x → IsLeastCommonMultiple m n l → Agree a m e k → Agree b n e k → Agree x l e k
+merged_agree {m = m} {n = n} {k = k} n_up both least left right = record {
+  congruent = λ g h.
+      let at_m = gcd_exists m k in
+      let at_n = gcd_exists n k in
+      let by_m = congruent-trans (congruent-divisor at_m.1.divides_left both.first) (left.congruent at_m.0 at_m.1) in
+      let by_n = congruent-trans (congruent-divisor at_n.1.divides_left both.second) (right.congruent at_n.0 at_n.1) in
+      record { divides = divides_of_gcds n_up at_m.1 at_n.1 least by_m.divides by_n.divides h.divides_left h.divides_right };
+}
 
--- ---- the solutions, from one of them
+-- ---- the numbers that solve congruences, as a class
 
--- the numbers with the property are those that are x modulo `period`
-pub record HasPeriod (Is : ℤ → Type 0) (x period : ℤ) : Type 0 where
-  pub positive : pos 0 <ℤ period
-  pub every : (y : ℤ) → Is y → AreCongruent period y x
-  pub no_other : (y : ℤ) → AreCongruent period y x → Is y
+-- each number with the first property is congruent to `first` modulo `step`, and each such number has the second property
+pub record Narrowed (Each Some : ℤ → Type 0) (first step : ℤ) : Type 0 where
+  pub positive : pos 0 <ℤ step
+  pub every : (x : ℤ) → Each x → AreCongruent step x first
+  pub no_other : (x : ℤ) → AreCongruent step x first → Some x
 
--- from each number on there is a least one of them
-pub least_of_period : {Is : ℤ → Type 0} {x period : ℤ} (from : ℤ) → HasPeriod Is x period → (t : ℤ) × IsLeastFrom from Is t
-least_of_period {x = x} {period = period} from h =
-    let up = h.positive in
-    let division = division_exists.1 (x -ℤ from) period (λ e. omega (arith, linear)) in
-    let next = next_congruent_is (remainder_is_residue up (record { quotient = division.0; division = division.2 })) in
-    (from +ℤ division.1, record { from_there = next.from_there; holds = h.no_other _ next.holds; least = λ u far is. next.least u far (h.every u is) })
+pub narrowed_by_one : {Each Some : ℤ → Type 0} {first step : ℤ} → step ≡ pos 1 → ((x : ℤ) → Some x) → Narrowed Each Some first step
+narrowed_by_one {first = first} one all = record {
+  positive = omega (arith, linear);
+  every = λ x each. congruent_by (x -ℤ first) (rw one (omega (arith, products)));
+  no_other = λ x near. all x;
+}
+
+-- the next number of the class is the least one with the property
+least_by_next : {Is : ℤ → Type 0} {first step from t : ℤ} → Narrowed Is Is first step → IsNextCongruent from first step t → IsLeastFrom from Is t
+least_by_next h next = record { from_there = next.from_there; holds = h.no_other _ next.holds; least = λ u far is. next.least u far (h.every u is) }
 
 -- ---- several congruences
 
@@ -113,7 +99,7 @@ module _ {X : Type 0} (value : X → ℤ) where
       let both = solution_of_two (All-head (AgreesAt a m) c cs agrees) in
       let least = lcm_exists m (value c.1) in
       let l_up = lcm-positive least.1 (λ e. omega (arith, linear)) (λ e. omega (arith, linear)) in
-      let merged : AgreesWithEach value both.0 least.0 cs = λ k d within. merged_agree up c_up both.1 least.1 (All-tail (AgreesAt a m) c cs agrees k d within) (pairs.0 k d within) in
+      let merged : AgreesWithEach value both.0 least.0 cs = λ k d within. merged_agree c_up both.1 least.1 (All-tail (AgreesAt a m) c cs agrees k d within) (pairs.0 k d within) in
       let rest = common_with cs {a = both.0} {m = least.0} l_up (All-tail IsPositive c cs positive) merged pairs.1 in (
         rest.0,
         congruent-trans (congruent-divisor least.1.left_divides rest.1) both.1.first,
@@ -131,13 +117,15 @@ module _ {X : Type 0} (value : X → ℤ) where
       let solved = subst (All (SolvesAt x)) split each in
       λ k d within. solved_agree (All-head (SolvesAt x) c cs solved) (All-tail (SolvesAt x) c cs solved k d within)
 
-  pub no_pairs : (cs : List (X × X)) → length cs ≡ 0 → AgreeInPairs value cs
-  no_pairs [] none = tt
-  no_pairs (c ∷ cs) none = absurd (omega arith)
+  -- a search that found no first pair
+  pub no_pairs : {A : Type 0} (P : A → Type 0) (found : Option A) (cs : List (X × X)) → ((x : A) → found ≡ Some x → ⊥)
+      → MatchOption found (length cs ≡ 0) P → AgreeInPairs value cs
+  no_pairs P None [] other none = tt
+  no_pairs P None (c ∷ cs) other none = absurd (omega arith)
+  no_pairs P (Some x) cs other none = absurd (other x refl)
 
-  pub period_of_solutions : {x : ℤ} (cs : List (X × X)) → All IsPositive cs → SolvesEach value cs x → (l : ℤ) × HasPeriod (SolvesEach value cs) x l
-  period_of_solutions {x} [] positive each =
-      (pos 1, record { positive = omega (arith, linear); every = λ y h. congruent_by (y -ℤ x) (omega (arith, products)); no_other = λ y h. All-nil (SolvesAt y) })
+  pub period_of_solutions : {x : ℤ} (cs : List (X × X)) → All IsPositive cs → SolvesEach value cs x → (l : ℤ) × Narrowed (SolvesEach value cs) (SolvesEach value cs) x l
+  period_of_solutions {x} [] positive each = (pos 1, narrowed_by_one refl (λ y. All-nil (SolvesAt y)))
   period_of_solutions {x} (c ∷ cs) positive each =
       let up = All-head IsPositive c cs positive in
       let here = All-head (SolvesAt x) c cs each in
@@ -156,16 +144,9 @@ module _ {X : Type 0} (value : X → ℤ) where
   pub least_beyond : {fits : ℤ → Type 0} {from : ℤ} (cs : List (X × X)) → All IsPositive cs → (x : ℤ) × SolvesEach value cs x
       → ((t : ℤ) → from ≤ℤ t → SolvesEach value cs t → ¬ (fits t)) → (t : ℤ) × IsLeastFrom from (SolvesEach value cs) t × ¬ (fits t)
   least_beyond {from = from} cs positive solution none =
-      let t = least_of_period from (period_of_solutions cs positive solution.1).1 in
-      (t.0, t.1, none t.0 t.1.from_there t.1.holds)
-
-pub fewer_pairs : {A : Type 0} {c : A} {cs rest : List A} → rest ≡ c ∷ cs → length cs < length rest
-fewer_pairs split = omega (arith, ap length split)
-
--- a search that found nothing
-pub nothing_found : {A N : Type 0} (P : A → Type 0) (found : Option A) → ((x : A) → found ≡ Some x → ⊥) → MatchOption found N P → N
-nothing_found P None other none = none
-nothing_found P (Some x) other h = absurd (other x refl)
+      let period = (period_of_solutions cs positive solution.1).1 in
+      let least = least_by_next period (next_congruent_is (residue_exists (solution.0 -ℤ from) period.positive).1) in
+      (_, least, none _ least.from_there least.holds)
 
 -- ---- candidates for the least solution: the numbers of the type that solve two of the congruences
 
@@ -178,14 +159,13 @@ module _ {Each Both : ℤ → Type 0} {from next : ℤ} (narrows : (x : ℤ) →
   candidate_is_least onward h each = grind arith
 
   pub candidate_passed : {t : ℤ} → IsLeastFrom next Both t → ¬ (Each t) → (x : ℤ) → from ≤ℤ x → Each x → (t +ℤ pos 1) ≤ℤ x
-  candidate_passed {t} h none = λ x far has.
-      let other : ¬ (t ≡ x) = λ e. none (subst Each (sym e) has) in
-      let most = h.least x (passed x far has) (narrows x has) in
-      omega (arith, linear)
+  candidate_passed {t} h none x far has =
+      let other : ¬ (t ≡ x) = λ e. none (rw (← e) at has) in
+      omega (arith, linear, h.least x (passed x far has) (narrows x has))
 
   -- none after the last number of the type
   pub none_after_last : {fits : ℤ → Type 0} {low high t : ℤ} → IsRange fits low high → fits t → IsLeastFrom next Both t → ¬ (Each t) → ¬ (fits (t +ℤ pos 1)) → (x : ℤ) → from ≤ℤ x → Each x → ¬ (fits x)
-  none_after_last range t_fits h none last = λ x far has x_fits. last (between_fits range t_fits x_fits (omega (arith, linear)) (candidate_passed h none x far has))
+  none_after_last range t_fits h none last x far has x_fits = last (between_fits range t_fits x_fits (omega (arith, linear)) (candidate_passed h none x far has))
 
   -- none if the next number that solves two of them is not in the type
   pub none_at_end : {X : Type 0} (value : X → ℤ) {fits : ℤ → Type 0} {low high : ℤ} (found : CommonSolution X) → IsRange fits low high → fits next → ((t : X) → found ≡ At t → ⊥)
@@ -204,24 +184,12 @@ nearer_to_last range further_fits is onward = omega (arith, sizes, ((range.betwe
 
 -- ---- the class of the numbers that solve the congruences so far
 
--- the numbers of the class solve the first i congruences, and each number that solves all is of the class
-pub record Narrowed {X : Type 0} (value : X → ℤ) (congruences : List (X × X)) (i : ℕ) (first step : ℤ) : Type 0 where
-  pub positive : pos 0 <ℤ step
-  pub every : (x : ℤ) → SolvesEach value congruences x → AreCongruent step x first
-  pub no_other : (x : ℤ) → AreCongruent step x first → SolvesEach value (take i congruences) x
-
-pub narrowed_first : {X : Type 0} (value : X → ℤ) (congruences : List (X × X)) {first step : ℤ} → step ≡ pos 1 → Narrowed value congruences 0 first step
-narrowed_first value congruences {first} {step} one = record {
-  positive = omega (arith, linear);
-  every = λ x each. congruent_by (x -ℤ first) (rw one (omega (arith, products)));
-  no_other = λ x near k d within. absurd (omega arith);
-}
-
-module _ {X : Type 0} {value : X → ℤ} {congruences : List (X × X)} {i : ℕ} {first step : ℤ} (h : Narrowed value congruences i first step) where
+module _ {X : Type 0} (value : X → ℤ) (congruences : List (X × X)) {i : ℕ} {first step : ℤ} (h : Narrowed (SolvesEach value congruences) (SolvesEach value (take i congruences)) first step) where
   pub narrowed_solves : {c : X × X} → c ≡ get_or congruences i c → i < length congruences → (x : ℤ) → SolvesEach value congruences x → SolvesBothCongruences first step (value c.0) (value c.1) x
   narrowed_solves is within x each = grind arith
 
-  pub narrowed_more : {c : X × X} {f s : ℤ} → c ≡ get_or congruences i c → i < length congruences → IsResidueClass (SolvesBothCongruences first step (value c.0) (value c.1)) f s → Narrowed value congruences (i + 1) f s
+  pub narrowed_more : {c : X × X} {f s : ℤ} → c ≡ get_or congruences i c → i < length congruences → IsResidueClass (SolvesBothCongruences first step (value c.0) (value c.1)) f s
+      → Narrowed (SolvesEach value congruences) (SolvesEach value (take (i + 1) congruences)) f s
   narrowed_more is within class = record {
     positive = omega (arith, linear, class.below.from_zero, class.below.below);
     every = λ x each. class.every x (narrowed_solves is within x each);
@@ -230,12 +198,8 @@ module _ {X : Type 0} {value : X → ℤ} {congruences : List (X × X)} {i : ℕ
         one_item_more (SolvesAt value x) congruences i is within (h.no_other x both.first) both.second;
   }
 
-  pub least_of_class : {A : Type 0} (number : A → ℤ) {fits : ℤ → Type 0} {low high from : ℤ} (found : Option A) → IsRange fits low high → fits from → length congruences ≤ i
-      → MatchOption found ((t : ℤ) × IsNextCongruent from first step t × ¬ (fits t)) (FitsWith fits number (IsNextCongruent from first step))
-      → MatchOption found ((t : ℤ) → from ≤ℤ t → SolvesEach value congruences t → ¬ (fits t)) (FitsWith fits number (IsLeastFrom from (SolvesEach value congruences)))
-  least_of_class number (Some t) range from_fits past next = (
-    next.0,
-    record { from_there = next.1.from_there; holds = all_items (SolvesAt value (number t)) congruences i past (h.no_other _ next.1.holds); least = λ u far each. next.1.least u far (h.every u each) },
-  )
-  least_of_class number None range from_fits past next = λ t far each t_fits.
-      next.2 (between_fits range from_fits t_fits next.1.from_there (next.1.least t far (h.every t each)))
+pub least_of_class : {Is : ℤ → Type 0} {first step : ℤ} → Narrowed Is Is first step → {A : Type 0} (number : A → ℤ) {fits : ℤ → Type 0} {low high from : ℤ} (found : Option A) → IsRange fits low high → fits from
+    → MatchOption found ((t : ℤ) × IsNextCongruent from first step t × ¬ (fits t)) (FitsWith fits number (IsNextCongruent from first step))
+    → MatchOption found ((t : ℤ) → from ≤ℤ t → Is t → ¬ (fits t)) (FitsWith fits number (IsLeastFrom from Is))
+least_of_class h number (Some t) range from_fits next = (next.0, least_by_next h next.1)
+least_of_class h number None range from_fits next = λ t far is t_fits. next.2 (between_fits range from_fits t_fits next.1.from_there (next.1.least t far (h.every t is)))

@@ -1,5 +1,5 @@
 -- How many congruent numbers a range has.
-use Rattle.modular.proofs.Common.{◌≡◌, ◌≤ℤ◌, ◌<ℤ◌, ◌+ℤ◌, ◌-ℤ◌, ◌*ℤ◌, ◌∷◌, ◌∙◌, ℤ, ℕ, zero, suc, pos, unsigned_abs, Option, Some, None, IfSome, MatchOption, arith, ap, inl, subst, sym, by_lt_z, ints, IsRange, expand, from_not_less, linear, product_from_zero, products, sizes, within_fits, IsTimesToReach, IsCountFrom, AreCongruent, IsCountOfCongruent, IsNextCongruent, IsResidue}
+use Rattle.modular.proofs.Common.{◌≡◌, ◌≤ℤ◌, ◌<ℤ◌, ◌+ℤ◌, ◌-ℤ◌, ◌*ℤ◌, ◌∷◌, ◌∙◌, ℤ, ℕ, zero, suc, pos, Option, Some, None, IfSome, MatchOption, arith, inl, subst, by_lt_z, ints, expand, from_not_less, linear, product_from_zero, products, IsTimesToReach, IsCountFrom, AreCongruent, IsCountOfCongruent, IsNextCongruent, IsResidue, LiesWithin, negsuc}
 use Rattle.modular.proofs.CommonSolutions.{times_ordered}
 use Rattle.modular.proofs.Congruences.{congruent-sym, congruent-trans, congruent_by}
 use Rattle.modular.proofs.NextCongruent.{next_within_step}
@@ -19,55 +19,46 @@ next_by_times {from} {start} {first} {step} {k} up at_start h = record {
       omega (arith, linear);
 }
 
-one_more_step : (step : ℤ) (n : ℕ) → step *ℤ pos (suc n) ≡ step +ℤ step *ℤ pos n
-one_more_step step n = grind arith
-
--- the next congruent number, if it is in the range, and those after it
-one_number_more : {from to first step t : ℤ} {n : ℕ} → IsNextCongruent from first step t → t ≤ℤ to → IsCountOfCongruent (t +ℤ pos 1) to first step (pos n) → IsCountOfCongruent from to first step (pos (suc n))
-one_number_more {t = t} at_start within rest = record {
-  items = t ∷ rest.items;
-  all = (
-    record { from_there = at_start.from_there; holds = record { to_there = within; congruent = at_start.holds }; least = λ x far h. at_start.least x far h.congruent },
-    rest.all,
-  );
-  counted = omega (arith, ints, rest.counted);
-}
-
 -- the count is the number of steps from the first congruent number to the first one after the range
 count_of_steps : {to first step u : ℤ} (n : ℕ) {from t : ℤ} → pos 0 <ℤ step → IsNextCongruent from first step t → IsNextCongruent (to +ℤ pos 1) first step u → u ≡ t +ℤ step *ℤ pos n
     → IsCountOfCongruent from to first step (pos n)
 count_of_steps {to} {u = u} zero {from} {t} up at_start at_end is = grind (arith, products)
 count_of_steps {to} {first} {step} {u} (suc n) {from} {t} up at_start at_end is =
     let beyond = product_from_zero step (pos n) (omega (arith, linear)) (omega (arith, ints)) in
-    let more : step *ℤ pos (suc n) ≡ step +ℤ step *ℤ pos n = one_more_step step n in
+    let more : step *ℤ pos (suc n) ≡ step +ℤ step *ℤ pos n = grind arith in
     let next : IsNextCongruent (t +ℤ pos 1) first step (t +ℤ step) = next_within_step (step_further at_start.holds) (omega (arith, linear)) (omega (arith, linear)) in
-    let onward : u ≡ (t +ℤ step) +ℤ step *ℤ pos n = omega (arith, linear) in
-    let within : t ≤ℤ to = by_lt_z to t (λ less. absurd (omega (arith, linear, at_end.least t (omega (arith, linear)) at_start.holds))) (λ fine. fine) in
-    one_number_more at_start within (count_of_steps n up next at_end onward)
+    let within : t ≤ℤ to = from_not_less (λ less. omega (arith, linear, at_end.least t (omega (arith, linear)) at_start.holds)) in
+    let rest = count_of_steps {to = to} n up next at_end (omega (arith, linear)) in
+    record {
+      items = t ∷ rest.items;
+      all = (
+        record { from_there = at_start.from_there; holds = record { to_there = within; congruent = at_start.holds }; least = λ x far h. at_start.least x far h.congruent },
+        rest.all,
+      );
+      counted = omega (arith, ints, rest.counted);
+    }
 
 -- the steps between those that reach both ends of a range: one number more if its last one is congruent
 pub record IsCountedByTimes (from to first step times : ℤ) : Type 0 where
-  pub from_zero : pos 0 ≤ℤ times
+  pub within : LiesWithin (times +ℤ pos 1) times
   pub last : AreCongruent step to first → IsCountOfCongruent from to first step (times +ℤ pos 1)
   pub other : ¬ (AreCongruent step to first) → IsCountOfCongruent from to first step times
 
 counted_steps : {from to first step t u count : ℤ} → pos 0 <ℤ step → IsNextCongruent from first step t → IsNextCongruent (to +ℤ pos 1) first step u → pos 0 ≤ℤ count → u ≡ t +ℤ step *ℤ count
     → IsCountOfCongruent from to first step count
-counted_steps {from} {to} {first} {step} {t} {u} {count} up at_start at_end from_zero is =
-    let size : pos (unsigned_abs count) ≡ count = omega (arith, sizes) in
-    subst (IsCountOfCongruent from to first step) size (count_of_steps (unsigned_abs count) up at_start at_end (is ∙ ap (λ (n : ℤ). t +ℤ step *ℤ n) (sym size)))
+counted_steps {count = pos n} up at_start at_end from_zero is = count_of_steps n up at_start at_end is
+counted_steps {count = negsuc n} up at_start at_end from_zero is = absurd (omega (arith, ints))
 
 pub counted_by_times : {from to first start step j k : ℤ} → pos 0 <ℤ step → IsResidue step first start → ¬ (to <ℤ from) → IsTimesToReach to start step k → IsTimesToReach from start step j
     → IsCountedByTimes from to first step (k -ℤ j)
 counted_by_times {from} {to} {first} {start} {step} {j} {k} up at_start ordered at_end at_from =
-    let range : from ≤ℤ to = from_not_less ordered in
-    let times = at_from.least k (omega (arith, linear, at_end.from_there)) in
+    let times = at_from.least k (omega (arith, linear, at_end.from_there, from_not_less ordered)) in
     let own = next_by_times up at_start.congruent at_from in
     let last = next_by_times up at_start.congruent at_end in
     let apart : start +ℤ step *ℤ k ≡ (start +ℤ step *ℤ j) +ℤ step *ℤ (k -ℤ j) = simp expand (omega (arith, products)) in
     let more : step *ℤ (k -ℤ j +ℤ pos 1) ≡ step *ℤ (k -ℤ j) +ℤ step = simp expand (omega (arith, products)) in
     record {
-      from_zero = omega (arith, linear);
+      within = inl (omega (arith, linear), omega (arith, linear));
       last = λ near.
           let here = last.least to (omega (arith, linear)) near in
           let there = last.from_there in
@@ -77,10 +68,6 @@ counted_by_times {from} {to} {first} {start} {step} {j} {k} up at_start ordered 
           let apart_from : ¬ (start +ℤ step *ℤ k ≡ to) = λ e. far (subst (λ (x : ℤ). AreCongruent step x first) e last.holds) in
           counted_steps up own (record { from_there = by_lt_z to (start +ℤ step *ℤ k) (λ less. omega (arith, linear)) (λ fine. absurd (apart_from (omega (arith, linear)))); holds = last.holds; least = λ x beyond near. last.least x (omega (arith, linear)) near }) (omega (arith, linear)) apart;
     }
-
--- if a number of steps does not fit, neither does one more
-pub one_more_too_large : {fits : ℤ → Type 0} {low high times : ℤ} → IsRange fits low high → pos 0 ≤ℤ times → ¬ (fits times) → ¬ (fits (times +ℤ pos 1))
-one_more_too_large range from_zero none more_fits = none (within_fits range more_fits (inl (from_zero, omega (arith, linear))))
 
 pub count_from_zero : {X : Type 0} (fits : ℤ → Type 0) (value : X → ℤ) (N : Type 0) (from : ℤ) (FitsWith : ℤ → Type 0) (r : Option X) → MatchOption r N (λ n. fits (value n) × IsCountFrom from FitsWith (value n)) → IfSome r (λ n. pos 0 ≤ℤ value n)
 count_from_zero fits value N from FitsWith (Some n) h = omega (arith, ints, h.1.counted)

@@ -21,45 +21,31 @@ doubling_first h k none = record {
 pub two_fits : {fits : ℤ → Type 0} {low high rest : ℤ} → IsRange fits low high → fits rest → pos 1 <ℤ rest → fits (pos 2)
 two_fits range rest_fits above = within_fits range rest_fits (inl (omega (arith, linear), omega (arith, linear)))
 
-pub positive_two : {one two : ℤ} → one ≡ pos 1 → two ≡ one +ℤ pos 1 → pos 0 <ℤ two
-positive_two one is = omega (arith, linear)
-
 -- the two parts of a number above 1: twice the half, and the last binary digit
 pub record IsHalved (rest half digit : ℤ) : Type 0 where
   pub half_from_zero : pos 0 ≤ℤ half
-  pub half_below : half <ℤ rest
+  pub smaller : unsigned_abs half < unsigned_abs rest
   pub whole : rest ≡ (half +ℤ half) +ℤ digit
   pub is_digit : (digit ≡ pos 0) ⊎ (digit ≡ pos 1)
 
-halved : {rest half digit : ℤ} → pos 1 <ℤ rest → IsTruncated rest (pos 2) half digit → IsHalved rest half digit
-halved {rest} {half} {digit} above h =
-    let small : unsigned_abs digit < 2 = h.division.small in
-    let whole : rest ≡ (half +ℤ half) +ℤ digit = omega (arith, products) in
-    let from_zero : pos 0 ≤ℤ digit = omega (arith, linear, h.sign) in
-    record { half_from_zero = omega (arith, sizes); half_below = omega (arith, sizes); whole = whole; is_digit = grind (arith, sizes) }
-
--- the division by a successor of 1
+-- by the division by a successor of 1
 pub halved_by : {first one two rest half digit : ℤ} → first ≡ pos 1 → one ≡ pos 1 → two ≡ one +ℤ pos 1 → first <ℤ rest
     → IsTruncated rest two half digit → IsHalved rest half digit
-halved_by {one = one} {two = two} first_is one_is two_is above h =
+halved_by {two = two} {rest = rest} {half = half} {digit = digit} first_is one_is two_is above by_two =
     let is : two ≡ pos 2 = omega (arith, linear) in
-    halved (rw first_is at above) (rw is at h)
-
-pub half_is_smaller : {rest half digit : ℤ} → IsHalved rest half digit → unsigned_abs half < unsigned_abs rest
-half_is_smaller h = omega (arith, sizes, h.half_from_zero, h.half_below)
-
-digit_split : (t a h d : ℤ) → t +ℤ a *ℤ ((h +ℤ h) +ℤ d) ≡ (t +ℤ a *ℤ d) +ℤ (a +ℤ a) *ℤ h
-digit_split t a h d = simp expand (omega (arith, linear))
+    let h : IsTruncated rest (pos 2) half digit = rw is at by_two in
+    let small : unsigned_abs digit < 2 = h.division.small in
+    let whole : rest ≡ (half +ℤ half) +ℤ digit = omega (arith, products, h.division.equation) in
+    let from_zero : pos 0 ≤ℤ digit = omega (arith, linear, h.sign) in
+    record { half_from_zero = omega (arith, sizes); smaller = omega (arith, sizes); whole = whole; is_digit = grind (arith, sizes) }
 
 -- the new total is the old one, and the addend if the digit is 1
 pub doubling_iteration : {m x y total addend rest half digit t a : ℤ} → Doubling m x y total addend rest → IsHalved rest half digit → LiesBelow m t → AreCongruent m (total +ℤ addend *ℤ digit) t
     → IsResidue m (addend +ℤ addend) a → Doubling m x y t a half
-doubling_iteration {total = total} {addend = addend} {half = half} {digit = digit} h k below sum double = record {
-  total_below = below;
-  addend_below = double.below;
-  rest_from_zero = k.half_from_zero;
-  congruent = congruent-trans (rw (k.whole, digit_split total addend half digit) at h.congruent) (congruent-sum sum (congruent-product double.congruent (congruent-refl half)));
-}
+doubling_iteration {total = total} {addend = addend} {half = half} {digit = digit} h k below sum double =
+    let split : total +ℤ addend *ℤ ((half +ℤ half) +ℤ digit) ≡ (total +ℤ addend *ℤ digit) +ℤ (addend +ℤ addend) *ℤ half = simp expand (omega (arith, linear)) in
+    let congruent = congruent-trans (rw (k.whole, split) at h.congruent) (congruent-sum sum (congruent-product double.congruent (congruent-refl half))) in
+    record { total_below = below; addend_below = double.below; rest_from_zero = k.half_from_zero; congruent = congruent }
 
 pub total_at_zero : {m digit : ℤ} (total addend : ℤ) → digit ≡ pos 0 → AreCongruent m (total +ℤ addend *ℤ digit) total
 total_at_zero total addend zero = congruent_by (pos 0) (rw zero (omega (arith, products)))
@@ -70,6 +56,5 @@ total_at_one {digit = digit} total addend is_digit other h = let one : digit ≡
 -- at the end the rest is 1, or 0 and the total is the product
 pub doubling_last : {m x y total addend rest r : ℤ} → Doubling m x y total addend rest → ¬ (pos 1 <ℤ rest) → rest ≢ pos 0 → IsResidue m (total +ℤ addend) r → IsResidue m (x *ℤ y) r
 doubling_last {total = total} {addend = addend} {rest = rest} h low other sum =
-    let most : rest ≤ℤ pos 1 = from_not_less low in
-    let one : rest ≡ pos 1 = omega (arith, linear, h.rest_from_zero) in
+    let one : rest ≡ pos 1 = omega (arith, linear, h.rest_from_zero, from_not_less low) in
     record { below = sum.below; congruent = congruent-trans h.congruent (total_at_one total addend (inr one) other sum.congruent) }

@@ -1,8 +1,7 @@
 -- Residues of powers.
-use Rattle.modular.proofs.Common.{◌≡◌, ◌+◌, ◌^◌, ◌%◌, ◌<◌, ◌*ℤ◌, ℕ, ℤ, pos, refl, int_pow, IsResidue}
-use Rattle.num_integer.proofs.ForCallers.{int_pow_add}
-use Rattle.modular.proofs.BelowModulus.{only_residue, residue_is_natural}
-use Rattle.modular.proofs.Congruences.{residue_of_product}
+use Rattle.modular.proofs.Common.{◌≡◌, ◌+◌, ◌^◌, ◌%◌, ◌<◌, ◌*ℤ◌, ℕ, ℤ, pos, refl, int_pow, IsResidue, int_pow_add}
+use Rattle.modular.proofs.BelowModulus.{residue_is_natural}
+use Rattle.modular.proofs.Congruences.{residue_of_product, only_residue}
 use Rattle.modular.specs.Laws as law
 
 -- The residue of a power of a natural number is the remainder of the natural power.

@@ -1,12 +1,10 @@
 -- The next congruent number and the previous one, and a number that fits the type or is beyond it.
-use Rattle.modular.proofs.Common.{◌≡◌, ◌≤ℤ◌, ◌<ℤ◌, ◌+ℤ◌, ◌-ℤ◌, ℤ, pos, neg_ℤ, Option, Some, None, MatchOption, arith, subst, sym, by_lt_z, AnswersWhere, FitsWith, expand, linear, sizes, small_multiple_is_zero, AreCongruent, IsNextCongruent, IsPreviousCongruent, IsResidue}
+use Rattle.modular.proofs.Common.{◌≡◌, ◌≤ℤ◌, ◌<ℤ◌, ◌+ℤ◌, ◌-ℤ◌, ℤ, pos, neg_ℤ, Option, Some, None, MatchOption, arith, subst, sym, AnswersWhere, FitsWith, expand, linear, sizes, small_multiple_is_zero, AreCongruent, IsNextCongruent, IsPreviousCongruent, IsResidue, from_not_less}
 use Rattle.modular.proofs.Congruences.{congruent-sym, congruent-trans, congruent_by}
 
 -- of two congruent numbers, one that is less than the modulus further is not the larger
 not_larger : {modulus from t u : ℤ} → AreCongruent modulus t u → from ≤ℤ u → t <ℤ (from +ℤ modulus) → t ≤ℤ u
-not_larger {modulus} {from} {t} {u} h u_from t_below = by_lt_z u t
-    (λ less. let none = small_multiple_is_zero h.divides (omega (arith, sizes)) in absurd (omega (arith, linear)))
-    (λ fine. fine)
+not_larger h u_from t_below = from_not_less (λ less. let none = small_multiple_is_zero h.divides (omega (arith, sizes)) in omega (arith, linear))
 
 -- a number less than the modulus further is the next one
 pub next_within_step : {from residue modulus t : ℤ} → AreCongruent modulus t residue → from ≤ℤ t → t <ℤ (from +ℤ modulus) → IsNextCongruent from residue modulus t

@@ -1,10 +1,11 @@
 -- Numbers modulo an odd number and modulo a power of two, joined to numbers modulo the product of the two.
-use Rattle.modular.proofs.Common.{◌≡◌, ◌+◌, ◌-◌, ◌*◌, ◌/◌, ◌%◌, ◌^◌, ◌<◌, ◌≤◌, ◌+ℤ◌, ◌-ℤ◌, ◌*ℤ◌, ℤ, ℕ, pos, int_pow, trailing_zeros, w64, arith, ap, inl, inr, subst, mul-le-mul_left, mul-le-mul_right, pow-le-pow_right, cases_lt, ints, mod_below, pow_pos, bit_at-trailing_zeros, Divides, Divides-times, expand, linear, products, shift_back, AreCongruent, IsResidue, joined, represented}
+use Rattle.modular.proofs.Common.{◌≡◌, ◌+◌, ◌-◌, ◌*◌, ◌/◌, ◌%◌, ◌^◌, ◌<◌, ◌≤◌, ◌+ℤ◌, ◌-ℤ◌, ◌*ℤ◌, ℤ, ℕ, pos, int_pow, trailing_zeros, w64, arith, mul-le-mul_left, mul-le-mul_right, pow-le-pow_right, ints, mod_below, pow_pos, bit_at-trailing_zeros, Divides, Divides-times, expand, linear, products, shift_back, AreCongruent, IsResidue, joined, represented, lt_of_not-le}
 use Rattle.modular.proofs.Congruences.{congruent-divisor, congruent-product, congruent-refl, congruent-sum, congruent-sym, congruent-trans, congruent_by, residue_of_congruent}
 use Rattle.modular.proofs.PowerIterations.{congruent-power}
 use Rattle.modular.proofs.BelowModulus.{congruent-rest, natural_residue}
 use Rattle.modular.proofs.WideProducts.{wrapped_difference}
 use Rattle.modular.proofs.MontgomeryInverses.{inverse_congruent, low_divides}
+use Rattle.modular.proofs.LinearCongruences.{solved_by}
 
 -- ---- the odd part of a modulus, and its factors 2
 
@@ -15,31 +16,25 @@ pub parts_product : (n : ℕ) → n / 2 ^ trailing_zeros w64 n * 2 ^ trailing_ze
 parts_product n = shift_back 64 n
 
 pub few_twos : (m k : ℕ) → 0 < m → m * 2 ^ k < 2 ^ 64 → k < 64
-few_twos m k up fits = elim (cases_lt k 64) [
-  | inl few ↦ few
-  | inr many ↦ absurd (omega (arith, pow-le-pow_right {n = 2} (omega arith) many, mul-le-mul_right {m = 1} {n = m} (2 ^ k) up))
-]
+few_twos m k up fits = lt_of_not-le (λ many. omega (arith, pow-le-pow_right {n = 2} (omega arith) many, mul-le-mul_right {m = 1} {n = m} (2 ^ k) up))
 
 -- ---- congruences modulo both
 
-both_at : (m i w c u v z : ℤ) → m *ℤ i -ℤ pos 1 ≡ w *ℤ c → z ≡ m *ℤ u → z ≡ w *ℤ v → z ≡ (m *ℤ w) *ℤ (i *ℤ v -ℤ c *ℤ u)
-both_at m i w c u v z unit left right =
-    let whole = simp expand at (ap (λ (t : ℤ). z *ℤ t) unit) in
-    let first = simp expand at (ap (λ (t : ℤ). t *ℤ (m *ℤ i)) right) in
-    let second = simp expand at (ap (λ (t : ℤ). t *ℤ (w *ℤ c)) left) in
-    simp expand (omega (arith, products))
-
 -- if m has an inverse modulo w, numbers congruent modulo both are congruent modulo the product
 congruent-both : {m w x y : ℤ} (i : ℤ) → AreCongruent w (m *ℤ i) (pos 1) → AreCongruent m x y → AreCongruent w x y → AreCongruent (m *ℤ w) x y
-congruent-both {m} {w} {x} {y} i unit h k = congruent_by _ (both_at m i w _ _ _ (x -ℤ y) unit.divides.product h.divides.product k.divides.product)
+congruent-both {m} {w} i unit h k =
+    let at_zero : AreCongruent w (m *ℤ h.divides.factor) (pos 0) =
+    congruent_by k.divides.factor (omega (arith, linear, h.divides.product, k.divides.product)) in
+    let same : h.divides.factor -ℤ pos 0 *ℤ i ≡ h.divides.factor = omega (arith, products) in
+    record { divides = rw (← h.divides.product) at (Divides-times m (rw same at (solved_by m i unit at_zero).divides)) }
 
 joined_apart : (m i r y : ℤ) → (r +ℤ (m *ℤ i) *ℤ (y -ℤ r)) -ℤ r ≡ m *ℤ (i *ℤ (y -ℤ r))
 joined_apart m i r y = simp expand (omega (arith, linear))
 
 joined_at_unit : (p r y : ℤ) {w : ℤ} → AreCongruent w p (pos 1) → AreCongruent w (r +ℤ p *ℤ (y -ℤ r)) y
-joined_at_unit p r y {w} unit =
+joined_at_unit p r y unit =
     let whole : r +ℤ pos 1 *ℤ (y -ℤ r) ≡ y = omega (arith, products) in
-    subst (λ (t : ℤ). AreCongruent w (r +ℤ p *ℤ (y -ℤ r)) t) whole (congruent-sum (congruent-refl r) (congruent-product unit (congruent-refl (y -ℤ r))))
+    rw whole at (congruent-sum (congruent-refl r) (congruent-product unit (congruent-refl (y -ℤ r))))
 
 -- the quotient that brings the residue r modulo m to y modulo a divisor d of the word w
 quotient_low : (m i r y : ℕ) {d w : ℕ} → 0 < d → 0 < w → r ≤ w → Divides (pos d) (pos w) → AreCongruent (pos w) (pos m *ℤ pos i) (pos 1)
@@ -105,6 +100,6 @@ module _ (m i : ℕ) (inverse : m * i % 2 ^ 64 ≡ 1) where
   -- the residue of a power, from the pair of the base
   pub power_residue : (a e k : ℕ) {n r : ℕ} {base power : ℤ} → m * 2 ^ k ≡ n → k ≤ 64 → AreCongruent (pos (m * 2 ^ 64)) (pos a) base → AreCongruent (pos (m * 2 ^ 64)) (int_pow base e) power
       → IsResidue (pos (m * 2 ^ k)) power (pos r) → IsResidue (pos n) (int_pow (pos a) e) (pos r)
-  power_residue a e k {n} {r} {base} {power} n_is few at_base at_power h =
+  power_residue a e k n_is few at_base at_power h =
       let near = congruent-divisor (Divides-times (pos m) (low_divides k few)) (congruent-trans (congruent-power e at_base) at_power) in
-      subst (λ (t : ℕ). IsResidue (pos t) (int_pow (pos a) e) (pos r)) n_is (residue_of_congruent near h)
+      rw n_is at (residue_of_congruent near h)

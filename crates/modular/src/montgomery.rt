@@ -49,6 +49,7 @@ impl Montgomery {
     }
 
     /// Returns the residue that has the Montgomery form `x`.
+    #[tactic(auto, using(crate::proofs::MontgomeryProducts::montgomery_residue))]
     pub(crate) fn residue_of(&self, x: u64) -> u64
         requires { x < self.now.modulus }
         ensures { IsResidue (pos self.now.modulus)
@@ -58,6 +59,7 @@ impl Montgomery {
     }
 
     /// Multiplies two residues in Montgomery form.
+    #[tactic(auto, using(crate::proofs::MontgomeryProducts::montgomery_forms_product))]
     pub(crate) fn product(&self, x: u64, y: u64) -> u64
         requires { x < self.now.modulus }
         ensures below { result < self.now.modulus }

@@ -75,6 +75,7 @@ fn product_of_residues(x: u128, y: u128, m: u128) -> u128
 
 /// Returns the product of two residues modulo `m`. It first shifts the modulus left until its highest bit is set:
 /// each guess of a digit of the quotient is then at most 2 too large.
+#[tactic(auto, using(crate::proofs::LongDivision::shifted_left, std::proofs::lemmas::Nat::pow_pos))]
 fn long_product(x: u128, y: u128, m: u128) -> u128
     requires long { 2 ^ 64 ≤ m }
     requires below { x < m }
@@ -85,6 +86,7 @@ fn long_product(x: u128, y: u128, m: u128) -> u128
 }
 
 /// Returns the product of two numbers modulo `m`. The first is smaller than `m`.
+#[tactic(auto, using(crate::proofs::LongDivision::remainder_of_digits))]
 fn normalized_product(x: u128, y: u128, m: u128) -> u128
     requires long { 2 ^ 64 ≤ m }
     requires below { x < m }

@@ -33,7 +33,7 @@ struct SplitModulus {
 
 impl SplitModulus {
     /// Splits a modulus.
-    #[tactic(auto, using(crate::proofs::SplitModuli::parts_product))]
+    #[tactic(auto, using(crate::proofs::SplitModuli::parts_product, crate::proofs::SplitModuli::odd_part))]
     fn new(m: u64) -> Self
         requires { 0 < m }
         ensures { result.odd.modulus * 2 ^ result.twos ≡ m }
@@ -46,6 +46,7 @@ impl SplitModulus {
     }
 
     /// Returns the pair of 1.
+    #[tactic(auto, using(crate::proofs::SplitModuli::joined_of))]
     fn one(&self) -> (u64, u64)
         ensures below { result.0 < self.now.odd.modulus }
         ensures congruent { AreCongruent (pos (self.now.odd.modulus * 2 ^ 64)) (pos 1)
@@ -55,6 +56,7 @@ impl SplitModulus {
     }
 
     /// Returns the pair of `x`.
+    #[tactic(auto, using(crate::proofs::SplitModuli::joined_of))]
     fn form_of(&self, x: u64) -> (u64, u64)
         ensures below { result.0 < self.now.odd.modulus }
         ensures congruent { AreCongruent (pos (self.now.odd.modulus * 2 ^ 64)) (pos x)
@@ -89,6 +91,7 @@ impl ResidueForm for SplitModulus {
     }
 
     /// Always multiplies, and keeps the product only if the digit is 1.
+    #[tactic(auto, using(crate::proofs::PowerIterations::times_at_one, crate::proofs::PowerIterations::times_at_zero))]
     fn product_if(&self, digit: u128, x: (u64, u64), y: (u64, u64)) -> (u64, u64) {
         let product = self.product(x, y);
         if digit == 1 { product } else { x }

@@ -1,6 +1,6 @@
-use Rattle.modular.proofs.Common.{iff_false, positive_quotient_fits}
+use Rattle.modular.proofs.Common.{arith, iff_false, linear, positive_quotient_fits}
 use Rattle.modular.proofs.BelowModulus.{below_fits}
-use Rattle.modular.proofs.DoublingIterations.{doubling_first, doubling_last, doubling_iteration, half_is_smaller, halved_by, positive_two, total_at_one, total_at_zero, two_fits}
+use Rattle.modular.proofs.DoublingIterations.{doubling_first, doubling_last, doubling_iteration, halved_by, total_at_one, total_at_zero, two_fits}
 use Rattle.modular.proofs.products.product_by_doubling.Goals as goal
 use Rattle.modular.proofs.products.product_by_doubling.Goals.{then-not-is_zero, else-not-is_zero}
 
@@ -13,11 +13,11 @@ successor-requires-clause-sum_fits g c =
 
 pub div_rem-half-requires-clause-quotient_fits : goal.div_rem-half-requires-clause-quotient_fits
 div_rem-half-requires-clause-quotient_fits g c z h =
-    positive_quotient_fits g.met.T.Integer.range_law c.iterations.invariant.rest_fits c.successor.ensures.in_range (positive_two c.one-in-iterations.ensures.value c.successor.ensures.value) h.division.division
+    positive_quotient_fits g.met.T.Integer.range_law c.iterations.invariant.rest_fits c.successor.ensures.in_range (omega (arith, linear, c.one-in-iterations.ensures.value, c.successor.ensures.value)) h.division.division
 
 pub iterations-smaller : goal.iterations-smaller
 iterations-smaller g c =
-    half_is_smaller (halved_by c.one.ensures.value c.one-in-iterations.ensures.value c.successor.ensures.value (c.is_below.ensures.0 c.iterations-test.true) c.div_rem-half.ensures.truncated)
+    (halved_by c.one.ensures.value c.one-in-iterations.ensures.value c.successor.ensures.value (c.is_below.ensures.0 c.iterations-test.true) c.div_rem-half.ensures.truncated).smaller
 
 pub iterations-preserved : goal.iterations-preserved
 iterations-preserved g c =
@@ -26,14 +26,13 @@ iterations-preserved g c =
     let kept = c.iterations.invariant.kept in
     let double = c.sum_of_residues-addend.ensures.residue in
     elim c.if-not-is_zero.branch [
-      | then-not-is_zero w ↦ let sum = w.sum_of_residues-total.ensures.residue in record {
-        rest_fits = c.div_rem-half.ensures.in_range.0;
-        kept = rw w.total-is (doubling_iteration kept half sum.below (total_at_one _ _ half.is_digit (iff_false c.is_zero.ensures w.if-not-is_zero.true) sum.congruent) double);
-      }
-      | else-not-is_zero w ↦ record {
-        rest_fits = c.div_rem-half.ensures.in_range.0;
-        kept = rw w.total-is (doubling_iteration kept half kept.total_below (total_at_zero _ _ (c.is_zero.ensures.0 w.if-not-is_zero.false)) double);
-      }
+      | then-not-is_zero w ↦
+          let sum = w.sum_of_residues-total.ensures.residue in
+          let at_one = total_at_one _ _ half.is_digit (iff_false c.is_zero.ensures w.if-not-is_zero.true) sum.congruent in
+          record { rest_fits = c.div_rem-half.ensures.in_range.0; kept = rw w.total-is (doubling_iteration kept half sum.below at_one double) }
+      | else-not-is_zero w ↦
+          let none = total_at_zero _ _ (c.is_zero.ensures.0 w.if-not-is_zero.false) in
+          record { rest_fits = c.div_rem-half.ensures.in_range.0; kept = rw w.total-is (doubling_iteration kept half kept.total_below none double) }
     ]
 
 pub returns-then-is_zero-clause-in_range : goal.returns-then-is_zero-clause-in_range

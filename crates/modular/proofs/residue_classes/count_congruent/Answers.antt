@@ -1,12 +1,12 @@
-use Rattle.modular.proofs.Common.{iff_false}
+use Rattle.modular.proofs.Common.{iff_false, within_fits}
 use Rattle.modular.proofs.NextCongruent.{found_or_beyond}
-use Rattle.modular.proofs.Counts.{count_from_zero, counted_by_times, one_more_too_large}
+use Rattle.modular.proofs.Counts.{count_from_zero, counted_by_times}
 use Rattle.modular.proofs.residue_classes.count_congruent.Goals as goal
 
 pub returns-in_err-before-clause-count : goal.returns-in_err-before-clause-count
 returns-in_err-before-clause-count g c =
     let counted = counted_by_times c.requires.positive c.residue-start.ensures.residue (iff_false c.is_below-2.ensures c.if-is_below.false) c.times_to_reach.ensures.times c.times_to_reach-2.ensures.times in
-    rw c.from_residual.ensures (_, counted.last (c.are_congruent.ensures.0 c.if-are_congruent.true), one_more_too_large g.met.T.Integer.range_law counted.from_zero c.in_err-before.ensures)
+    rw c.from_residual.ensures (_, counted.last (c.are_congruent.ensures.0 c.if-are_congruent.true), λ fits. c.in_err-before.ensures (within_fits g.met.T.Integer.range_law fits counted.within))
 
 pub returns-in_ok-before-clause-count : goal.returns-in_ok-before-clause-count
 returns-in_ok-before-clause-count g c =

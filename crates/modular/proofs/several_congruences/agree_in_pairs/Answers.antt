@@ -1,9 +1,6 @@
-use Rattle.modular.proofs.Common.{refl, subst, sym, false≢true, iff_false, All-rest, AgreeInPairs}
-use Rattle.modular.proofs.Agreements.{SolvesAt, agreeing_have_solution, fewer_pairs, first_agrees, no_pairs, nothing_found, split_system}
+use Rattle.modular.proofs.Common.{ap, arith, length, refl, subst, sym, false≢true, iff_false, All-rest, AgreeInPairs}
+use Rattle.modular.proofs.Agreements.{SolvesAt, agreeing_have_solution, first_agrees, no_pairs, split_system}
 use Rattle.modular.proofs.several_congruences.agree_in_pairs.Goals as goal
-
-pub pairs-init : goal.pairs-init
-pairs-init g c = record { system = c.requires.system; solved = λ x each. each; agree = λ pairs. pairs }
 
 pub agrees_with_each-requires : goal.agrees_with_each-requires
 agrees_with_each-requires g c =
@@ -11,7 +8,7 @@ agrees_with_each-requires g c =
     record { in_range = split.0.0; positive = split.0.1; system = split.1 }
 
 pub pairs-smaller : goal.pairs-smaller
-pairs-smaller g c = fewer_pairs c.in-Some.ensures.cases.0
+pairs-smaller g c = omega (arith, ap length c.in-Some.ensures.cases.0)
 
 pub returns-then-not-agrees_with_each : goal.returns-then-not-agrees_with_each
 returns-then-not-agrees_with_each g c = (
@@ -33,5 +30,5 @@ pairs-preserved g c =
 
 pub returns : goal.returns
 returns g c =
-    let kept = c.pairs.invariant in
-    ((λ _. agreeing_have_solution g.T.Number.value c.args.congruences.now c.requires.system.1 (kept.agree (no_pairs g.T.Number.value _ (nothing_found _ c.split_first.result c.in_default.not-Some c.split_first.ensures.cases)))), (λ _. refl))
+    let agree = c.pairs.invariant.agree (no_pairs g.T.Number.value _ c.split_first.result _ c.in_default.not-Some c.split_first.ensures.cases) in
+    ((λ _. agreeing_have_solution g.T.Number.value c.args.congruences.now c.requires.system.1 agree), (λ _. refl))

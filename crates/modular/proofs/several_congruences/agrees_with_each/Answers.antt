@@ -1,6 +1,6 @@
-use Rattle.modular.proofs.Common.{refl, gcd_with_positive_fits}
+use Rattle.modular.proofs.Common.{refl, take_all, gcd_with_positive_fits}
 use Rattle.modular.proofs.Agreements.{AgreesAt, agree_at_gcd, pair_at}
-use Rattle.modular.proofs.ListedItems.{all_items, one_item_more}
+use Rattle.modular.proofs.ListedItems.{one_item_more}
 use Rattle.modular.proofs.several_congruences.agrees_with_each.Goals as goal
 
 pub gcd-requires-clause-gcd_fits : goal.gcd-requires-clause-gcd_fits
@@ -13,4 +13,4 @@ loop-other-preserved g c =
     one_item_more (AgreesAt g.T.Number.value _ _) _ _ c.other-item.is c.loop-other-test.true c.loop-other.invariant (agree_at_gcd c.gcd.ensures.greatest (c.are_congruent.ensures.0 c.if-not-are_congruent.false))
 
 pub returns : goal.returns
-returns g c = ((λ _. all_items (AgreesAt g.T.Number.value _ _) _ _ c.loop-other-test.false c.loop-other.invariant), (λ _. refl))
+returns g c = ((λ _. rw (take_all _ _ c.loop-other-test.false) at c.loop-other.invariant), (λ _. refl))

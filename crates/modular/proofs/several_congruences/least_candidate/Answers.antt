@@ -15,9 +15,7 @@ returns-in_err-next g c =
     (none_after_last c.requires.candidates c.candidates.invariant.passed g.met.T.Integer.range_law next.0 next.1 (iff_false c.solves_each.ensures c.if-solves_each.false) c.in_err-next.ensures)
 
 pub candidates-smaller : goal.candidates-smaller
-candidates-smaller g c =
-    let more = c.in_ok-next.ensures.1 in
-    nearer_to_last g.met.T.Integer.range_law more.0 more.1 c.in-At.ensures.1.from_there
+candidates-smaller g c = nearer_to_last g.met.T.Integer.range_law c.in_ok-next.ensures.1.0 c.in_ok-next.ensures.1.1 c.in-At.ensures.1.from_there
 
 pub candidates-preserved : goal.candidates-preserved
 candidates-preserved g c =

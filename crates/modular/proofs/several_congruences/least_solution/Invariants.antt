@@ -1,3 +1,4 @@
+use Rattle.modular.proofs.Common.{take, SolvesEach}
 use Rattle.modular.proofs.Agreements.{Narrowed}
 use Rattle.modular.proofs.several_congruences.least_solution.Given as goal
 
@@ -5,7 +6,6 @@ abbrev pub invariant-loop-congruence : goal.invariant-loop-congruence
 invariant-loop-congruence g l =
     let value = g.T.Number.value in
     record {
-      first_in_range : g.T.Number.fits (value l.first);
-      step_in_range : g.T.Number.fits (value l.step);
-      kept : Narrowed value l.congruences l.congruence-index (value l.first) (value l.step);
+      in_range : g.T.Number.fits (value l.first) × g.T.Number.fits (value l.step);
+      kept : Narrowed (SolvesEach value l.congruences) (SolvesEach value (take l.congruence-index l.congruences)) (value l.first) (value l.step);
     }

@@ -2,12 +2,6 @@ use Rattle.modular.proofs.Common.{◌^◌, arith, count_leading_zeros, pow_pos}
 use Rattle.modular.proofs.LongDivision.{shifted_left, unscaled}
 use Rattle.modular.proofs.wide_residues.long_product.Goals as goal
 
-pub normalized_product-requires-clause-long : goal.normalized_product-requires-clause-long
-normalized_product-requires-clause-long c = grind (arith, shifted_left, pow_pos)
-
-pub normalized_product-requires-clause-below : goal.normalized_product-requires-clause-below
-normalized_product-requires-clause-below c = grind (arith, shifted_left, pow_pos)
-
 pub returns : goal.returns
 returns c =
     let places = count_leading_zeros 128 c.args.m in

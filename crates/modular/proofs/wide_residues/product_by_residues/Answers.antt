@@ -1,5 +1,7 @@
-use Rattle.modular.proofs.WideProducts.{product_of_remainders}
+use Rattle.modular.proofs.Common.{refl}
+use Rattle.modular.proofs.Congruences.{residue_of_product}
+use Rattle.modular.proofs.BelowModulus.{natural_residue}
 use Rattle.modular.proofs.wide_residues.product_by_residues.Goals as goal
 
 pub returns : goal.returns
-returns c = product_of_remainders c.args.x c.args.y c.requires c.product_of_residues.ensures
+returns c = residue_of_product (natural_residue c.args.x c.requires) (natural_residue c.args.y c.requires) refl c.product_of_residues.ensures
