@@ -1,17 +1,15 @@
 -- The names of the libraries and of the specs that the proofs cite, passed on from one place. Declares nothing.
 pub use Rattle.std.proofs.Common.{Bor, ap, append_assoc, arith, get_or, inl, inr, le-mul_of_pos_right, le_of_mul-le-mul_right, le_refl, min, mul-le-mul_left, mul-pos, of_z, refl, rules, subst, sym, to_z, w32, ◌∙◌}
-pub use Rattle.std.proofs.Math.Nat.{div-add-mod, div-div-eq-div-mul, div-le_self, eq_of_mul-eq-mul_left, le_of_mul-le-mul_left, mod-eq_of_lt, mod-lt, mul-add-mod_self_left, mul-le-mul, one-le-pow, pow-succ'}
+pub use Rattle.std.proofs.Math.Nat.{div-div-eq-div-mul, div-le_self, eq_of_mul-eq-mul_left, le_of_mul-le-mul_left, mod-add-div, mul-le-mul, one-le-pow, pow-le-pow_right, pow-succ'}
 pub use Rattle.std.proofs.lemmas.Bool.{cases_Bool, cases_lt, iff_false}
-pub use Rattle.std.proofs.lemmas.Bool.Decides.{Decides-int_eq, nat_tests}
+pub use Rattle.std.proofs.lemmas.Bool.Decides.{Decides-int_eq}
 pub use Rattle.std.proofs.lemmas.Fmt.{decimal_digit, decimal_is_IsNumeral, decimal_is_IsNumeral_wide, decimal_step}
-pub use Rattle.std.proofs.lemmas.Grind.{common_steps}
 pub use Rattle.std.proofs.lemmas.Int.{by_lt_z, fits_signed_from_abs, ints, to_z-of_z, to_z_pos, unsigned_abs-mul}
-pub use Rattle.std.proofs.lemmas.Int.Digits.{digits_value_push}
-pub use Rattle.std.proofs.lemmas.List.{append-nil, get_or_at, length-append}
+pub use Rattle.std.proofs.lemmas.Int.Digits.{digits_push, digits_value_push}
+pub use Rattle.std.proofs.lemmas.List.{append-nil, get_or_at, length-append, replicate_more, get_or_append_left, nil_from_length, take_at, drop_at}
 pub use Rattle.std.proofs.lemmas.Nat.{le-div, mul-lt}
-pub use Rattle.std.proofs.lemmas.Result.{err_from_is_err_and}
 pub use Rattle.std.proofs.lemmas.Str.{digit_value_digit}
-pub use Rattle.std.proofs.lemmas.Str.Parse.{IsNumeralModel, digit_from_value, not_in_digits, numerals_by_value}
+pub use Rattle.std.proofs.lemmas.Str.Parse.{IsNumeralModel, not_in_digits, numerals_by_value}
 pub use Rattle.std.proofs.lemmas.Str.Pattern.{IsSplitOnceResult, split_after, split_parts}
 pub use Rattle.std.specs.Char.{digit_value, is_ascii_digit}
 pub use Rattle.std.specs.Cmp.{int_cmp_is, int_ranked}
@@ -19,12 +17,11 @@ pub use Rattle.std.specs.Fmt.{WritesInCalls, decimal, format_spec, sign_text, si
 pub use Rattle.std.specs.Int.{Width, int_pow, is_negative, w128, w64}
 pub use Rattle.std.specs.List.{list_all}
 pub use Rattle.std.specs.Ordering.{int_eq}
-pub use Rattle.std.specs.Prelude.{Err, FitsSigned, IfErr, IfOk, IsOk, IsTrue, List, MatchOption, None, Ok, OnOk, Option, Result, Some, [], codes, false, int_div, length, neg_ℤ, negsuc, pos, replicate, suc, true, unsigned_abs, unwrap_or, zero, ℕ, ℤ, ⊤, ◌%◌, ◌*ℤ◌, ◌*◌, ◌++◌, ◌+ℤ◌, ◌+◌, ◌-ℤ◌, ◌-◌, ◌/◌, ◌<ℤ◌, ◌<◌, ◌==◌, ◌^◌, ◌↔◌, ◌∷◌, ◌≡◌, ◌≢◌, ◌≤ℤ◌, ◌≤◌, ◌⊎◌}
+pub use Rattle.std.specs.Prelude.{Err, FitsSigned, IfErr, IfOk, IsOk, IsTrue, List, MatchOption, None, Ok, OnOk, Option, Result, Some, [], codes, false, int_div, length, neg_ℤ, negsuc, pos, replicate, suc, true, unsigned_abs, unwrap_or, zero, ℕ, ℤ, ◌%◌, ◌*ℤ◌, ◌*◌, ◌++◌, ◌+ℤ◌, ◌+◌, ◌-ℤ◌, ◌-◌, ◌/◌, ◌<ℤ◌, ◌<◌, ◌==◌, ◌^◌, ◌↔◌, ◌∷◌, ◌≡◌, ◌≢◌, ◌≤ℤ◌, ◌≤◌, ◌⊎◌, drop, take}
 pub use Rattle.std.specs.Result.{result_ok}
 pub use Rattle.std.specs.Str.Parse.{AllDigits, IsNumeral, digits_value, starts_with_minus}
 pub use Rattle.std.specs.declared.cmp.Ordering.TheVariants.{Equal, Greater, Less}
-pub use borrow.Author.Tests.{ne_eqb}
-pub use Rattle.num_integer.proofs.ForCallers.{Divides-refl, Divides-sum, Divides-trans, LiesWithin, cancel, ceiled_by_range, ceiled_remainder_range, comm, coprime_divides, divided_by_gcd, divisor_at_most, divisor_size, exact_quotient, expand, factor_positive, floored_by_range, floored_range, floored_remainder_range, from_not_less, from_test, gcd-divisor, gcd-nonzero, gcd-positive, gcd-swap, int_pow-suc, int_pow-zero, linear, mul-neg, mul-one, multiples_apart, neg-mul, one_divides, power_of_zero, power_size, product_from_zero, products, sizes, within_fits, zero_or_not}
+pub use Rattle.num_integer.proofs.ForCallers.{Divides-refl, Divides-sum, Divides-trans, LiesWithin, cancel, ceiled_by_range, ceiled_remainder_range, comm, coprime_divides, divided_by_gcd, divisor_at_most, divisor_size, exact_quotient, expand, factor_positive, floored_by_range, floored_range, from_not_less, from_test, gcd-divisor, gcd-nonzero, gcd-positive, gcd-swap, int_pow-suc, int_pow-zero, linear, mul-neg, mul-one, multiples_apart, neg-mul, one_divides, power_of_zero, power_size, product_from_zero, products, rest_is, sizes, within_fits, zero_or_not}
 pub use Rattle.num_integer.proofs.Laws.{division_exists, division_is_only, gcd_exists}
 pub use Rattle.num_integer.specs.Checked.{AnswersWhere}
 pub use Rattle.num_integer.specs.Division.{IsCeiled, IsDivision, IsFloored, IsQuotient, IsTruncated}
@@ -32,9 +29,10 @@ pub use Rattle.num_integer.specs.Divisors.{Divides, IsEven, IsGreatestCommonDivi
 pub use Rattle.num_integer.specs.Only.{IsOnly}
 pub use Rattle.num_integer.specs.Range.{EachFits, IsRange}
 pub use Rattle.ratio64.specs.Decimal.{SpellsDecimal, decimal_text, places_of, units_of}
+unfoldable pub use Rattle.ratio64.specs.Decimal.{last_digits}
 pub use Rattle.ratio64.specs.Fraction.{AreEqual, IsExact, IsFraction, IsOutsideI64, IsReduced, fraction_cmp}
 pub use Rattle.ratio64.specs.Laws.{AnswerIsOnly, DecimalIsSpelled, RatioOfPartsIsOnly, ReadingIsOnly, RoundedEvenIsOnly, RoundedIsOnly, SpelledDecimalIsOnly, TextIsReadBack}
-pub use Rattle.ratio64.specs.Limiting.{IsNearestWithin, gap}
+pub use Rattle.ratio64.specs.Limiting.{IsNearestWithin, gap, AreNearestParts}
 pub use Rattle.ratio64.specs.Neighbours.{AreNeighbours, IsCloser, IsNearer}
 pub use Rattle.ratio64.specs.Ratio.{AnswersFraction, den_of, num_of, text_of}
 pub use Rattle.ratio64.specs.RatioText.{AnswersSpelled, HasLongPart, ReadsFraction, SpellsFraction, SpellsWhole, answer_read, unsigned_part, whole_of}

@@ -1,42 +1,25 @@
 -- The strings of decimal numbers: their digits as they are written.
-use Rattle.ratio64.proofs.Common.{◌≡◌, ◌≤◌, ◌+◌, ◌-◌, ◌*◌, ◌/◌, ◌%◌, ◌^◌, ◌<◌, ◌++◌, ℕ, zero, suc, ℤ, List, [], ◌∷◌, false, length, pos, replicate, unsigned_abs, FitsSigned, OnOk, Result, WritesInCalls, decimal, format_spec, sign_text, styled_decimal, is_negative, w64, append_assoc, arith, ap, inl, inr, refl, subst, sym, ◌∙◌, cases_lt, ints, decimal_digit, decimal_step, append-nil, length-append, mod-eq_of_lt, mul-add-mod_self_left, pow-succ', decimal_text}
+use Rattle.ratio64.proofs.Common.{◌≡◌, ◌≤◌, ◌+◌, ◌-◌, ◌*◌, ◌/◌, ◌%◌, ◌^◌, ◌<◌, ◌++◌, ℕ, zero, suc, ℤ, List, [], ◌∷◌, false, length, pos, replicate, unsigned_abs, FitsSigned, OnOk, Result, WritesInCalls, decimal, format_spec, sign_text, styled_decimal, is_negative, w64, append_assoc, arith, ap, inl, inr, refl, subst, sym, ◌∙◌, cases_lt, ints, decimal_digit, decimal_step, append-nil, length-append, pow-succ', decimal_text, last_digits, pow-le-pow_right, mod-add-div, replicate_more, one-le-pow}
 use Rattle.std.specs.Fmt.{char_count, padded_integral}
-use Rattle.ratio64.specs.Decimal.{last_digits}
 
 -- ---- powers of ten
 
 pub ten_up : (k : ℕ) → 0 < 10 ^ k
-ten_up zero = omega arith
-ten_up (suc k) = omega (arith, pow-succ' 10 k, ten_up k)
+ten_up k = omega (arith, one-le-pow k 10 (omega arith))
 
 pub ten_grows : (k n : ℕ) → k ≤ n → 10 ^ k ≤ 10 ^ n
-ten_grows k zero low = let same : k ≡ 0 = omega arith in rw same (omega arith)
-ten_grows k (suc n) low = elim (cases_lt k (suc n)) [
-  | inl less ↦ omega (arith, pow-succ' 10 n, ten_grows k n (omega arith))
-  | inr most ↦ let same : k ≡ suc n = omega arith in rw same (omega arith)
-]
+ten_grows k n low = pow-le-pow_right {n = 10} (omega arith) low
 
 -- ---- the last digits
 
-zeros : ℕ → List ℕ
-zeros k = replicate k 48
-
-zero_behind : (k : ℕ) → zeros k ++ (48 ∷ []) ≡ 48 ∷ zeros k
-unfolding zeros
-zero_behind zero = refl
-zero_behind (suc k) = ap (λ (t : List ℕ). 48 ∷ t) (zero_behind k)
-
-last_of_zero : (k : ℕ) → last_digits k 0 ≡ zeros k
-unfolding last_digits zeros
+last_of_zero : (k : ℕ) → last_digits k 0 ≡ replicate k 48
+unfolding last_digits
 last_of_zero zero = refl
-last_of_zero (suc k) = rw (last_of_zero k) (zero_behind k)
+last_of_zero (suc k) = rw (last_of_zero k) (replicate_more k 48 ∙ ap (λ (t : ℕ). replicate t 48) {y = suc k} (omega arith))
 
 -- a number with zeros in front of its digits
-filled : ℕ → ℕ → List ℕ
-filled k n = replicate (k - length (decimal n)) 48 ++ decimal n
-
-filled_is : (k n : ℕ) → n < 10 ^ suc k → n < 2 ^ 64 → filled (suc k) n ≡ last_digits (suc k) n
-unfolding filled last_digits zeros
+filled_is : (k n : ℕ) → n < 10 ^ suc k → n < 2 ^ 64 → replicate (suc k - length (decimal n)) 48 ++ decimal n ≡ last_digits (suc k) n
+unfolding last_digits
 filled_is zero n small fits = grind (arith, decimal_digit)
 filled_is (suc k) n small fits = elim (cases_lt n 10) [
   | inl one ↦
@@ -47,31 +30,27 @@ filled_is (suc k) n small fits = elim (cases_lt n 10) [
   | inr more ↦
       let rest = filled_is k (n / 10) (omega (arith, pow-succ' 10 (suc k))) (omega arith) in
       let long : length (decimal n) ≡ suc (length (decimal (n / 10))) = rw (decimal_step n more fits) (simp length-append (omega arith)) in
-      let zeros : suc (suc k) - length (decimal n) ≡ suc k - length (decimal (n / 10)) = omega arith in
-      rw (zeros, decimal_step n more fits) (sym (append_assoc (replicate (suc k - length (decimal (n / 10))) 48) (decimal (n / 10)) ((48 + n % 10) ∷ [])) ∙ ap (λ (t : List ℕ). t ++ (48 + n % 10) ∷ []) rest)
+      let lead : suc (suc k) - length (decimal n) ≡ suc k - length (decimal (n / 10)) = omega arith in
+      rw (lead, decimal_step n more fits, ← rest) (sym (append_assoc _ (decimal (n / 10)) _))
 ]
 
-rest_by_tens : (m n : ℕ) → 0 < m → (n % (10 * m) / 10 ≡ n / 10 % m) × (n % (10 * m) % 10 ≡ n % 10)
-rest_by_tens m n up =
-    let whole = n / (10 * m) in
-    let rest = n % (10 * m) in
-    let some : 0 < 10 * m = omega arith in
-    let front : n / 10 ≡ m * whole + rest / 10 = omega arith in
-    let below : rest / 10 < m = omega arith in
-    (sym (rw front (mul-add-mod_self_left m whole (rest / 10) ∙ mod-eq_of_lt below)), omega arith)
-
--- the last digits are those of the rest by the power
-last_of_rest : (k n : ℕ) → last_digits k (n % 10 ^ k) ≡ last_digits k n
+-- a multiple of the power changes no last digit
+last_of_sum : (k n w : ℕ) → last_digits k (n + 10 ^ k * w) ≡ last_digits k n
 unfolding last_digits
-last_of_rest zero n = refl
-last_of_rest (suc k) n =
-    let parts = rest_by_tens (10 ^ k) n (ten_up k) in
-    rw (pow-succ' 10 k, parts.1, parts.0, last_of_rest k (n / 10)) refl
+last_of_sum zero n w = refl
+last_of_sum (suc k) n w =
+    let whole : n + 10 ^ suc k * w ≡ n + 10 * (10 ^ k * w) = rw (pow-succ' 10 k) (omega arith) in
+    let front : (n + 10 ^ suc k * w) / 10 ≡ n / 10 + 10 ^ k * w = omega arith in
+    let last : (n + 10 ^ suc k * w) % 10 ≡ n % 10 = omega arith in
+    rw (front, last, last_of_sum k (n / 10) w) refl
+
+last_of_rest : (k n : ℕ) → last_digits k (n % 10 ^ k) ≡ last_digits k n
+last_of_rest k n = sym (last_of_sum k (n % 10 ^ k) (n / 10 ^ k)) ∙ ap (last_digits k) (mod-add-div n (10 ^ k))
 
 -- ---- what is written
 
-zero_padded : (k n : ℕ) → padded_integral (format_spec 32 0 4 k 18446744073709551615) false [] (decimal n) ≡ filled k n
-unfolding padded_integral char_count filled
+zero_padded : (k n : ℕ) → padded_integral (format_spec 32 0 4 k 18446744073709551615) false [] (decimal n) ≡ replicate (k - length (decimal n)) 48 ++ decimal n
+unfolding padded_integral char_count
 zero_padded k n = grind (arith, append-nil)
 
 some_padded : (k n : ℕ) → 0 < k → n < 10 ^ k → n < 2 ^ 64 → styled_decimal (format_spec 32 0 4 k 18446744073709551615) n ≡ last_digits k n

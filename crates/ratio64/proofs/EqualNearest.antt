@@ -1,22 +1,7 @@
 -- Equal fractions have the same nearest fraction with a small denominator, and with two small parts.
-use Rattle.std.specs.Prelude.{◌≡◌, ◌<◌, ◌≤◌, ◌*◌, ◌<ℤ◌, ◌-ℤ◌, ◌*ℤ◌, ℕ, ℤ, pos, unsigned_abs}
-use Rattle.std.proofs.Common.{ap, arith, mul-le-mul_left, ◌∙◌}
-use Rattle.std.proofs.Math.Nat.{eq_of_mul-eq-mul_left}
-use Rattle.std.proofs.lemmas.Int.{ints, unsigned_abs-mul}
-use Rattle.num_integer.proofs.ForCallers.{expand, factor_positive}
+use Rattle.ratio64.proofs.Common.{◌≡◌, ◌<◌, ◌≤◌, ◌*◌, ◌<ℤ◌, ◌-ℤ◌, ◌*ℤ◌, ℤ, pos, unsigned_abs, ap, arith, mul-le-mul_left, ◌∙◌, eq_of_mul-eq-mul_left, ints, unsigned_abs-mul, expand, factor_positive, IsExact, AreNearestParts, IsNearestWithin, gap}
 use Rattle.ratio64.proofs.FittingParts.{common_factor}
-use Rattle.ratio64.specs.Fraction.{IsExact}
-use Rattle.ratio64.specs.Limiting.{AreNearestParts, IsNearestWithin, gap}
 use Rattle.ratio64.specs.Laws as law
-
--- the gap from a fraction grows with its common factor
-gap_times : (n d s u v : ℤ) → gap (n *ℤ s) (d *ℤ s) u v ≡ gap n d u v * unsigned_abs s
-gap_times n d s u v =
-    let e : n *ℤ s *ℤ v -ℤ u *ℤ (d *ℤ s) ≡ (n *ℤ v -ℤ u *ℤ d) *ℤ s = simp expand in
-    ap unsigned_abs e ∙ unsigned_abs-mul (n *ℤ v -ℤ u *ℤ d) s
-
-moved : (g s v : ℕ) → g * s * v ≡ s * (g * v)
-moved g s v = omega arith
 
 -- the gaps from a fraction, each times a denominator, are in the order of those from its exact result
 module _ {a b n d : ℤ} (b_up : pos 0 <ℤ b) (exact : IsExact a b n d) where
@@ -26,9 +11,12 @@ module _ {a b n d : ℤ} (b_up : pos 0 <ℤ b) (exact : IsExact a b n d) where
       let (s, num, den) = common_factor exact in
       let up : pos 0 <ℤ s = factor_positive b_up exact.reduced.positive den in
       let size : 0 < unsigned_abs s = omega (arith, ints) in
-      let grown : (u v : ℤ) → gap a b u v ≡ gap n d u v * unsigned_abs s = λ u v. let same : gap a b u v ≡ gap (n *ℤ s) (d *ℤ s) u v = cc in same ∙ gap_times n d s u v in
-      let left : gap a b x y * unsigned_abs v ≡ unsigned_abs s * (gap n d x y * unsigned_abs v) = rw (grown x y) (moved (gap n d x y) (unsigned_abs s) (unsigned_abs v)) in
-      let right : gap a b u v * unsigned_abs y ≡ unsigned_abs s * (gap n d u v * unsigned_abs y) = rw (grown u v) (moved (gap n d u v) (unsigned_abs s) (unsigned_abs y)) in
+      let grown : (u v : ℤ) → gap a b u v ≡ gap n d u v * unsigned_abs s = λ u v.
+      let e : n *ℤ s *ℤ v -ℤ u *ℤ (d *ℤ s) ≡ (n *ℤ v -ℤ u *ℤ d) *ℤ s = simp expand in
+      let same : gap a b u v ≡ gap (n *ℤ s) (d *ℤ s) u v = cc in
+      same ∙ ap unsigned_abs e ∙ unsigned_abs-mul (n *ℤ v -ℤ u *ℤ d) s in
+      let left : gap a b x y * unsigned_abs v ≡ unsigned_abs s * (gap n d x y * unsigned_abs v) = rw (grown x y) (omega arith) in
+      let right : gap a b u v * unsigned_abs y ≡ unsigned_abs s * (gap n d u v * unsigned_abs y) = rw (grown u v) (omega arith) in
       (λ most. rw (left, right) (mul-le-mul_left (unsigned_abs s) most), λ e. eq_of_mul-eq-mul_left (unsigned_abs s) size _ _ (rw (left, right) at e))
 
 -- What is nearest to the exact result of a fraction is nearest to the fraction.

@@ -1,5 +1,5 @@
 -- The exact result of a fraction: its parts by their gcd, with a positive denominator.
-use Rattle.ratio64.proofs.Common.{◌≡◌, ◌≢◌, ◌↔◌, ◌≤◌, ◌<ℤ◌, ◌≤ℤ◌, ◌*ℤ◌, ℤ, pos, negsuc, neg_ℤ, suc, int_div, unsigned_abs, arith, ap, le-mul_of_pos_right, refl, subst, sym, ◌∙◌, ints, unsigned_abs-mul, Divides-refl, cancel, comm, divided_by_gcd, divisor_at_most, exact_quotient, expand, factor_positive, gcd-divisor, gcd-nonzero, gcd-positive, linear, mul-one, one_divides, products, sizes, gcd_exists, Divides, IsGreatestCommonDivisor, AreEqual, IsExact, IsFraction, IsReduced, positive_is_nonzero, same_pair, le_refl, divisor_size}
+use Rattle.ratio64.proofs.Common.{◌≡◌, ◌≢◌, ◌↔◌, ◌≤◌, ◌<ℤ◌, ◌≤ℤ◌, ◌*ℤ◌, ℤ, pos, negsuc, neg_ℤ, suc, int_div, unsigned_abs, arith, ap, refl, subst, sym, ◌∙◌, ints, Divides-refl, cancel, comm, divided_by_gcd, divisor_at_most, exact_quotient, expand, factor_positive, gcd-divisor, gcd-nonzero, gcd-positive, linear, mul-one, one_divides, products, gcd_exists, Divides, IsGreatestCommonDivisor, AreEqual, IsExact, IsFraction, IsReduced, positive_is_nonzero, same_pair, le_refl, divisor_size, neg-mul, mul-neg}
 
 -- ---- there is only one
 
@@ -48,13 +48,11 @@ coprime_is_exact {a} {b} {g} fraction up x small =
     let one : g ≡ pos 1 = omega (arith, linear) in
     record { fraction = fraction; reduced = record { positive = omega (arith, linear); lowest = subst (IsGreatestCommonDivisor a b) one x }; equal = record { cross = refl } }
 
-pub equal_negated : (a b : ℤ) → AreEqual (neg_ℤ a) (neg_ℤ b) a b
-equal_negated a b = record { cross = simp expand }
-
 pub exact_result_exists : (a b : ℤ) → IsFraction a b → (num den : ℤ) × IsExact a b num den
 exact_result_exists a (pos b) fraction = (_, _, exact_quotients (omega (arith, linear)) (gcd_exists a (pos b)).1)
 exact_result_exists a (negsuc b) fraction =
-    (_, _, same_result fraction (equal_negated a (negsuc b)) (exact_quotients (omega (arith, ints)) (gcd_exists (neg_ℤ a) (pos (suc b))).1))
+    let turned = neg-mul a (negsuc b) ∙ sym (mul-neg a (negsuc b)) in
+    (_, _, same_result fraction (record { cross = turned }) (exact_quotients (omega (arith, ints)) (gcd_exists (neg_ℤ a) (pos (suc b))).1))
 
 -- ---- fractions that are reduced already
 

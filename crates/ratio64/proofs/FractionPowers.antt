@@ -1,5 +1,5 @@
 -- Powers of reduced pairs are reduced, and those of equal fractions equal.
-use Rattle.ratio64.proofs.Common.{◌≡◌, ◌≢◌, ◌<◌, ◌≤◌, ◌^◌, ◌<ℤ◌, ◌*ℤ◌, ℤ, ℕ, pos, negsuc, zero, suc, FitsSigned, int_pow, w64, arith, ap, sym, ◌∙◌, one-le-pow, pow-succ', mul-le-mul_left, ints, Divides-trans, coprime_divides, expand, gcd-swap, int_pow-suc, int_pow-zero, power_of_zero, power_size, products, IsGreatestCommonDivisor, AreEqual, IsReduced}
+use Rattle.ratio64.proofs.Common.{◌≡◌, ◌≢◌, ◌<◌, ◌≤◌, ◌^◌, ◌<ℤ◌, ◌*ℤ◌, ℤ, ℕ, pos, negsuc, zero, suc, FitsSigned, int_pow, w64, arith, ap, sym, ◌∙◌, one-le-pow, pow-succ', mul-le-mul_left, ints, Divides-trans, coprime_divides, expand, gcd-swap, int_pow-suc, int_pow-zero, power_size, products, IsGreatestCommonDivisor, AreEqual, IsReduced}
 use Rattle.ratio64.proofs.ReducedParts.{coprime_by}
 use Rattle.ratio64.proofs.WideSums.{part_size}
 
@@ -13,9 +13,6 @@ power_of_product x y (suc k) = rw (int_pow-suc (x *ℤ y) k, int_pow-suc x k, in
 -- it is not 0 if the number is not
 pub power_nonzero : (x : ℤ) (k : ℕ) → x ≢ pos 0 → int_pow x k ≢ pos 0
 power_nonzero x k nonzero none = grind (arith, one-le-pow)
-
-pub power_of_zero_is : (x : ℤ) (k : ℕ) → 0 < k → x ≡ pos 0 → int_pow x k ≡ pos 0
-power_of_zero_is x k up none = rw none (ap pos (power_of_zero k up))
 
 power_positive : (x : ℤ) (k : ℕ) → pos 0 <ℤ x → pos 0 <ℤ int_pow x k
 power_positive (pos n) k up = omega (arith, ints, one-le-pow k n (omega (arith, ints)))

@@ -1,13 +1,8 @@
 -- The laws of specs/Laws.antt, by their names in small letters: lemmas of this file, and lemmas from elsewhere that are passed on.
-use Rattle.std.specs.Prelude.{◌≡◌, ◌*ℤ◌, unsigned_abs}
-use Rattle.std.specs.Cmp.{int_cmp_is}
-use Rattle.std.specs.declared.cmp.Ordering.TheVariants.{Less}
-use Rattle.std.proofs.Common.{arith, refl, sym}
-use Rattle.num_integer.proofs.ForCallers.{linear, multiples_apart}
+use Rattle.ratio64.proofs.Common.{◌≡◌, ◌*ℤ◌, unsigned_abs, int_cmp_is, Less, arith, refl, sym, linear, multiples_apart, equal_where_same}
 use Rattle.ratio64.proofs.ExactResults as results
 use Rattle.ratio64.proofs.NearestParts.{same_numerator}
 use Rattle.ratio64.specs.Laws as law
-use Rattle.ratio64.specs.ReducedPairs.{equal_where_same}
 pub use Rattle.ratio64.proofs.EqualFractions.{equal_products as products_of_equal_fractions, equal_sums as sums_of_equal_fractions}
 pub use Rattle.ratio64.proofs.EqualNearest.{nearest_to_exact_result}
 pub use Rattle.ratio64.proofs.ExactResults.{exact_result_exists}

@@ -1,81 +1,6 @@
--- The nearer of two neighbours is the nearest of all fractions up to the limit.
-use Rattle.std.specs.Prelude.{◌≡◌, ◌⊎◌, ◌<◌, ◌≤◌, ◌+◌, ◌*◌, ◌<ℤ◌, ◌≤ℤ◌, ◌+ℤ◌, ◌-ℤ◌, ◌*ℤ◌, ℤ, ℕ, pos, negsuc, neg_ℤ, suc, unsigned_abs, zero}
-use Rattle.std.proofs.Common.{arith, ap, sym, ◌∙◌, inl, inr, le-mul_of_pos_right, mul-le-mul_left, mul-pos, subst}
-use Rattle.std.proofs.Math.Nat.{le_of_mul-le-mul_left}
-use Rattle.std.proofs.lemmas.Nat.{mul-lt}
-use Rattle.std.proofs.lemmas.Int.{by_lt_z, ints, unsigned_abs-mul}
-use Rattle.num_integer.proofs.ForCallers.{Divides-sum, cancel, comm, divisor_at_most, expand, from_not_less, linear, multiples_apart, products, sizes}
-use Rattle.num_integer.specs.Divisors.{Divides}
-use Rattle.ratio64.specs.Fraction.{IsReduced}
-use Rattle.ratio64.specs.Limiting.{IsNearestWithin, gap}
-use Rattle.ratio64.specs.ReducedPairs.{denominator_divides, positive_is_nonzero}
+-- The nearer of two neighbours is the nearest of all fractions that do not lie between the two.
+use Rattle.ratio64.proofs.Common.{◌≡◌, ◌⊎◌, ◌<◌, ◌≤◌, ◌+◌, ◌*◌, ◌<ℤ◌, ◌≤ℤ◌, ◌+ℤ◌, ◌-ℤ◌, ◌*ℤ◌, ℤ, ℕ, pos, neg_ℤ, suc, unsigned_abs, zero, arith, ap, ◌∙◌, inl, inr, by_lt_z, le-mul_of_pos_right, le_of_mul-le-mul_left, le_of_mul-le-mul_right, mul-le-mul_left, mul-pos, subst, mul-lt, ints, Divides-sum, cancel, comm, divisor_at_most, expand, linear, from_not_less, multiples_apart, products, sizes, Divides, IsReduced, gap, IsNearer, denominator_divides, positive_is_nonzero, Neighbour, neg-mul}
 use Rattle.ratio64.proofs.ReducedParts.{coprime_by}
-use Rattle.ratio64.specs.declared.neighbours.Neighbour.{Neighbour}
-
--- ---- two neighbours, by a sign
-
--- For s = 1, a/b lies below n/d and c/e above it, at the gaps g and h, and the cross products of the two differ by 1. For s = -1 it is the other way
--- round.
-pub record AreBeside (s n d a b g c e h : ℤ) : Type 0 where
-  pub own : s *ℤ (n *ℤ b -ℤ a *ℤ d) ≡ g
-  pub other : s *ℤ (c *ℤ d -ℤ n *ℤ e) ≡ h
-  pub adjacent : s *ℤ (c *ℤ b -ℤ a *ℤ e) ≡ pos 1
-
--- A fraction over v lies past the first neighbour by i and past the other one by j. Its distance from n/d is z. Each is taken over both denominators.
-pub record LiesPast (d v b g e h z i j : ℤ) : Type 0 where
-  pub own : z *ℤ b ≡ g *ℤ v +ℤ d *ℤ i
-  pub other : neg_ℤ z *ℤ e ≡ h *ℤ v +ℤ d *ℤ j
-  pub both : i *ℤ e +ℤ j *ℤ b ≡ neg_ℤ v
-
-pub lies_past : {s n d a b g c e h : ℤ} → AreBeside s n d a b g c e h → (u v : ℤ) → LiesPast d v b g e h (s *ℤ (n *ℤ v -ℤ u *ℤ d)) (s *ℤ (a *ℤ v -ℤ u *ℤ b)) (s *ℤ (u *ℤ e -ℤ c *ℤ v))
-lies_past x u v =
-    let own = simp expand at (ap (λ (t : ℤ). t *ℤ v) x.own) in
-    let other = simp expand at (ap (λ (t : ℤ). t *ℤ v) x.other) in
-    let adjacent = simp expand at (ap (λ (t : ℤ). t *ℤ v) x.adjacent) in
-    record { own = simp expand (omega (arith, products)); other = simp expand (omega (arith, products)); both = simp expand (omega (arith, products)) }
-
--- ---- the distance past the nearer one and past the other one
-
-past_size : (z i : ℤ) (d v b g : ℕ) → z *ℤ pos b ≡ pos g *ℤ pos v +ℤ pos d *ℤ i → pos 0 ≤ℤ i → unsigned_abs z * b ≡ g * v + d * unsigned_abs i
-past_size z i d v b g e up = grind arith
-
-pub positive_by_product : (m n : ℕ) → 0 < m * n → 0 < n
-positive_by_product m zero up = absurd (omega arith)
-positive_by_product m (suc n) up = omega arith
-
-module _ {d v b g e h : ℕ} {z i j : ℤ} (p : LiesPast (pos d) (pos v) (pos b) (pos g) (pos e) (pos h) z i j) where
-  past_one : 0 < b → 0 < e → v < b + e → i <ℤ pos 0 → pos 0 ≤ℤ j
-  past_one b_up e_up small under = from_not_less (λ low.
-      let i_less = multiples_apart i (pos 0) (pos e) (omega (arith, ints)) under in
-      let j_less = multiples_apart j (pos 0) (pos b) (omega (arith, ints)) low in
-      omega (arith, products, p.both))
-
-  -- past the other one, whose gap is positive, its denominator is not 0
-  past_other : (i <ℤ pos 0 → pos 0 ≤ℤ j) → (0 < h) × (0 < v) → i <ℤ pos 0 → 0 < e
-  past_other past ups under =
-      let far = past_size (neg_ℤ z) j d v e h p.other (past under) in
-      let some = mul-lt 0 0 h v ups.0 ups.1 in
-      positive_by_product (unsigned_abs (neg_ℤ z)) e (omega arith)
-
-  -- if it is as near, it is equal to one of the two
-  pub no_nearer : (0 < d) × (0 < b) × (0 < h) × (0 < v) → (i <ℤ pos 0 → pos 0 ≤ℤ j) → g * e ≤ h * b
-      → (g * v ≤ unsigned_abs z * b) × (g * v ≡ unsigned_abs z * b → (i ≡ pos 0) ⊎ ((j ≡ pos 0) × (g * e ≡ h * b)))
-  no_nearer ups past_it near = by_lt_z i (pos 0)
-      (λ under.
-      let past = past_size (neg_ℤ z) j d v e h p.other (past_it under) in
-      let size : unsigned_abs (neg_ℤ z) ≡ unsigned_abs z = omega (arith, sizes) in
-      let times = ap (λ (t : ℕ). b * t) (rw size at past) in
-      let more = mul-le-mul_left v near in (
-        le_of_mul-le-mul_left {m = g * v} {n = unsigned_abs z * b} {k = e} (omega arith) (past_other past_it (ups.2, ups.3) under),
-        λ tie.
-            let ties = ap (λ (t : ℕ). e * t) tie in
-            let some = le-mul_of_pos_right {m = d * b} (unsigned_abs j) (mul-pos ups.0 ups.1) in
-            let level : h * b ≤ g * e = le_of_mul-le-mul_left {m = h * b} {n = g * e} {k = v} (omega arith) ups.3 in
-            inr (omega (arith, sizes), omega arith),
-      ))
-      (λ over.
-      let past = past_size z i d v b g p.own over in
-      (omega arith, λ tie. inl (omega (arith, sizes, le-mul_of_pos_right {m = d} (unsigned_abs i) ups.0))))
 
 -- ---- fractions that are equal to a reduced one
 
@@ -86,49 +11,147 @@ equal_least {a} {b} {u} x up e = (
   λ same. cancel b a u (positive_is_nonzero x.positive) (comm b a ∙ rw same at e ∙ comm u b),
 )
 
+-- a reduced fraction has no gap from itself, and a fraction that has none is equal to it
+pub itself_is_nearest : {n d u v : ℤ} → IsReduced n d → pos 0 <ℤ v → (gap n d n d * unsigned_abs v ≤ gap n d u v * unsigned_abs d)
+    × (gap n d n d * unsigned_abs v ≡ gap n d u v * unsigned_abs d → (d ≤ℤ v) × (v ≡ d → n ≡ u))
+itself_is_nearest {n} {d} {u} {v} x up =
+    let own : gap n d n d ≡ 0 = omega (arith, sizes) in
+    let apart = le-mul_of_pos_right {m = unsigned_abs d} (gap n d u v) (omega (arith, sizes, x.positive)) in
+    rw own (omega arith, λ same. equal_least {u = u} x up (omega (arith, sizes)))
+
 -- numbers of which a combination is 1
-pub reduced_by : (x y a b : ℤ) → pos 0 <ℤ b → x *ℤ a +ℤ y *ℤ b ≡ pos 1 → IsReduced a b
+reduced_by : (x y a b : ℤ) → pos 0 <ℤ b → x *ℤ a +ℤ y *ℤ b ≡ pos 1 → IsReduced a b
 reduced_by x y a b up one = record { positive = up; lowest = coprime_by (λ d left right. subst (λ (t : ℤ). Divides d t) one (Divides-sum x y left right)) }
 
--- so the neighbours are reduced
-pub beside_reduced : {s n d a b g c e h : ℤ} → AreBeside s n d a b g c e h → pos 0 <ℤ b → pos 0 <ℤ e → IsReduced a b × IsReduced c e
-beside_reduced {s} {n} {d} {a} {b} {g} {c} {e} x b_up e_up =
-    let one = simp expand at x.adjacent in
-    (reduced_by (neg_ℤ (s *ℤ e)) (s *ℤ c) a b b_up (simp expand (omega (arith, linear))), reduced_by (s *ℤ b) (neg_ℤ (s *ℤ a)) c e e_up (simp expand (omega (arith, linear))))
+-- ---- a fraction that does not lie between two neighbours
+
+-- The fraction l is below n/d and u is above it, at their gaps. The cross products of the two differ by 1.
+pub record AreAround (n d : ℕ) (l u : Neighbour) : Type 0 where
+  pub from_below : n * l.den ≡ l.num * d + l.gap
+  pub from_above : u.num * d ≡ n * u.den + u.gap
+  pub adjacent : u.num * l.den ≡ l.num * u.den + 1
+  pub ups : (0 < d) × (0 < l.den) × (0 < l.gap) × (0 < u.gap)
+
+-- The denominator or the numerator of a/v is too small for a fraction between l and u.
+abbrev pub IsOutside : Neighbour → Neighbour → ℤ → ℤ → Type 0
+IsOutside l u a v = ((0 < u.den) × (v <ℤ pos (l.den + u.den))) ⊎ ((0 < l.num) × (0 < u.num) × (a <ℤ pos (l.num + u.num)))
+
+-- x lies between n/d and a/v, or is a/v, so that the gaps add up.
+abbrev pub IsPast : ℕ → ℕ → Neighbour → ℤ → ℤ → Type 0
+IsPast n d x a v = gap (pos n) (pos d) a v * x.den ≡ x.gap * unsigned_abs v + d * gap (pos x.num) (pos x.den) a v
+
+-- numbers of which such a combination is small are not both negative
+not_both : {i j k : ℤ} (b e : ℕ) → 0 < b → 0 < e → i *ℤ pos e +ℤ j *ℤ pos b ≡ neg_ℤ k → k <ℤ pos (b + e) → i <ℤ pos 0 → pos 0 ≤ℤ j
+not_both {i} {j} b e b_up e_up both small under = from_not_less (λ low.
+    let i_less = multiples_apart i (pos 0) (pos e) (omega (arith, ints)) under in
+    let j_less = multiples_apart j (pos 0) (pos b) (omega (arith, ints)) low in
+    omega (arith, ints, products, both))
+
+past_size : (z v i : ℤ) (d b g : ℕ) → z *ℤ pos b ≡ pos g *ℤ v +ℤ pos d *ℤ i → pos 0 <ℤ v → pos 0 ≤ℤ i
+    → unsigned_abs z * b ≡ g * unsigned_abs v + d * unsigned_abs i
+past_size z v i d b g e v_up up = grind arith
+
+turned_size : (x y : ℤ) → unsigned_abs (x -ℤ y) ≡ unsigned_abs (y -ℤ x)
+turned_size x y = omega (arith, sizes)
+
+-- a fraction that does not lie between the two is past one of them
+past_one : {n d : ℕ} {l u : Neighbour} {a v : ℤ} → AreAround n d l u → pos 0 <ℤ v → IsOutside l u a v → IsPast n d l a v ⊎ IsPast n d u a v
+past_one {n} {d} {l} {u} {a} {v} h v_up outside =
+    let below = simp expand at (ap (λ (t : ℕ). pos t *ℤ v) h.from_below) in
+    let above = simp expand at (ap (λ (t : ℕ). pos t *ℤ v) h.from_above) in
+    let dens = simp expand at (ap (λ (t : ℕ). pos t *ℤ v) h.adjacent) in
+    let nums = simp expand at (ap (λ (t : ℕ). pos t *ℤ a) h.adjacent) in
+    let i = pos l.num *ℤ v -ℤ a *ℤ pos l.den in
+    let j = a *ℤ pos u.den -ℤ pos u.num *ℤ v in
+    by_lt_z i (pos 0)
+    (λ under.
+    let up : pos 0 ≤ℤ j = elim outside [
+      | inl k ↦ not_both {i = i} {k = v} l.den u.den h.ups.1 k.0 (simp expand (omega (arith, products))) k.1 under
+      | inr k ↦ not_both {i = i} {k = a} l.num u.num k.0 k.1 (simp expand (omega (arith, products))) k.2 under
+    ] in
+    let far = past_size (a *ℤ pos d -ℤ pos n *ℤ v) v j d u.den u.gap (simp expand (omega (arith, products))) v_up up in
+    inr (rw (turned_size (pos n *ℤ v) (a *ℤ pos d), turned_size (pos u.num *ℤ v) (a *ℤ pos u.den)) far))
+    (λ up. inl (past_size (pos n *ℤ v -ℤ a *ℤ pos d) v i d l.den l.gap (simp expand (omega (arith, products))) v_up up))
 
 -- ---- the nearest
 
-pub same_size : (s z : ℤ) → unsigned_abs s ≡ 1 → unsigned_abs (s *ℤ z) ≡ unsigned_abs z
-same_size s z one = rw (unsigned_abs-mul s z, one) (omega arith)
+pub positive_by_product : (m n : ℕ) → 0 < m * n → 0 < n
+positive_by_product m zero up = absurd (omega arith)
+positive_by_product m (suc n) up = omega arith
 
--- of the neighbours x and y the first is the nearer one; if both are equally near, it has the smaller denominator, or the same and the smaller numerator
-pub nearest_of : {n d max : ℕ} {x y : Neighbour} (s : ℤ) → unsigned_abs s ≡ 1 → AreBeside s (pos n) (pos d) (pos x.num) (pos x.den) (pos x.gap) (pos y.num) (pos y.den) (pos y.gap)
-    → (0 < d) × (0 < x.den) × (0 < y.den) → 0 < y.gap → (x.den ≤ max) × (max < x.den + y.den) → x.gap * y.den ≤ y.gap * x.den
-    → (x.gap * y.den ≡ y.gap * x.den → (x.den ≤ y.den) × (y.den ≡ x.den → x.num ≤ y.num)) → IsNearestWithin (pos n) (pos d) (pos max) (pos x.num) (pos x.den) × IsReduced (pos x.num) (pos x.den)
-nearest_of {n} {d} {max} {x} {y} s one beside ups gap_up bounded near smaller =
-    let own : gap (pos n) (pos d) (pos x.num) (pos x.den) ≡ x.gap = sym (same_size s _ one) ∙ ap unsigned_abs beside.own in
-    let nearest : IsNearestWithin (pos n) (pos d) (pos max) (pos x.num) (pos x.den) = record {
-      positive = omega (arith, ints);
-      bounded = omega (arith, ints);
-      nearest = λ u v up most. rw own (past u v up most).0;
-      tie = λ u v up most same. (past u v up most).1 (rw own at same);
-    } in
-    (nearest, (beside_reduced beside (omega (arith, ints, ups.1)) (omega (arith, ints, ups.2))).0)
-  where
-    past : (u v : ℤ) → pos 0 <ℤ v → v ≤ℤ pos max → (x.gap * unsigned_abs v ≤ gap (pos n) (pos d) u v * x.den)
-        × (x.gap * unsigned_abs v ≡ gap (pos n) (pos d) u v * x.den → (pos x.den ≤ℤ v) × (v ≡ pos x.den → pos x.num ≤ℤ u))
-    past u (negsuc v) up most = absurd (omega (arith, ints))
-    past u (pos v) up most =
-        let reduced = beside_reduced beside (omega (arith, ints, ups.1)) (omega (arith, ints, ups.2)) in
-        let h = rw (same_size s (pos n *ℤ pos v -ℤ u *ℤ pos d) one) at (no_nearer (lies_past beside u (pos v)) (ups.0, ups.1, gap_up, omega (arith, ints)) (past_one (lies_past beside u (pos v)) ups.1 ups.2 (omega (arith, ints))) near) in (
-          h.0,
-          λ tie. elim (h.1 tie) [
-            | inl none ↦
-                let least = equal_least {a = pos x.num} {u = u} {v = pos v} reduced.0 up (omega (arith, sizes, same_size s (pos x.num *ℤ pos v -ℤ u *ℤ pos x.den) one, none)) in
-                (least.0, λ same. omega (arith, linear, least.1 same))
-            | inr other ↦
-                let least = equal_least {a = pos y.num} {u = u} {v = pos v} reduced.1 up (omega (arith, sizes, same_size s (u *ℤ pos y.den -ℤ pos y.num *ℤ pos v) one, other.0)) in
-                let less = smaller other.1 in
-                (omega (arith, ints, least.0), λ same. omega (arith, ints, least.0, least.1 (omega (arith, ints, least.0, same)), less.1 (omega (arith, ints, least.0, same))))
-          ],
-        )
+-- past the farther of two, whose gaps are g/b and h/e, a fraction is as near as the nearer one only if it is equal to the farther one
+past_farther : (p b e g h v d j : ℕ) → p * e ≡ h * v + d * j → g * e ≤ h * b → (0 < d) × (0 < b) × (0 < h) × (0 < v)
+    → (g * v ≤ p * b) × (g * v ≡ p * b → (j ≡ 0) × (0 < e) × (g * e ≡ h * b))
+past_farther p b e g h v d j far near ups =
+    let some = mul-lt 0 0 h v ups.2 ups.3 in
+    let up = positive_by_product p e (omega arith) in
+    let times = ap (λ (t : ℕ). b * t) far in
+    let more = mul-le-mul_left v near in (
+      le_of_mul-le-mul_left {m = g * v} {n = p * b} {k = e} (omega arith) up,
+      λ tie.
+          let ties = ap (λ (t : ℕ). e * t) tie in
+          let apart = le-mul_of_pos_right {m = d * b} j (mul-pos ups.0 ups.1) in
+          let level : h * b ≤ g * e = le_of_mul-le-mul_left {m = h * b} {n = g * e} {k = v} (omega arith) ups.3 in
+          (omega arith, up, omega arith),
+    )
+
+-- z is as near to n/d as a/v. If they are equally near, its denominator is at most that of a/v, and over the same denominator its numerator is.
+abbrev pub IsAsNear : ℕ → ℕ → Neighbour → ℤ → ℤ → Type 0
+IsAsNear n d z a v = (gap (pos n) (pos d) (pos z.num) (pos z.den) * unsigned_abs v ≤ gap (pos n) (pos d) a v * z.den)
+    × (gap (pos n) (pos d) (pos z.num) (pos z.den) * unsigned_abs v ≡ gap (pos n) (pos d) a v * z.den → (pos z.den ≤ℤ v) × (v ≡ pos z.den → pos z.num ≤ℤ a))
+
+-- x is the nearer one of the two, and of two that are equally near the smaller one by its denominator, and then by its numerator
+nearest_of : (n d : ℕ) (x y : Neighbour) (a : ℤ) {v : ℤ} → pos 0 <ℤ v → gap (pos n) (pos d) (pos x.num) (pos x.den) ≡ x.gap → (0 < d) × (0 < y.gap)
+    → IsReduced (pos x.num) (pos x.den) → (0 < y.den → IsReduced (pos y.num) (pos y.den)) → x.gap * y.den ≤ y.gap * x.den
+    → (x.gap * y.den ≡ y.gap * x.den → (x.den ≤ y.den) × (y.den ≡ x.den → x.num ≤ y.num)) → IsPast n d x a v ⊎ IsPast n d y a v → IsAsNear n d x a v
+nearest_of n d x y a {v} up own ups reduced other near smaller (inl past) =
+    rw own (
+      omega arith,
+      λ tie.
+          let apart = le-mul_of_pos_right {m = d} (gap (pos x.num) (pos x.den) a v) ups.0 in
+          let least = equal_least {u = a} reduced up (omega (arith, sizes)) in
+          (least.0, λ same. omega (arith, linear, least.1 same)),
+    )
+nearest_of n d x y a {v} up own ups reduced other near smaller (inr past) =
+    let x_up : 0 < x.den = omega (arith, ints, reduced.positive) in
+    let farther = past_farther (gap (pos n) (pos d) a v) x.den y.den x.gap y.gap (unsigned_abs v) d _ past near (ups.0, x_up, ups.1, omega (arith, sizes)) in
+    rw own (
+      farther.0,
+      λ tie.
+          let level = farther.1 tie in
+          let least = equal_least {u = a} (other level.1) up (omega (arith, sizes, level.0)) in
+          let less = smaller level.2 in
+          let even : v ≡ pos x.den → y.den ≡ x.den = λ same. omega (arith, ints, least.0, less.0) in
+          (omega (arith, ints, least.0), λ same. omega (arith, ints, least.1 (omega (arith, ints, even same)), less.1 (even same))),
+    )
+
+-- the nearer one is reduced, and no fraction that does not lie between the two is nearer
+pub nearer_is_nearest : {n d : ℕ} {l u z : Neighbour} → AreAround n d l u → IsNearer l u z
+    → IsReduced (pos z.num) (pos z.den) × ((a v : ℤ) → pos 0 <ℤ v → IsOutside l u a v → IsAsNear n d z a v)
+nearer_is_nearest {n} {d} {l} {u} h near =
+    let left = neg-mul (pos u.den) (pos l.num) in
+    let right = neg-mul (pos l.num) (pos u.den) in
+    let lower = reduced_by (neg_ℤ (pos u.den)) (pos u.num) (pos l.num) (pos l.den) (omega (arith, ints, h.ups)) (omega (arith, products)) in
+    let upper = λ (up : 0 < u.den). reduced_by (pos l.den) (neg_ℤ (pos l.num)) (pos u.num) (pos u.den) (omega (arith, ints)) (omega (arith, products)) in
+    elim near.is [
+      | inl k ↦
+          let own : gap (pos n) (pos d) (pos l.num) (pos l.den) ≡ l.gap = omega (arith, sizes, h.from_below) in
+          let smaller : u.den ≡ l.den → l.num ≤ u.num = λ same.
+          le_of_mul-le-mul_right {m = l.num} {n = u.num} {k = l.den} (omega (arith, rw same at h.adjacent)) h.ups.1 in
+          rw k.0 (
+            lower,
+            λ a v up outside. nearest_of n d l u a up own (h.ups.0, h.ups.3) lower upper k.1 (λ tie. (k.2 tie, smaller)) (past_one h up outside),
+          )
+      | inr k ↦
+          let own : gap (pos n) (pos d) (pos u.num) (pos u.den) ≡ u.gap = omega (arith, sizes, h.from_above) in
+          let some = mul-pos h.ups.3 h.ups.1 in
+          let reduced = upper (positive_by_product l.gap u.den (omega (arith, k.1))) in
+          let larger : u.gap * l.den ≡ l.gap * u.den → (u.den ≤ l.den) × (l.den ≡ u.den → u.num ≤ l.num) = λ tie.
+          let strict = k.2 tie in (omega arith, λ same. absurd (omega arith)) in
+          rw k.0 (
+            reduced,
+            λ a v up outside.
+                let past : IsPast n d u a v ⊎ IsPast n d l a v = elim (past_one h up outside) [ inl far ↦ inr far | inr far ↦ inl far ] in
+                nearest_of n d u l a up own (h.ups.0, h.ups.2) reduced (λ _. lower) k.1 larger past,
+          )
+    ]

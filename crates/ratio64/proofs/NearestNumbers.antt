@@ -1,14 +1,11 @@
 -- Quotients by a positive number, and the nearest integer.
-use Rattle.ratio64.proofs.Common.{◌≡◌, ◌⊎◌, ◌<◌, ◌≤◌, ◌*◌, ◌^◌, ◌<ℤ◌, ◌≤ℤ◌, ◌+ℤ◌, ◌-ℤ◌, ◌*ℤ◌, ℤ, pos, negsuc, neg_ℤ, unsigned_abs, FitsSigned, MatchOption, Option, Width, w64, w128, of_z, to_z, ap, arith, inl, inr, by_lt_z, ints, LiesWithin, expand, linear, multiples_apart, product_from_zero, products, sizes, zero_or_not, division_exists, AnswersWhere, IsDivision, IsFloored, IsQuotient, IsTruncated, IsEven, IsOnly, EachFits, IsRange, within_fits, RoundedEvenIsOnly, RoundedIsOnly, IsRounded, IsRoundedEven}
+use Rattle.ratio64.proofs.Common.{◌≡◌, ◌⊎◌, ◌<◌, ◌≤◌, ◌*◌, ◌^◌, ◌<ℤ◌, ◌≤ℤ◌, ◌+ℤ◌, ◌-ℤ◌, ◌*ℤ◌, ℤ, pos, neg_ℤ, unsigned_abs, FitsSigned, MatchOption, Option, Width, w64, w128, of_z, to_z, ap, arith, inl, inr, by_lt_z, ints, LiesWithin, expand, linear, multiples_apart, product_from_zero, products, sizes, zero_or_not, division_exists, AnswersWhere, IsDivision, IsFloored, IsQuotient, IsTruncated, IsEven, IsOnly, EachFits, IsRange, within_fits, RoundedEvenIsOnly, RoundedIsOnly, IsRounded, IsRoundedEven}
 
 -- ---- a quotient by a positive number fits if the dividend does
 
 -- a number between 0 and one that fits
 pub between_fits : (w : Width) (n z : ℤ) → FitsSigned w n → LiesWithin n z → FitsSigned w z
-between_fits w (pos n) (pos z) fits within = let low = fits.sfits in record { sfits = omega (arith, ints) }
-between_fits w (pos n) (negsuc z) fits within = absurd (omega (arith, ints))
-between_fits w (negsuc n) (pos z) fits within = record { sfits = omega (arith, ints) }
-between_fits w (negsuc n) (negsuc z) fits within = let low = fits.sfits in record { sfits = omega (arith, ints) }
+between_fits w n z fits within = grind (arith, ints)
 
 module _ {n d q r : ℤ} (up : pos 0 <ℤ d) (h : IsDivision n d q r) where
   quotient_within : LiesWithin n q

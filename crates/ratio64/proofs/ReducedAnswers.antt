@@ -1,9 +1,9 @@
 -- What calls return for fractions in lowest terms, and for powers of a negative degree.
-use Rattle.ratio64.proofs.Common.{◌≡◌, ◌⊎◌, ◌<◌, ℤ, ℕ, pos, Result, Ok, Err, FitsSigned, int_pow, w64, inl, inr, refl, AreEqual-sym, positive_is_nonzero, IsExact, IsOutsideI64, IsReduced, AnswersFraction, num_of, den_of, Ratio, RatioError, ZeroDenominator, NotFitting}
+use Rattle.ratio64.proofs.Common.{◌≡◌, ◌⊎◌, ◌<◌, ℤ, ℕ, pos, Result, Ok, Err, FitsSigned, int_pow, w64, inl, inr, refl, AreEqual-sym, positive_is_nonzero, IsExact, IsOutsideI64, IsReduced, AnswersFraction, num_of, den_of, Ratio, RatioError, ZeroDenominator, NotFitting, ap, power_of_zero}
 use Rattle.ratio64.proofs.EqualFractions.{equal_fractions_answered_alike}
 use Rattle.ratio64.proofs.ExactResults.{reduced_is_exact}
 use Rattle.ratio64.proofs.FractionAnswers.{exact_answer}
-use Rattle.ratio64.proofs.FractionPowers.{base_fits, equal_powers, power_nonzero, power_of_zero_is, power_reduced}
+use Rattle.ratio64.proofs.FractionPowers.{base_fits, equal_powers, power_nonzero, power_reduced}
 
 pub outside_answer : {a b : ℤ} → IsOutsideI64 a b → AnswersFraction a b (Err NotFitting)
 outside_answer far = record {
@@ -45,7 +45,7 @@ outside_powers k up far = record {
 
 -- if the exact result of a fraction does not fit, those of its powers do not
 pub powers_refused : {a b : ℤ} (e : RatioError) (k : ℕ) → 0 < k → AnswersFraction a b (Err e) → AnswersFraction (int_pow a k) (int_pow b k) (Err e)
-powers_refused {b = b} ZeroDenominator k up h = zero_answer (power_of_zero_is b k up (h.zero_denominator.0 refl))
+powers_refused {b = b} ZeroDenominator k up h = zero_answer (rw (h.zero_denominator.0 refl) (ap pos (power_of_zero k up)))
 powers_refused NotFitting k up h = outside_answer (outside_powers k up (h.not_fitting.0 refl))
 
 -- the powers of its exact result have the results of its powers

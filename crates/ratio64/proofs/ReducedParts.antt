@@ -1,11 +1,9 @@
 -- Reduced pairs that come of another: negated, of a remainder.
-use Rattle.ratio64.proofs.Common.{◌≡◌, ◌+ℤ◌, ◌*ℤ◌, ℤ, pos, negsuc, neg_ℤ, zero, suc, unsigned_abs, FitsSigned, w64, arith, subst, ints, Divides-sum, linear, mul-neg, one_divides, products, Divides, IsGreatestCommonDivisor, IsReduced}
+use Rattle.ratio64.proofs.Common.{◌≡◌, ◌+ℤ◌, ◌*ℤ◌, ℤ, pos, negsuc, neg_ℤ, zero, suc, unsigned_abs, FitsSigned, w64, arith, subst, ints, Divides-sum, one_divides, products, Divides, IsGreatestCommonDivisor, IsReduced, Divides-trans}
 
 -- a number has the divisors of its negation
 pub negated_divides : {d v : ℤ} → Divides d (neg_ℤ v) → Divides d v
-negated_divides {d} h =
-    let product = h.product in
-    record { factor = neg_ℤ h.factor; product = rw (mul-neg d h.factor) (omega (arith, linear)) }
+negated_divides h = Divides-trans h (record { factor = negsuc 0; product = omega (arith, products) })
 
 -- numbers are coprime if each common divisor divides 1
 pub coprime_by : {a b : ℤ} → ((e : ℤ) → Divides e a → Divides e b → Divides e (pos 1)) → IsGreatestCommonDivisor a b (pos 1)

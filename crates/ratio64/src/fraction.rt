@@ -38,6 +38,7 @@ impl Ratio {
     ///
     /// - [`RatioError::ZeroDenominator`] if `den` is 0;
     /// - [`RatioError::NotFitting`] if a part of the reduced fraction does not fit an `i64`.
+    #[tactic(auto, using(crate::proofs::FittingParts::positive_is_answered))]
     pub fn new(num: i64, den: i64) -> Result<Self, RatioError>
         ensures fraction { AnswersFraction num den result }
         ensures refused { IfErr result (λ _. den ≤ℤ pos 0) }
@@ -48,6 +49,7 @@ impl Ratio {
 
     /// Returns the integer as a fraction over 1, which a constant can do too.
     /// `Ok(Ratio::from_integer(5))` is `Ratio::new(5, 1)`.
+    #[tactic(auto, using(crate::proofs::ExactResults::whole_is_exact))]
     pub const fn from_integer(num: i64) -> Self
         ensures num { num_of result ≡ num }
         ensures den { den_of result ≡ pos 1 }
@@ -170,6 +172,7 @@ impl Ratio {
     ///
     /// - [`RatioError::ZeroDenominator`] if the fraction is 0;
     /// - [`RatioError::NotFitting`] if the numerator is `i64::MIN`.
+    #[tactic(auto, using(crate::proofs::FittingParts::positive_over_other))]
     pub fn checked_recip(&self) -> Result<Self, RatioError>
         ensures reciprocal { AnswersFraction (den_of self.now) (num_of self.now) result }
         ensures refused { IfErr result

@@ -9,6 +9,7 @@ ghost use Rattle.ratio64.specs.RatioText.{unsigned_part};
 
 /// Returns `true` if the text is an optional `-`, then one or more digits, and nothing else.
 /// `is_integer("-007")` is `true`, and `is_integer("+7")` is `false`.
+#[tactic(auto, using(crate::proofs::ReadTexts::tells_numeral))]
 pub fn is_integer(text: &str) -> bool
     ensures word { result ≡ is_integer_word text.now }
     ensures numeral { IsTrue result ↔ IsNumeral 10 (unsigned_part text.now) }

@@ -30,6 +30,7 @@ impl Neighbour {
 
 /// Returns the neighbours of `num / den`: the largest fraction below it and the smallest one above it
 /// whose denominators are at most `max`. The larger gap falls at each iteration, as in Euclid's algorithm.
+#[tactic(auto, using(crate::proofs::NeighbourIterations::gaps_differ))]
 pub(crate) fn neighbours(num: u64, den: u64, max: u64) -> (Neighbour, Neighbour)
     requires positive { 0 < max }
     requires above_max { max < den }
@@ -61,6 +62,7 @@ pub(crate) fn neighbours(num: u64, den: u64, max: u64) -> (Neighbour, Neighbour)
 
 /// Moves a neighbour toward the other one as far as it may go: each step adds the parts of the other
 /// one.
+#[tactic(auto, using(crate::proofs::NeighbourIterations::steps_within))]
 fn closer(side: Neighbour, other: Neighbour, max: u64) -> Neighbour
     requires gap { 0 < other.gap × other.gap < side.gap }
     requires den { 0 < other.den × side.den + other.den ≤ max }

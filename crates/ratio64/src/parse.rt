@@ -89,6 +89,7 @@ impl FromStr for Ratio {
 }
 
 /// Returns the fraction of two integers.
+#[tactic(auto, using(crate::proofs::WideSums::read))]
 fn fraction_of(num: &str, den: &str) -> Result<Ratio, ParseRatioError>
     requires num { IsNumeral 10 (unsigned_part num.now) }
     requires den { IsNumeral 10 (unsigned_part den.now) }

@@ -1,9 +1,5 @@
-use Rattle.ratio64.proofs.NeighbourIterations.{above_closer, below_closer, gaps_differ}
-use Rattle.std.proofs.Common.{arith}
+use Rattle.ratio64.proofs.NeighbourIterations.{above_closer, below_closer}
 use Rattle.ratio64.proofs.neighbours.neighbours.Goals as goal
-
-pub closer-below-requires-clause-gap : goal.closer-below-requires-clause-gap
-closer-below-requires-clause-gap c = grind (arith, gaps_differ)
 
 pub iterations-preserved : goal.iterations-preserved
 iterations-preserved c = below_closer c.iterations.invariant c.closer-below.ensures

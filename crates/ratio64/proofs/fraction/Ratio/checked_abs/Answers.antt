@@ -12,11 +12,8 @@ invariant_of-result c =
 
 pub returns-in-Some-clause-magnitude : goal.returns-in-Some-clause-magnitude
 returns-in-Some-clause-magnitude c =
-    let x = c.args.self.now in
-    let num_fits = magnitude_fits (num_of x) (search rules) (search rules) in
-    reduced_answer _ (search rules) (search rules) num_fits (search rules)
+    reduced_answer _ (search rules) (search rules) (magnitude_fits (num_of c.args.self.now) (search rules) (search rules)) (search rules)
 
 pub returns-in-None-clause-magnitude : goal.returns-in-None-clause-magnitude
 returns-in-None-clause-magnitude c =
-    let x = c.args.self.now in
-    reduced_refused (magnitude_reduced (num_of x) x.reduced) (inl (magnitude_outside (num_of x) (search rules)))
+    reduced_refused (magnitude_reduced _ c.args.self.now.reduced) (inl (magnitude_outside (num_of c.args.self.now) (search rules)))
