@@ -1,5 +1,5 @@
 -- Reduced pairs that come of another: negated, of a remainder.
-use Rattle.ratio64.proofs.Common.{◌≡◌, ◌+ℤ◌, ◌*ℤ◌, ℤ, pos, negsuc, neg_ℤ, zero, suc, unsigned_abs, FitsSigned, w64, arith, subst, ints, Divides-sum, one_divides, products, Divides, IsGreatestCommonDivisor, IsReduced, Divides-trans}
+use Rattle.ratio64.proofs.Common.{◌≡◌, ◌+ℤ◌, ◌*ℤ◌, ℤ, pos, negsuc, neg_ℤ, unsigned_abs, FitsSigned, w64, arith, subst, ints, Divides-sum, one_divides, products, Divides, IsGreatestCommonDivisor, IsReduced, Divides-trans}
 
 -- a number has the divisors of its negation
 pub negated_divides : {d v : ℤ} → Divides d (neg_ℤ v) → Divides d v
@@ -22,8 +22,7 @@ magnitude_fits (pos n) fits negation_fits = fits
 magnitude_fits (negsuc n) fits negation_fits = negation_fits
 
 pub magnitude_outside : (n : ℤ) → ¬ (FitsSigned w64 (neg_ℤ n)) → ¬ (FitsSigned w64 (pos (unsigned_abs n)))
-magnitude_outside (pos zero) outside fits = outside fits
-magnitude_outside (pos (suc n)) outside fits = let low = fits.sfits in outside (record { sfits = omega (arith, ints) })
+magnitude_outside (pos n) outside fits = let low = fits.sfits in outside (record { sfits = omega (arith, ints) })
 magnitude_outside (negsuc n) outside fits = outside fits
 
 -- a remainder by the denominator stays over it
