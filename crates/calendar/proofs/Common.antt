@@ -1,5 +1,5 @@
 -- The names of the libraries and of the specs that the proofs cite, passed on from one place. Declares nothing.
-pub use Rattle.std.proofs.Common.{Fits, add-one, ap, append_assoc, arith, inl, inr, int_div, int_rem, le_refl, of_z, refl, rules, subst, sym, to_z, ◌∙◌}
+pub use Rattle.std.proofs.Common.{add-one, ap, append_assoc, arith, inl, inr, int_rem, le_refl, of_z, refl, rules, subst, sym, to_z, ◌∙◌}
 pub use Rattle.std.proofs.Math.Logic.{∥∥₁_elim, ∥∥₁_prop}
 pub use Rattle.std.proofs.Math.Nat.{div-add-mod}
 pub use Rattle.std.proofs.Math.Seq.{drop-append_seam, take-append_seam}
@@ -8,7 +8,7 @@ pub use Rattle.std.proofs.lemmas.Bool.{cases_lt, iff_false}
 pub use Rattle.std.proofs.lemmas.Bool.Decides.{nat_tests}
 pub use Rattle.std.proofs.lemmas.Fmt.{decimal-digits_value, decimal_digit, decimal_is_IsNumeral, decimal_step, first_decimal, length-decimal-le, length-decimal-le_succ}
 pub use Rattle.std.proofs.lemmas.Grind.{merely}
-pub use Rattle.std.proofs.lemmas.Int.{by_lt_z, clamps, ints, quot-rem, rem_below, to_z-of_z, to_z_pos}
+pub use Rattle.std.proofs.lemmas.Int.{by_lt_z, clamps, ints, to_z-of_z, to_z_pos}
 pub use Rattle.std.proofs.lemmas.List.{append-nil, get_or-drop, length-append, length-replicate, length_push, take-append-drop, take-take}
 pub use Rattle.std.proofs.lemmas.List.Elements.{All-get_or}
 pub use Rattle.std.proofs.lemmas.List.FromFn.{get_or-range_with_len}
@@ -16,12 +16,12 @@ pub use Rattle.std.proofs.lemmas.List.Sums.{sum_by-take-le, sum_by_more}
 pub use Rattle.std.proofs.lemmas.Nat.{mod_below}
 pub use Rattle.std.proofs.lemmas.Slice.Eq.{text_from_reads}
 pub use Rattle.std.proofs.lemmas.Str.{digit_value_digit}
-pub use Rattle.std.proofs.lemmas.Str.Parse.{IsNumeralModel, digit_at, digit_from_value, digits_value_short, numerals_by_value, parse_gives, parse_plain, tells_digits}
+pub use Rattle.std.proofs.lemmas.Str.Parse.{IsNumeralModel, digit_at, digit_from_value, digits_value_short, numerals_by_value, parse_gives, tells_digits}
 pub use Rattle.std.proofs.lemmas.Str.Pattern.{strip_prefix_char}
 pub use Rattle.std.specs.Char.{digit_value}
 pub use Rattle.std.specs.Fmt.{WritesInCalls, decimal, format_spec, styled_signed_decimal}
-pub use Rattle.std.specs.Int.{int_div_euclid, int_max, int_rem_euclid, w128, w16, w64, w8}
-pub use Rattle.std.specs.List.{All, range_with_len}
+pub use Rattle.std.specs.Int.{int_div_euclid, int_max, int_rem_euclid, w128, w64}
+pub use Rattle.std.specs.List.{range_with_len}
 pub use Rattle.std.specs.Option.{SomeIff}
 pub use Rattle.std.specs.Prelude.{Bool, Err, FitsSigned, IfSome, IsOk, IsSome, IsTrue, List, MatchOption, None, Ok, OnOk, Option, Result, Some, [], cond, drop, false, get_or, length, min, neg_ℤ, negsuc, not, pos, replicate, slice_index, suc, sum, take, true, unsigned_abs, zero, ℕ, ℤ, ◌%◌, ◌*ℤ◌, ◌*◌, ◌++◌, ◌+ℤ◌, ◌+◌, ◌-ℤ◌, ◌-◌, ◌/◌, ◌<ℤ◌, ◌<◌, ◌^◌, ◌↔◌, ◌∷◌, ◌≡◌, ◌≢◌, ◌≤ℤ◌, ◌≤◌, ◌⊎◌}
 pub use Rattle.std.specs.Result.{OkIff, result_ok}
@@ -30,11 +30,10 @@ pub use Rattle.std.specs.Str.Parse.{AllDigits, ParsesUnsigned, digits_value, dig
 pub use Rattle.integer_core.proofs.FlooredByPositive.{floored_by_range, floored_remainder_range}
 pub use Rattle.integer_core.proofs.Least.{greatest_is_only, least_is_only}
 pub use Rattle.integer_core.proofs.NaturalDivision.{divides_by_magnitude, floored_quotient_range}
-pub use Rattle.integer_core.proofs.Quotients.{only_floored, small_multiple}
-pub use Rattle.integer_core.proofs.Whole.{dist-left, expand, from_not_less, linear, mul-neg, products, sizes}
+pub use Rattle.integer_core.proofs.Quotients.{only_floored}
+pub use Rattle.integer_core.proofs.Whole.{from_not_less, linear, products, sizes}
 pub use Rattle.integer_core.proofs.WrittenTexts.{same_written, then_written}
 pub use Rattle.integer_core.specs.Division.{IsFloored, IsQuotient, IsRemainder}
-pub use Rattle.integer_core.specs.Divisors.{Divides}
 pub use Rattle.calendar.specs.Dates.{HasFifthWeekday, HasParts, IsEarlier, IsLastWeekdayOfMonth, IsMonthsAfter, IsMonthsBetween, IsNextLastWeekday, IsNthWeekday, IsYearsBetween, day_numbers, number_of}
 pub use Rattle.calendar.specs.Easter.{IsEaster, IsEpact, IsLunarCorrection, IsPaschalFullMoon, IsSolarCorrection, days_to_full_moon}
 pub use Rattle.calendar.specs.IsoWeeks.{HasIsoWeek, HasIsoWeeks, IsDayOfIsoWeek, IsInIsoWeek, IsThursdayOfWeek}
@@ -42,12 +41,11 @@ pub use Rattle.calendar.specs.Laws.{DateExists, DateIsOnly, DateOfPartsIsOnly, D
 pub use Rattle.calendar.specs.LeapYears.{is_leap_year}
 pub use Rattle.calendar.specs.Months.{IsDate, days_before_month, days_in_month, month_lengths, month_number, months_of}
 pub use Rattle.calendar.specs.Text.{IsShortest, padded, text_of, week_text, with_number, year_text}
-pub use Rattle.calendar.specs.Weekday.{weekday_name, weekday_number}
+pub use Rattle.calendar.specs.Weekday.{weekday_number}
 pub use Rattle.calendar.specs.Weeks.{HasWeekday, IsFirstWeekday, IsLastWeekday}
 pub use Rattle.calendar.specs.Years.{HasDay, day_number, days_in_year, first_day}
 pub use Rattle.calendar.specs.declared.date.Date.{Date}
 pub use Rattle.calendar.specs.declared.iso_weeks.IsoWeek.{IsoWeek}
 pub use Rattle.calendar.specs.declared.weekday.Weekday.{Weekday}
-pub use Rattle.calendar.specs.declared.weekday.Weekday.TheVariants.{Friday, Monday, Saturday, Sunday, Thursday, Tuesday, Wednesday}
-pub use lib.Signed.{lt_z}
+pub use Rattle.calendar.specs.declared.weekday.Weekday.TheVariants.{Monday, Sunday, Thursday}
 pub use mathlib.Core.HLevel.{is_prop→PathP}

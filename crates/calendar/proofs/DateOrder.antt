@@ -1,5 +1,5 @@
 -- Dates in their order, and their days.
-use Rattle.calendar.proofs.Common.{◌≡◌, ◌⊎◌, ◌+◌, ◌-◌, ◌<◌, ◌≤◌, ◌<ℤ◌, ◌+ℤ◌, ℕ, ℤ, pos, List, length, take, sum, slice_index, ◌∙◌, ap, arith, inl, inr, le_refl, sym, ints, to_z-of_z, take-take, linear, props, sum_by-take-le, sum_by_more, is_prop→PathP, Date, IsEarlier, number_of, DateIsOnly, DateOfPartsIsOnly, DateOfYearDayIsOnly, OrderOfDates, IsDate, days_before_month, days_in_month, months_of, day_number, first_day}
+use Rattle.calendar.proofs.Common.{◌≡◌, ◌⊎◌, ◌+◌, ◌-◌, ◌<◌, ◌≤◌, ◌<ℤ◌, ◌+ℤ◌, ℕ, ℤ, pos, List, length, take, sum, slice_index, ◌∙◌, ap, arith, inl, inr, sym, ints, to_z-of_z, take-take, linear, props, sum_by-take-le, sum_by_more, is_prop→PathP, Date, IsEarlier, number_of, DateIsOnly, DateOfPartsIsOnly, DateOfYearDayIsOnly, OrderOfDates, IsDate, days_before_month, days_in_month, months_of, day_number, first_day}
 use Rattle.calendar.specs.Years.{days_in_year}
 use Rattle.calendar.proofs.YearLengths.{later_year, next_first_day}
 
@@ -45,32 +45,25 @@ earlier_is_less a b (inr (same, inl months)) =
     rw (sym same) (omega (arith, ints, a.valid.day_to_last, b.valid.day_from_one))
 earlier_is_less a b (inr (same, inr (month, days))) = rw (same, month) (omega (arith, ints))
 
--- of two dates one is earlier, if they are not the same
-compared : (x y : ℤ) (m n d e : ℕ) → ((x <ℤ y) ⊎ ((x ≡ y) × ((m < n) ⊎ ((m ≡ n) × (d < e))))) ⊎ (((y <ℤ x) ⊎ ((y ≡ x) × ((n < m) ⊎ ((n ≡ m) × (e < d))))) ⊎ ((x ≡ y) × (m ≡ n) × (d ≡ e)))
-compared x y m n d e = grind (arith, linear)
-
 -- dates of the same parts are the same
-IsDate-prop : (year : ℤ) (month day : ℕ) → IsProp (IsDate year month day)
-IsDate-prop year month day = hlevel props
-
 pub of_parts : (a b : Date) → a.year ≡ b.year → a.month ≡ b.month → a.day_of_month ≡ b.day_of_month → a ≡ b
 of_parts a b year month day = λ i. record {
   year = year i;
   month = month i;
   day_of_month = day i;
-  valid = is_prop→PathP (λ i. IsDate (year i) (month i) (day i)) (λ i. IsDate-prop (year i) (month i) (day i)) a.valid b.valid i;
+  valid = is_prop→PathP (λ i. IsDate (year i) (month i) (day i)) (λ i. hlevel props) a.valid b.valid i;
 }
+
+-- of two dates one is earlier, if they are not the same
+compared : (a b : Date) → IsEarlier a b ⊎ IsEarlier b a ⊎ (a ≡ b)
+compared a b = grind (arith, linear, of_parts a b)
 
 pub only_of_parts : DateOfPartsIsOnly
 only_of_parts year month day a b h k = of_parts a b (h.year_is ∙ sym k.year_is) (h.month_is ∙ sym k.month_is) (h.day_is ∙ sym k.day_is)
 
 -- and so are dates of one number
 pub only_date : DateIsOnly
-only_date a b equal = elim (compared a.year b.year a.month b.month a.day_of_month b.day_of_month) [
-  | inl earlier ↦ absurd (omega (arith, linear, earlier_is_less a b earlier))
-  | inr (inl later) ↦ absurd (omega (arith, linear, earlier_is_less b a later))
-  | inr (inr (year, month, day)) ↦ of_parts a b year month day
-]
+only_date a b equal = grind (arith, linear, compared a b, earlier_is_less a b, earlier_is_less b a)
 
 -- and dates of one day of a year
 pub only_of_year_day : DateOfYearDayIsOnly
@@ -78,11 +71,4 @@ only_of_year_day a b year day = only_date a b (omega (arith, linear, ap first_da
 
 -- the order of dates is that of their numbers
 pub order : OrderOfDates
-order a b = (
-  earlier_is_less a b,
-  λ less. elim (compared a.year b.year a.month b.month a.day_of_month b.day_of_month) [
-    | inl earlier ↦ earlier
-    | inr (inl later) ↦ absurd (omega (arith, linear, earlier_is_less b a later))
-    | inr (inr (year, month, day)) ↦ absurd (omega (arith, linear, ap number_of (of_parts a b year month day)))
-  ],
-)
+order a b = (earlier_is_less a b, λ less. grind (arith, linear, compared a b, earlier_is_less b a))

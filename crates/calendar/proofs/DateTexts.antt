@@ -1,9 +1,9 @@
 -- Dates as they are written, and as they are read.
-use Rattle.calendar.proofs.Common.{cond, ◌≡◌, ◌≢◌, ◌↔◌, ◌⊎◌, ◌+◌, ◌-◌, ◌*◌, ◌/◌, ◌%◌, ◌<◌, ◌≤◌, ◌++◌, ◌≤ℤ◌, ◌<ℤ◌, ℕ, suc, ℤ, pos, negsuc, List, [], ◌∷◌, drop, take, length, get_or, Bool, true, false, Option, Some, None, MatchOption, arith, ap, append_assoc, inl, inr, refl, sym, ◌∙◌, ints, append-nil, get_or-drop, length-append, take-append-drop, decimal, format_spec, styled_signed_decimal, IsCharBoundary, drop-append_seam, take-append_seam, HasParts, TextIsOnly, IsDate, Date, IsoWeek, padded, text_of, week_text, with_number, year_text}
+use Rattle.calendar.proofs.Common.{cond, ◌≡◌, ◌≢◌, ◌↔◌, ◌⊎◌, ◌+◌, ◌-◌, ◌*◌, ◌/◌, ◌%◌, ◌<◌, ◌≤◌, ◌++◌, ◌≤ℤ◌, ◌<ℤ◌, ℕ, ℤ, pos, negsuc, List, [], ◌∷◌, drop, take, length, get_or, Bool, false, Option, Some, None, MatchOption, arith, ap, append_assoc, refl, sym, ◌∙◌, ints, append-nil, get_or-drop, length-append, take-append-drop, decimal, format_spec, styled_signed_decimal, IsCharBoundary, drop-append_seam, take-append_seam, HasParts, TextIsOnly, IsDate, Date, IsoWeek, padded, text_of, week_text, with_number, year_text}
 use Rattle.std.specs.Fmt.{char_count, padded_integral}
 use Rattle.calendar.proofs.DateOrder.{of_parts}
 use Rattle.calendar.proofs.PaddedNumbers.{two_places}
-use Rattle.calendar.proofs.YearTexts.{above, before, below, only_year}
+use Rattle.calendar.proofs.YearTexts.{only_year, year_texts}
 
 -- ---- a number at the end
 
@@ -27,9 +27,8 @@ number_told text front n small e =
 -- the hyphen begins a character
 pub number_boundary : (text front : List ℕ) (n : ℕ) → EndsInNumber text front n → IsCharBoundary text (length text - 3)
 number_boundary text front n h =
-    let spot : length text - 3 + 0 ≡ length text - 3 = omega arith in
-    let hyphen = rw spot at (sym (get_or-drop (length text - 3) text 0 0) ∙ ap (λ (x : List ℕ). get_or x 0 0) h.last_is) in
-    (omega arith, λ within high. absurd (omega arith))
+    let hyphen = sym (get_or-drop (length text - 3) text 0 0) ∙ ap (λ (x : List ℕ). get_or x 0 0) h.last_is in
+    grind arith
 
 -- a text ends in one number only
 pub only_number : (text a b : List ℕ) (m n : ℕ) → m < 100 → n < 100 → text ≡ with_number a m → text ≡ with_number b n → (a ≡ b) × (m ≡ n)
@@ -52,13 +51,18 @@ number_text text k tens ones t o e =
 pub small_parts : (date : Date) → (date.month < 100) × (date.day_of_month < 100)
 small_parts date = grind arith
 
+-- the parts of a date's text, which ends in two numbers
+pub parts_told : {text front year : List ℕ} {month day : ℕ} (date : Date) → (day < 100) × (text ≡ with_number front day) → (month < 100) × (front ≡ with_number year month) → text ≡ text_of date
+    → (year ≡ year_text date.year) × (month ≡ date.month) × (day ≡ date.day_of_month)
+parts_told date last middle e =
+    let (front, day) = only_number _ _ _ _ _ last.0 (small_parts date).1 last.1 e in
+    let (year, month) = only_number _ _ _ _ _ middle.0 (small_parts date).0 middle.1 front in
+    (year, month, day)
+
 -- each text is that of one date at most
 pub only_text : TextIsOnly
 only_text a b a_fits b_fits e =
-    let (a_month, a_day) = small_parts a in
-    let (b_month, b_day) = small_parts b in
-    let (front, day) = only_number (text_of a) _ _ _ _ a_day b_day refl e in
-    let (year, month) = only_number (with_number (year_text a.year) a.month) _ _ _ _ a_month b_month refl front in
+    let (year, month, day) = parts_told {year = year_text a.year} b ((small_parts a).1, refl) ((small_parts a).0, refl) e in
     of_parts a b (only_year a.year b.year a_fits b_fits year) month day
 
 -- ---- what `Date::new` returns
@@ -77,23 +81,17 @@ pub zero_padded : (places n : ℕ) → padded_integral (format_spec 32 0 4 place
 unfolding padded_integral char_count
 zero_padded places n = grind (arith, append-nil)
 
--- a year of four digits needs no sign
-pub short_text : (date : Date) (year : ℕ) → date.year ≡ pos year → year < 10000 → with_number (with_number (padded 4 year) date.month) date.day_of_month ≡ text_of date
-short_text date year is small = ap (λ (front : List ℕ). with_number (with_number front date.month) date.day_of_month) (sym (ap year_text is ∙ below year small))
-
 sign_padded : (negative : Bool) (n : ℕ) → padded_integral (format_spec 32 0 5 5 18446744073709551615) negative [] (decimal n) ≡ cond negative 45 43 ∷ padded 4 n
 unfolding padded_integral char_count
-sign_padded true n = let same : 5 - length (decimal n) - 1 - 0 ≡ 4 - length (decimal n) = omega arith in rw (append-nil, same) refl
-sign_padded false n = let same : 5 - length (decimal n) - 1 - 0 ≡ 4 - length (decimal n) = omega arith in rw (append-nil, same) refl
+sign_padded negative n = grind (arith, append-nil)
 
 pub plain_year : (year : ℤ) → pos 0 ≤ℤ year → year ≤ℤ pos 9999 → styled_signed_decimal (format_spec 32 0 4 4 18446744073709551615) year ≡ year_text year
-plain_year (pos n) low high = grind (arith, zero_padded, below)
+plain_year (pos n) low high = grind (arith, ints, zero_padded, year_texts (pos n))
 plain_year (negsuc n) low high = absurd (omega (arith, ints))
 
 pub signed_year : (year : ℤ) → (year <ℤ pos 0) ⊎ (pos 9999 <ℤ year) → styled_signed_decimal (format_spec 32 0 5 5 18446744073709551615) year ≡ year_text year
-signed_year (pos n) (inl under) = absurd (omega (arith, ints))
-signed_year (pos n) (inr over) = grind (arith, sign_padded, above)
-signed_year (negsuc n) h = sign_padded true (suc n) ∙ sym (before n)
+signed_year (pos n) outside = grind (arith, ints, sign_padded, year_texts (pos n))
+signed_year (negsuc n) outside = grind (arith, ints, sign_padded, year_texts (negsuc n))
 
 pub joined : (date : Date) (month day : List ℕ) → month ≡ padded 2 date.month → day ≡ padded 2 date.day_of_month
     → year_text date.year ++ (45 ∷ (month ++ (45 ∷ day))) ≡ text_of date

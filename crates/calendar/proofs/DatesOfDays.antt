@@ -1,5 +1,5 @@
 -- Each day has a date, and is in a year and in a week.
-use Rattle.calendar.proofs.Common.{◌≡◌, ◌+◌, ◌*◌, ◌/◌, ◌<◌, ◌≤◌, ◌+ℤ◌, ◌-ℤ◌, ℕ, zero, suc, ℤ, pos, negsuc, unsigned_abs, FitsSigned, MatchOption, Option, Some, None, w64, ◌∙◌, ap, arith, inl, inr, le_refl, refl, subst, sym, cases_lt, ints, IfSome, IsSome, Date, Thursday, number_of, DateExists, IsoWeekExists, YearOfDayExists, days_in_month, HasDay, day_number, first_day}
+use Rattle.calendar.proofs.Common.{◌≡◌, ◌+◌, ◌*◌, ◌/◌, ◌≤◌, ◌+ℤ◌, ◌-ℤ◌, ℕ, zero, suc, ℤ, pos, negsuc, unsigned_abs, FitsSigned, MatchOption, Option, Some, None, w64, ◌∙◌, ap, arith, inl, inr, le_refl, refl, subst, sym, cases_lt, ints, IfSome, IsSome, Date, Thursday, number_of, DateExists, IsoWeekExists, YearOfDayExists, days_in_month, HasDay, day_number, first_day}
 use Rattle.calendar.proofs.DateOrder.{last_of_year, next_month, next_year, year_day_range}
 use Rattle.calendar.proofs.LaterEras.{later, number_later}
 use Rattle.calendar.proofs.MonthLengths.{date_of, month_length_range}
@@ -11,24 +11,12 @@ use Rattle.calendar.proofs.YearLengths.{next_first_day}
 -- the first day of a month is a date
 month_begins : (year : ℤ) (month : ℕ) → 1 ≤ month → month ≤ 12 → (date : Date) × (number_of date ≡ day_number year month 1)
 month_begins year month from to =
-    let (least, most) = month_length_range year month from to in
-    (date_of year month 1 from to (le_refl 1) (omega arith), refl)
-
--- a day later in the same month is a date
-same_month_later : (date : Date) → date.day_of_month < days_in_month date.year date.month → (next : Date) × (number_of next ≡ number_of date +ℤ pos 1)
-same_month_later date before =
-    (date_of date.year date.month (date.day_of_month + 1) date.valid.month_from_one date.valid.month_to_twelve (omega arith) (omega arith), omega (arith, ints))
-
--- after 31 December comes 1 January
-next_january : (date : Date) → 12 ≤ date.month → days_in_month date.year date.month ≤ date.day_of_month → day_number (date.year +ℤ pos 1) 1 1 ≡ number_of date +ℤ pos 1
-next_january date late last =
-    let (december, day) = last_of_year date.valid late last in
-    rw (december, day) (next_year date.year)
+    (date_of year month 1 from to (le_refl 1) (omega (arith, month_length_range year month from to)), refl)
 
 -- each date has a next one
 next_date : (date : Date) → (next : Date) × (number_of next ≡ number_of date +ℤ pos 1)
 next_date date = elim (cases_lt date.day_of_month (days_in_month date.year date.month)) [
-  | inl before ↦ same_month_later date before
+  | inl before ↦ (date_of date.year date.month (date.day_of_month + 1) date.valid.month_from_one date.valid.month_to_twelve (omega arith) (omega arith), omega (arith, ints))
   | inr last ↦ elim (cases_lt date.month 12) [
     | inl early ↦
         let (next, is) = month_begins date.year (date.month + 1) (omega arith) (omega arith) in
@@ -36,18 +24,16 @@ next_date date = elim (cases_lt date.day_of_month (days_in_month date.year date.
         (next, omega (arith, ints, is, end, next_month date.year date.month date.valid.month_from_one early))
     | inr late ↦
         let (next, is) = month_begins (date.year +ℤ pos 1) 1 (omega arith) (omega arith) in
-        (next, is ∙ next_january date late last)
+        let (december, day) = last_of_year date.valid late last in
+        (next, is ∙ rw (december, day) (next_year date.year))
   ]
 ]
-
-first_is_zero : day_number (pos 1970) 1 1 ≡ pos 0
-first_is_zero = omega (arith, ints)
 
 -- so each day from 1970-01-01 on has a date
 date_from_epoch : (n : ℕ) → (date : Date) × (number_of date ≡ pos n)
 date_from_epoch zero =
     let (date, is) = month_begins (pos 1970) 1 (omega arith) (omega arith) in
-    (date, is ∙ first_is_zero)
+    (date, omega (arith, ints, is))
 date_from_epoch (suc n) =
     let (date, is) = date_from_epoch n in
     let (next, after) = next_date date in
@@ -60,16 +46,22 @@ date_exists (negsuc n) =
     let (date, is) = date_from_epoch (146096 * (n + 1)) in
     (later date (negsuc n), omega (arith, ints, is, number_later date (negsuc n)))
 
--- if the date of a day fits, a call that returns it returns it
-pub some_date : (o : Option Date) {day : ℤ} → MatchOption o ((date : Date) → number_of date ≡ day → ¬ (FitsSigned w64 date.year)) (λ date. number_of date ≡ day)
-    → ((date : Date) → number_of date ≡ day → FitsSigned w64 date.year) → IsSome o
-some_date None {day = day} beyond fits = let (date, is) = date_exists day in absurd (beyond date is (fits date is))
-some_date (Some date) own fits = refl
+-- a date of the day, or none if no such date fits
+abbrev pub IsDateOfDay : Option Date → ℤ → Type 0
+IsDateOfDay o day = MatchOption o ((date : Date) → number_of date ≡ day → ¬ (FitsSigned w64 date.year)) (λ date. number_of date ≡ day)
 
-pub this_date : (o : Option Date) (date : Date) {day : ℤ} → MatchOption o ((date : Date) → number_of date ≡ day → ¬ (FitsSigned w64 date.year)) (λ date. number_of date ≡ day)
-    → ((date : Date) → number_of date ≡ day → FitsSigned w64 date.year) → IfSome o (λ found. found ≡ date) → number_of date ≡ day
-this_date None date beyond fits same = let none = some_date None beyond fits in absurd (cc)
-this_date (Some found) date own fits same = ap number_of (sym same) ∙ own
+-- the same day, and the same result
+pub same_day_found : (o : Option Date) {day other : ℤ} → day ≡ other → IsDateOfDay o other → IsDateOfDay o day
+same_day_found o same h = rw same h
+
+-- if the date of a day fits, a call that returns it returns it
+pub some_date : (o : Option Date) {day other : ℤ} → day ≡ other → IsDateOfDay o other → ((date : Date) → number_of date ≡ day → FitsSigned w64 date.year) → IsSome o
+some_date None {day = day} same beyond fits = let (date, is) = date_exists day in absurd (beyond date (is ∙ same) (fits date is))
+some_date (Some date) same own fits = refl
+
+pub this_date : (o : Option Date) (date : Date) {day other : ℤ} → day ≡ other → IsDateOfDay o other → ((date : Date) → number_of date ≡ day → FitsSigned w64 date.year) → IfSome o (λ found. found ≡ date) → number_of date ≡ day
+this_date None date same beyond fits is = let none = some_date None same beyond fits in absurd (cc)
+this_date (Some found) date same own fits is = ap number_of (sym is) ∙ own ∙ sym same
 
 -- ---- its year
 

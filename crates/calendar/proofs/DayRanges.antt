@@ -1,5 +1,5 @@
 -- The days from one date to another: the first of them and the others, and how many they are.
-use Rattle.calendar.proofs.Common.{not, Bool, IsTrue, true, false, ◌↔◌, from_not_less, ◌≡◌, ◌≤◌, ◌++◌, ◌<ℤ◌, ◌≤ℤ◌, ◌+ℤ◌, ◌-ℤ◌, ℕ, zero, suc, ℤ, pos, List, [], ◌∷◌, length, unsigned_abs, int_max, ap, arith, inl, inr, refl, by_lt_z, clamps, ints, linear, sizes, Date, day_numbers, number_of}
+use Rattle.calendar.proofs.Common.{not, Bool, IsTrue, true, false, ◌↔◌, from_not_less, ◌≡◌, ◌≤◌, ◌++◌, ◌<ℤ◌, ◌≤ℤ◌, ◌+ℤ◌, ◌-ℤ◌, ℕ, zero, suc, ℤ, pos, List, [], ◌∷◌, length, unsigned_abs, int_max, ap, arith, refl, by_lt_z, clamps, ints, linear, sizes, Date, day_numbers, number_of}
 use Rattle.calendar.specs.Dates.{numbers_from}
 use Rattle.calendar.proofs.DateOrder.{order}
 use Rattle.calendar.proofs.MonthLengths.{month_length_range}
@@ -51,17 +51,9 @@ pub days_from_first : (first end : ℤ) → length (day_numbers first end) ≡ u
 days_from_first first end = length-numbers (unsigned_abs (int_max (pos 0) (end -ℤ first))) first
 
 -- no date is later than 31 December of the last year
-pub none_later : (a b : Date) → b.year ≤ℤ a.year → 12 ≤ a.month → 31 ≤ a.day_of_month → ¬ (number_of a <ℤ number_of b)
-none_later a b years month day less = elim ((order a b).1 less) [
-  | inl year ↦ omega (arith, linear)
-  | inr (same, inl later) ↦ omega (arith, b.valid.month_to_twelve)
-  | inr (same, inr (at, later)) ↦ omega (arith, b.valid.day_to_last, (month_length_range b.year b.month b.valid.month_from_one b.valid.month_to_twelve).1)
-]
+pub none_later : (a b : Date) → (b.year ≤ℤ a.year) × (12 ≤ a.month) × (31 ≤ a.day_of_month) → ¬ (number_of a <ℤ number_of b)
+none_later a b last less = let earlier = (order a b).1 less in grind (arith, linear, month_length_range b.year b.month)
 
 -- and none earlier than 1 January of the first
-pub none_earlier : (a b : Date) → b.year ≤ℤ a.year → b.month ≤ 1 → b.day_of_month ≤ 1 → ¬ (number_of a <ℤ number_of b)
-none_earlier a b years month day less = elim ((order a b).1 less) [
-  | inl year ↦ omega (arith, linear)
-  | inr (same, inl later) ↦ omega (arith, a.valid.month_from_one)
-  | inr (same, inr (at, later)) ↦ omega (arith, a.valid.day_from_one)
-]
+pub none_earlier : (a b : Date) → (b.year ≤ℤ a.year) × (b.month ≤ 1) × (b.day_of_month ≤ 1) → ¬ (number_of a <ℤ number_of b)
+none_earlier a b first less = let earlier = (order a b).1 less in grind (arith, linear)

@@ -1,15 +1,21 @@
 -- The date of Easter.
-use Rattle.calendar.proofs.Common.{◌≡◌, ◌⊎◌, ◌+◌, ◌-◌, ◌*◌, ◌/◌, ◌<◌, ◌+ℤ◌, ◌-ℤ◌, ◌*ℤ◌, ℕ, ℤ, pos, unsigned_abs, ◌∙◌, ap, arith, inl, inr, refl, sym, nat_tests, by_lt_z, ints, to_z-of_z, floored_by_range, floored_quotient_range, floored_remainder_range, linear, only_floored, IsFloored, IsQuotient, IsRemainder, IsEaster, IsEpact, IsLunarCorrection, IsPaschalFullMoon, IsSolarCorrection, days_to_full_moon, EarlierFullMoons, EasterIsOnly, EpactOfTheFirstYear, EpactOfTheNextYear, FullMoonsDiffer, LunarCorrectionOfTwentyFiveCenturies, LunarCorrectionsFrom1800, SolarCorrectionOfTheNextCentury, weekday_number, HasWeekday, IsFirstWeekday, day_number, Weekday, Sunday}
+use Rattle.calendar.proofs.Common.{◌≡◌, ◌⊎◌, ◌+◌, ◌-◌, ◌*◌, ◌/◌, ◌<◌, ◌+ℤ◌, ◌-ℤ◌, ◌*ℤ◌, ℕ, ℤ, pos, unsigned_abs, ◌∙◌, ap, arith, inl, inr, refl, sym, nat_tests, by_lt_z, ints, to_z-of_z, floored_by_range, floored_remainder_range, linear, only_floored, IsFloored, IsQuotient, IsRemainder, IsEaster, IsEpact, IsLunarCorrection, IsPaschalFullMoon, IsSolarCorrection, days_to_full_moon, EarlierFullMoons, EasterIsOnly, EpactOfTheFirstYear, EpactOfTheNextYear, FullMoonsDiffer, LunarCorrectionOfTwentyFiveCenturies, LunarCorrectionsFrom1800, SolarCorrectionOfTheNextCentury, weekday_number, HasWeekday, IsFirstWeekday, day_number, Weekday, Sunday}
 use Rattle.calendar.proofs.WeekdayPlaces.{days_later, first_within, only_first}
 
 -- the Sunday after a day
 pub next_sunday : {day : ℤ} {weekday : Weekday} {n days : ℕ} → HasWeekday day weekday → n ≡ weekday_number weekday → n < 7 → days ≡ 7 - n → IsFirstWeekday (day +ℤ pos 1) Sunday (day +ℤ pos days)
-next_sunday {days = days} h is small place = first_within Sunday (days_later days h (omega arith)) (omega (arith, ints)) (omega (arith, ints))
+next_sunday {days = days} h is small place = first_within Sunday (days_later days refl h (omega arith)) (omega (arith, ints)) (omega (arith, ints))
 
 -- the remainder of the sum is the epact
-pub is_epact : {century solar lunar sum rest : ℤ} (golden : ℕ) → IsSolarCorrection century solar → IsLunarCorrection century lunar → sum ≡ pos 11 *ℤ pos golden +ℤ pos 8 -ℤ solar +ℤ lunar
-    → IsRemainder IsFloored sum (pos 30) rest → IsEpact century golden (unsigned_abs rest)
-is_epact {solar = solar} {lunar = lunar} {rest = rest} golden solar_is lunar_is sum_is h = grind arith
+pub is_epact : {century given solar lunar sum rest : ℤ} {epact : ℕ} (golden : ℕ) → given ≡ century → IsSolarCorrection given solar → IsLunarCorrection given lunar → sum ≡ pos 11 *ℤ pos golden +ℤ pos 8 -ℤ solar +ℤ lunar
+    → IsRemainder IsFloored sum (pos 30) rest → epact ≡ unsigned_abs rest → IsEpact century golden epact
+is_epact {solar = solar} {lunar = lunar} {rest = rest} {epact = epact} golden same solar_is lunar_is sum_is h rest_is =
+    let place : rest ≡ pos epact = omega (arith, ints, floored_remainder_range (omega (arith, ints)) h) in
+    record { solar = solar; lunar = lunar; solar_is = rw same at solar_is; lunar_is = rw same at lunar_is; epact_is = rw place at (rw sum_is at h) }
+
+-- the quotient of the sum is the lunar correction
+pub is_lunar : (century : ℤ) {sum quotient lunar : ℤ} → sum ≡ pos 8 *ℤ century +ℤ pos 13 → lunar ≡ quotient → IsQuotient IsFloored sum (pos 25) quotient → IsLunarCorrection century lunar
+is_lunar century same is h = rw is (rw same at h)
 
 -- the days from 1 March on follow each other
 pub march_days_later : (year : ℤ) (day : ℕ) {more days : ℕ} → more ≡ days → day_number year 3 (day + more) ≡ day_number year 3 day +ℤ pos days

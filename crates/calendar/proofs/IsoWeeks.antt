@@ -1,5 +1,5 @@
 -- The weeks of ISO 8601.
-use Rattle.calendar.proofs.Common.{◌≡◌, ◌+◌, ◌-◌, ◌*◌, ◌/◌, ◌%◌, ◌<◌, ◌≤◌, ◌≤ℤ◌, ◌<ℤ◌, ◌+ℤ◌, ◌-ℤ◌, ◌*ℤ◌, ℕ, ℤ, pos, FitsSigned, MatchOption, Option, Some, None, w64, ap, arith, inl, inr, refl, subst, sym, cases_lt, ints, floored_by_range, floored_remainder_range, linear, IsFloored, IsRemainder, ∥∥₁_elim, ∥∥₁_prop, props, is_prop→PathP, Date, number_of, HasIsoWeek, HasIsoWeeks, IsDayOfIsoWeek, IsInIsoWeek, IsThursdayOfWeek, IsoDayExists, IsoDayIsOnly, IsoWeekIsOnly, IsoWeekOfNumbersIsOnly, IsoWeeksAreOnly, OrderOfIsoWeeks, WeeksOfAYear, YearOfDayIsOnly, HasDay, days_in_year, first_day, weekday_number, HasWeekday, Weekday, Monday, Thursday}
+use Rattle.calendar.proofs.Common.{◌≡◌, ◌+◌, ◌-◌, ◌*◌, ◌/◌, ◌%◌, ◌<◌, ◌≤◌, ◌≤ℤ◌, ◌<ℤ◌, ◌+ℤ◌, ◌-ℤ◌, ◌*ℤ◌, ℕ, ℤ, pos, FitsSigned, MatchOption, Option, Some, None, w64, ap, arith, inl, inr, refl, subst, sym, cases_lt, ints, floored_by_range, linear, IsFloored, IsRemainder, ∥∥₁_elim, ∥∥₁_prop, props, is_prop→PathP, Date, number_of, HasIsoWeek, HasIsoWeeks, IsDayOfIsoWeek, IsInIsoWeek, IsThursdayOfWeek, IsoDayExists, IsoDayIsOnly, IsoWeekIsOnly, IsoWeekOfNumbersIsOnly, IsoWeeksAreOnly, OrderOfIsoWeeks, WeeksOfAYear, YearOfDayIsOnly, HasDay, days_in_year, first_day, weekday_number, HasWeekday, Weekday, Monday, Thursday}
 use Rattle.calendar.proofs.DateOrder.{year_day_range}
 use Rattle.calendar.proofs.WeekdayPlaces.{below_seven, days_earlier, days_later, on_weekday, same_day, weekday_within}
 use Rattle.calendar.proofs.YearLengths.{later_year, length_range, next_first_day}
@@ -10,18 +10,9 @@ use Rattle.calendar.proofs.YearLengths.{later_year, length_range, next_first_day
 pub is_thursday : {day : ℤ} (q : ℤ) → day ≡ q *ℤ pos 7 → HasWeekday day Thursday
 is_thursday q e = on_weekday Thursday q (omega (arith, ints))
 
-pub of_week : {day r : ℤ} → IsRemainder IsFloored (day +ℤ pos 3) (pos 7) r → IsThursdayOfWeek day (day +ℤ pos 3 -ℤ r)
-of_week h =
-    let range = floored_remainder_range (omega (arith, ints)) h in
-    record { has_weekday = is_thursday h.quotient (omega (arith, ints)); from = omega (arith, ints); to = omega (arith, ints) }
-
 pub same_thursday : {day a b : ℤ} → IsThursdayOfWeek day a → IsThursdayOfWeek day b → a ≡ b
 same_thursday h k =
     same_day Thursday h.has_weekday k.has_weekday (omega (arith, linear, h.to, k.from)) (omega (arith, linear, h.from, k.to))
-
--- by the day of an era
-since_monday : {day : ℤ} (era : ℤ) (n : ℕ) → day ≡ pos 146097 *ℤ era +ℤ pos n -ℤ pos 865566 → IsRemainder IsFloored (day +ℤ pos 3) (pos 7) (pos ((n + 1) % 7))
-since_monday era n place = record { quotient = pos 20871 *ℤ era -ℤ pos 123652 +ℤ pos ((n + 1) / 7); division = floored_by_range (omega (arith, ints)) (omega (arith, ints)) (omega (arith, ints)) }
 
 -- the days from 1 January to the Thursday of the week, by the days of an era
 pub days_to_thursday : (date : Date) (era days : ℤ) (n january : ℕ) → number_of date ≡ pos 146097 *ℤ era +ℤ pos n -ℤ pos 865566 → first_day date.year ≡ pos 146097 *ℤ era +ℤ pos january -ℤ pos 865565
@@ -29,8 +20,12 @@ pub days_to_thursday : (date : Date) (era days : ℤ) (n january : ℕ) → numb
 days_to_thursday date era days n january place first is =
     let (from, to) = year_day_range date.valid in
     let length = length_range date.year in
-    let same : number_of date +ℤ pos 3 -ℤ pos ((n + 1) % 7) ≡ first_day date.year +ℤ days = omega (arith, ints, place, first, is) in
-    (rw same at (of_week {day = number_of date} (since_monday era n place)), omega (arith, ints, place, first, is, from), omega (arith, ints, place, first, is, to, length.1))
+    let weeks : ℤ = pos 20871 *ℤ era -ℤ pos 123652 +ℤ pos ((n + 1) / 7) in
+    let thursday : HasWeekday (first_day date.year +ℤ days) Thursday = is_thursday weeks (omega (arith, ints, first, is)) in (
+      record { has_weekday = thursday; from = omega (arith, ints, place, first, is); to = omega (arith, ints, place, first, is) },
+      omega (arith, ints, place, first, is, from),
+      omega (arith, ints, place, first, is, to, length.1),
+    )
 
 pub to_thursday : {first : ℤ} (era : ℤ) (n : ℕ) → first ≡ pos 146097 *ℤ era +ℤ pos n -ℤ pos 865565 → IsRemainder IsFloored (pos 0 -ℤ first) (pos 7) (pos (6 - (n + 5) % 7))
 to_thursday era n place = record { quotient = pos 123652 -ℤ pos 20871 *ℤ era -ℤ pos ((n + 5) / 7); division = floored_by_range (omega (arith, ints)) (omega (arith, ints)) (omega (arith, ints)) }
@@ -68,9 +63,7 @@ one_week day y z v w h k =
 -- a week is one of 53
 pub week_range : WeeksOfAYear
 week_range day year week h =
-    let length = length_range year in
-    let next = next_first_day year in
-    (omega (arith, ints, h.of_year.from, h.from, h.before), omega (arith, ints, h.of_year.before, h.from))
+    (omega (arith, ints, h.of_year.from, h.from, h.before), omega (arith, ints, h.of_year.before, h.from, length_range year, next_first_day year))
 
 pub number_range : {year : ℤ} {week : ℕ} → ∥ HasIsoWeek year week ∥₁ → (1 ≤ week) × (week ≤ 53)
 number_range {year} {week} h = ∥∥₁_elim h (hlevel props) (λ k. week_range k.day year week k.in_week)
@@ -102,7 +95,7 @@ day_of_week weekday h = record {
     from = h.from;
     before = h.before;
   };
-  has_weekday = days_later ((weekday_number weekday + 6) % 7) (days_earlier {b = Monday} 3 h.of_week.has_weekday refl) (omega (arith, below_seven weekday));
+  has_weekday = days_later ((weekday_number weekday + 6) % 7) refl (days_earlier {b = Monday} 3 refl h.of_week.has_weekday refl) (omega (arith, below_seven weekday));
 }
 
 pub iso_day_exists : IsoDayExists
@@ -111,22 +104,23 @@ iso_day_exists year week weekday h = (_, day_of_week weekday h.in_week)
 -- of which there is only one
 pub one_day : IsoDayIsOnly
 one_day a b year week weekday h k =
-    let first = h.in_week in
-    let second = k.in_week in
-    same_day weekday h.has_weekday k.has_weekday (omega (arith, ints, first.of_week.to, second.of_week.from)) (omega (arith, ints, first.of_week.from, second.of_week.to))
+    let first = h.in_week.of_week in
+    let second = k.in_week.of_week in
+    same_day weekday h.has_weekday k.has_weekday (omega (arith, ints, first.to, second.from)) (omega (arith, ints, first.from, second.to))
 
 -- a day of the week by the days to the Thursday, and its date
-by_thursday : {year days : ℤ} {week : ℕ} (place : ℕ) (weekday : Weekday) → IsDayOfIsoWeek (first_day year +ℤ pos place) year week Thursday → days ≡ pos place -ℤ pos 3 +ℤ pos ((weekday_number weekday + 6) % 7) → IsDayOfIsoWeek (first_day year +ℤ days) year week weekday
-by_thursday {year} {days} place weekday h is =
+by_thursday : {year day : ℤ} {week : ℕ} (place : ℕ) (weekday : Weekday) → IsDayOfIsoWeek (first_day year +ℤ pos place) year week Thursday
+    → day ≡ first_day year +ℤ pos place -ℤ pos 3 +ℤ pos ((weekday_number weekday + 6) % 7) → IsDayOfIsoWeek day year week weekday
+by_thursday {day = day} place weekday h is =
     let thursday = same_day Thursday h.in_week.of_week.has_weekday h.has_weekday (omega (arith, ints, h.in_week.of_week.to)) (omega (arith, ints, h.in_week.of_week.from)) in
-    let same : h.in_week.thursday -ℤ pos 3 +ℤ pos ((weekday_number weekday + 6) % 7) ≡ first_day year +ℤ days = omega (arith, ints, thursday) in
+    let same : h.in_week.thursday -ℤ pos 3 +ℤ pos ((weekday_number weekday + 6) % 7) ≡ day = omega (arith, ints, thursday) in
     rw same at (day_of_week weekday h.in_week)
 
-pub day_or_none : (o : Option Date) {year days : ℤ} {week : ℕ} (place : ℕ) (weekday : Weekday) → IsDayOfIsoWeek (first_day year +ℤ pos place) year week Thursday → days ≡ pos place -ℤ pos 3 +ℤ pos ((weekday_number weekday + 6) % 7)
-    → MatchOption o ((y : ℤ) → HasDay y (first_day year +ℤ days) → ¬ (FitsSigned w64 y)) (λ date. number_of date ≡ first_day year +ℤ days)
+pub day_or_none : (o : Option Date) {year given day : ℤ} {week : ℕ} (place : ℕ) (weekday : Weekday) → given ≡ year → IsDayOfIsoWeek (first_day given +ℤ pos place) given week Thursday
+    → day ≡ first_day given +ℤ pos place -ℤ pos 3 +ℤ pos ((weekday_number weekday + 6) % 7) → MatchOption o ((y : ℤ) → HasDay y day → ¬ (FitsSigned w64 y)) (λ date. number_of date ≡ day)
     → MatchOption o ((d y : ℤ) → IsDayOfIsoWeek d year week weekday → HasDay y d → ¬ (FitsSigned w64 y)) (λ date. IsDayOfIsoWeek (number_of date) year week weekday)
-day_or_none None place weekday h is beyond = λ d y k l fits. beyond y (subst (λ (t : ℤ). HasDay y t) (one_day _ _ _ _ weekday k (by_thursday place weekday h is)) l) fits
-day_or_none (Some date) {year = year} {week = week} place weekday h is near = subst (λ (t : ℤ). IsDayOfIsoWeek t year week weekday) (sym near) (by_thursday place weekday h is)
+day_or_none None place weekday same h is beyond = rw (sym same) (λ d y k l fits. beyond y (subst (HasDay y) (one_day _ _ _ _ weekday k (by_thursday place weekday h is)) l) fits)
+day_or_none (Some date) place weekday same h is near = rw (sym same, near) (by_thursday place weekday h is)
 
 -- the Thursdays of a year, from the first on
 pub later_thursday : (year : ℤ) {first : ℕ} (weeks : ℕ) → IsRemainder IsFloored (pos 0 -ℤ first_day year) (pos 7) (pos first) → HasWeekday (first_day year +ℤ pos (first + 7 * weeks)) Thursday
@@ -157,8 +151,7 @@ has_52_weeks {year} none =
       no_later = λ other week k. elim (cases_lt week 53) [
         | inl small ↦ omega arith
         | inr last ↦
-            let number : week ≡ 53 = omega (arith, week_range other year week k) in
-            absurd (none (record { day = other; in_week = rw number at k }))
+            absurd (none (record { day = other; in_week = subst (IsInIsoWeek other year) (omega (arith, week_range other year week k)) k }))
       ];
     }
 

@@ -1,5 +1,5 @@
 -- The months, and years that begin on 1 March.
-use Rattle.calendar.proofs.Common.{◌≡◌, ◌+◌, ◌-◌, ◌*◌, ◌/◌, ◌%◌, ◌<◌, ◌≤◌, ◌+ℤ◌, ◌-ℤ◌, ◌*ℤ◌, ℕ, ℤ, pos, Bool, true, false, sum, take, arith, inl, inr, rules, cases_lt, ints, to_z-of_z, All, range_with_len, All-get_or, get_or-range_with_len, is_leap_year, days_before_month, month_lengths, day_number}
+use Rattle.calendar.proofs.Common.{FitsSigned, w64, to_z, of_z, ◌≡◌, ◌+◌, ◌-◌, ◌*◌, ◌/◌, ◌%◌, ◌<◌, ◌≤◌, ◌+ℤ◌, ◌-ℤ◌, ◌*ℤ◌, ℕ, ℤ, pos, Bool, sum, take, arith, inl, inr, rules, cases_lt, ints, to_z-of_z, range_with_len, All-get_or, get_or-range_with_len, is_leap_year, days_before_month, month_lengths, day_number}
 use Rattle.calendar.specs.Years.{days_in_year}
 use Rattle.calendar.proofs.YearLengths.{in_era, length_range, march_days, next_first_day}
 
@@ -13,14 +13,10 @@ march_months month = (153 * month - 457) / 5
 abbrev FollowsMarch : Bool → ℕ → Type 0
 FollowsMarch leap month = sum (take (month - 1) (month_lengths leap)) ≡ sum (take 2 (month_lengths leap)) + march_months month
 
-before_month : (leap : Bool) → All (FollowsMarch leap) (range_with_len 3 10)
-before_month true = search rules
-before_month false = search rules
-
 pub from_third_month : (year : ℤ) (month : ℕ) → 3 ≤ month → month ≤ 12 → days_before_month year month ≡ days_before_month year 3 + march_months month
 from_third_month year month from to =
     let month_is : 3 + (month - 3) ≡ month = omega arith in
-    let own = All-get_or (FollowsMarch (is_leap_year year)) (range_with_len 3 10) (month - 3) 0 (omega arith) (before_month (is_leap_year year)) in
+    let own = All-get_or (FollowsMarch (is_leap_year year)) (range_with_len 3 10) (month - 3) 0 (omega arith) (grind arith) in
     rw (get_or-range_with_len 3 10 (month - 3) 0 (omega arith), month_is) at own
 
 -- 306 days are left from 1 March on
@@ -71,6 +67,11 @@ module _ (month after months : ℕ) (before : month ≤ 2 → after ≡ 0) (same
             rw place (omega (arith, ints, march, third_month last, next_first_day last, early sooner (last +ℤ pos 1)))
       ]
 
+-- so in a year by its era, as they are passed to a function
+pub month_at : {year : ℤ} (era : ℤ × ℕ) (month days : ℕ) → FitsSigned w64 year → to_z w64 (of_z w64 year) ≡ pos 400 *ℤ era.0 +ℤ pos era.1
+    → ((e : ℤ) → day_number (pos 400 *ℤ e +ℤ pos era.1) month 1 ≡ pos 146097 *ℤ e +ℤ pos days -ℤ pos 865565) → day_number year month 1 ≡ pos 146097 *ℤ era.0 +ℤ pos days -ℤ pos 865565
+month_at era month days fits place day = rw (simp to_z-of_z at place) (day era.0)
+
 -- whole years in some days, and the days that are left
 abbrev pub years_in : ℕ → ℕ
 years_in days = 100 * ((4 * days + 3) / 146097) + ((4 * days + 3) % 146097 / 4 * 4 + 3) / 1461
@@ -82,8 +83,8 @@ pub whole_years : (days : ℕ) → days < 300000 → (days ≡ march_days (years
 whole_years days small = (omega arith, omega arith)
 
 -- so the days that are left are those of less than a year
-pub part_of_year : (era : ℤ) (n rest days : ℕ) → days ≡ march_days n + rest → days < march_days (n + 1) → rest < days_in_year (pos 400 *ℤ era +ℤ pos n +ℤ pos 1)
-part_of_year era n rest days split within =
+pub part_of_year : (era : ℤ) (n rest days : ℕ) → (days ≡ march_days n + rest) × (days < march_days (n + 1)) → rest < days_in_year (pos 400 *ℤ era +ℤ pos n +ℤ pos 1)
+part_of_year era n rest days within =
     let first = in_era era n (pos 400 *ℤ era +ℤ pos n +ℤ pos 1) (omega (arith, ints)) in
     let second = in_era era (n + 1) (pos 400 *ℤ era +ℤ pos n +ℤ pos 1 +ℤ pos 1) (omega (arith, ints)) in
     omega (arith, ints, next_first_day (pos 400 *ℤ era +ℤ pos n +ℤ pos 1))

@@ -98,8 +98,8 @@ next_month_is_later {from} {to} {date} {months} h k =
     grind (arith, linear)
 
 -- whole years are a twelfth of the whole months, rounded down
-pub whole_years : {from to : Date} {months years : ℤ} → IsMonthsBetween from to months → IsQuotient IsFloored months (pos 12) years → IsYearsBetween from to years
-whole_years {from} {to} {months} {years} h quotient =
+pub whole_years : {from to : Date} {months years given quotient : ℤ} → given ≡ months → years ≡ quotient → IsMonthsBetween from to months → IsQuotient IsFloored given (pos 12) quotient → IsYearsBetween from to years
+whole_years {from} {to} {months} {years} same whole h quotient =
     let (low, high) = floored_quotient_range quotient in
     let (date, is_after) = months_after_exists from (pos 12 *ℤ years) in
     record {

@@ -1,9 +1,9 @@
 -- The days of a month that have a given day of the week.
-use Rattle.calendar.proofs.Common.{◌≡◌, ◌↔◌, ◌+◌, ◌-◌, ◌*◌, ◌%◌, ◌<◌, ◌≤◌, ◌+ℤ◌, ◌-ℤ◌, ◌*ℤ◌, ℕ, ℤ, pos, negsuc, MatchOption, Option, Some, None, arith, refl, sym, by_lt_z, ints, IsSome, Date, Weekday, HasFifthWeekday, HasParts, IsLastWeekdayOfMonth, IsNthWeekday, number_of, LastWeekdayOfMonthIsOnly, NthWeekdayIsOnly, IsDate, days_in_month, weekday_number, HasWeekday, day_number}
+use Rattle.calendar.proofs.Common.{◌≡◌, ◌↔◌, ◌+◌, ◌-◌, ◌*◌, ◌<◌, ◌≤◌, ◌+ℤ◌, ◌-ℤ◌, ◌*ℤ◌, ℕ, ℤ, pos, negsuc, MatchOption, Option, Some, None, arith, refl, ints, IsSome, Date, Weekday, HasFifthWeekday, HasParts, IsLastWeekdayOfMonth, IsNthWeekday, number_of, LastWeekdayOfMonthIsOnly, NthWeekdayIsOnly, IsDate, days_in_month, HasWeekday, day_number}
 use Rattle.calendar.proofs.DateOrder.{only_date}
 use Rattle.calendar.proofs.FoundOrBeyond.{is_found}
 use Rattle.calendar.proofs.MonthLengths.{date_of, month_length_range}
-use Rattle.calendar.proofs.WeekdayPlaces.{days_earlier, same_day, weekday_within, weeks_apart}
+use Rattle.calendar.proofs.WeekdayPlaces.{same_day, weekday_within, weeks_apart}
 
 -- the dates of a month follow each other
 in_month : (a b : Date) {year : ℤ} {month d e : ℕ} → HasParts a year month d → HasParts b year month e → number_of a +ℤ pos e ≡ number_of b +ℤ pos d
@@ -39,11 +39,6 @@ nth_weekday_exists year month weekday n from to n_from n_to =
     let date : Date = date_of year month (7 * (n - 1) + days + 1) from to (omega arith) (omega arith) in
     (date, record { year_is = refl; month_is = refl; has_weekday = weeks_apart (pos (n - 1)) (omega (arith, ints)) has_weekday; after_weeks = omega arith; within_weeks = omega arith })
 
--- so each of these results is there
-pub first_four : (year : ℤ) (month : ℕ) (weekday : Weekday) (n : ℕ) (o : Option Date) → MatchOption o ((date : Date) → ¬ (IsNthWeekday year month weekday n date)) (λ date. IsNthWeekday year month weekday n date)
-    → 1 ≤ month → month ≤ 12 → 1 ≤ n → n ≤ 4 → IsSome o
-first_four year month weekday n o found from to n_from n_to = is_found (IsNthWeekday year month weekday n) o (nth_weekday_exists year month weekday n from to n_from n_to) found
-
 -- a fifth is 28 days after such a day
 fifth_weekday : {year : ℤ} {month : ℕ} {weekday : Weekday} → 1 ≤ month → month ≤ 12 → HasFifthWeekday year month weekday → (date : Date) × IsNthWeekday year month weekday 5 date
 fifth_weekday {year} {month} from to h =
@@ -64,26 +59,18 @@ fifth_is_found year month weekday (Some date) found from to = (λ some. has_fift
 -- ---- the last of them
 
 -- such a day less than a week before the end of the month is the last
-in_last_week : {year : ℤ} {month : ℕ} {weekday : Weekday} (date : Date) (length n : ℕ) → HasParts date year month (length - n) → length ≡ days_in_month year month → HasWeekday (number_of date) weekday → n < 7
-    → IsLastWeekdayOfMonth year month weekday date
-in_last_week {weekday = weekday} date length n parts is has_weekday small = record {
-  of_month = record { year_is = parts.year_is; month_is = parts.month_is; has_weekday = has_weekday };
-  last = λ other k.
-      let apart = in_month other date (record { year_is = k.year_is; month_is = k.month_is; day_is = refl }) parts in
-      let to = rw (k.year_is, k.month_is) at other.valid.day_to_last in
-      by_lt_z (number_of date) (number_of other)
-      (λ more. absurd (omega (arith, ints, same_day weekday has_weekday k.has_weekday (omega (arith, ints)) (omega (arith, ints)))))
-      (λ fine. fine);
-}
-
--- it is so many days before the last day of the month
-before_end : {year : ℤ} {month : ℕ} (date : Date) (length n : ℕ) → HasParts date year month (length - n) → number_of date ≡ day_number year month length -ℤ pos n
-before_end date length n parts = rw (parts.year_is, parts.month_is, parts.day_is) (omega (arith, ints, date.valid.day_from_one, parts.day_is))
-
--- found by the day of the week of the last day of the month
-pub last_of_month : {year : ℤ} {month : ℕ} {weekday own : Weekday} (date : Date) (length n : ℕ) → HasParts date year month (length - n) → length ≡ days_in_month year month → HasWeekday (day_number year month length) own
-    → weekday_number own ≡ (weekday_number weekday + n) % 7 → n < 7 → IsLastWeekdayOfMonth year month weekday date
-last_of_month date length n parts is h turned small = in_last_week date length n parts is (rw (sym (before_end date length n parts)) at (days_earlier n h turned)) small
+pub in_last_week : {year : ℤ} {month : ℕ} {weekday : Weekday} (date : Date) (length n : ℕ) → HasParts date year month (length - n) → length ≡ days_in_month year month
+    → HasWeekday (day_number year month length -ℤ pos n) weekday → n < 7 → IsLastWeekdayOfMonth year month weekday date
+in_last_week {year} {month} {weekday} date length n parts is h small =
+    let same : day_number year month length -ℤ pos n ≡ number_of date = rw (parts.year_is, parts.month_is, parts.day_is) (omega (arith, ints, date.valid.day_from_one, parts.day_is)) in
+    let has_weekday = rw same at h in
+    record {
+      of_month = record { year_is = parts.year_is; month_is = parts.month_is; has_weekday = has_weekday };
+      last = λ other k.
+          let apart = in_month other date (record { year_is = k.year_is; month_is = k.month_is; day_is = refl }) parts in
+          let to = rw (k.year_is, k.month_is) at other.valid.day_to_last in
+          grind (arith, ints, same_day weekday has_weekday k.has_weekday);
+    }
 
 -- Each month has a last of each day of the week.
 pub last_weekday_exists : (year : ℤ) (month : ℕ) (weekday : Weekday) → 1 ≤ month → month ≤ 12 → (date : Date) × IsLastWeekdayOfMonth year month weekday date
@@ -92,9 +79,8 @@ last_weekday_exists year month weekday from to =
     let length : ℕ = days_in_month year month in
     let (days, small, has_weekday) = weekday_within (day_number year month length -ℤ pos 6) weekday in
     let date : Date = date_of year month (length - (6 - days)) from to (omega arith) (omega arith) in
-    let parts : HasParts date year month (length - (6 - days)) = record { year_is = refl; month_is = refl; day_is = refl } in
-    let place : day_number year month length -ℤ pos 6 +ℤ pos days ≡ number_of date = omega (arith, ints, before_end date length (6 - days) parts) in
-    (date, in_last_week date length (6 - days) parts refl (rw place at has_weekday) (omega arith))
+    let place : day_number year month length -ℤ pos 6 +ℤ pos days ≡ day_number year month length -ℤ pos (6 - days) = omega (arith, ints) in
+    (date, in_last_week {year = year} {month = month} date length (6 - days) (record { year_is = refl; month_is = refl; day_is = refl }) refl (rw place at has_weekday) (omega arith))
 
 pub only_last_of_month : LastWeekdayOfMonthIsOnly
 only_last_of_month year month weekday a b h k = only_date a b (omega (arith, ints, h.last b k.of_month, k.last a h.of_month))

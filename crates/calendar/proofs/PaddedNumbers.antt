@@ -5,22 +5,18 @@ pub decimal_numerals : IsNumeralModel (AllDigits 10) (digits_value 10)
 decimal_numerals = numerals_by_value (AllDigits 10) tells_digits
 
 -- zeros in front are digits, and leave the value as it is
-zeros_digits : (k : ℕ) (ds : List ℕ) → AllDigits 10 ds → AllDigits 10 (replicate k 48 ++ ds)
-zeros_digits zero ds h = h
-zeros_digits (suc k) ds h = (omega arith, zeros_digits k ds h)
-
-zeros_value : (k : ℕ) (ds : List ℕ) → digits_value 10 (replicate k 48 ++ ds) ≡ digits_value 10 ds
-zeros_value zero ds = refl
-zeros_value (suc k) ds = zeros_value k ds
+zeros : (k : ℕ) (ds : List ℕ) → AllDigits 10 ds → AllDigits 10 (replicate k 48 ++ ds) × (digits_value 10 (replicate k 48 ++ ds) ≡ digits_value 10 ds)
+zeros zero ds h = (h, refl)
+zeros (suc k) ds h = let (digits, value) = zeros k ds h in ((omega arith, digits), value)
 
 pub length_padded : (places n : ℕ) → length (padded places n) ≡ (places - length (decimal n)) + length (decimal n)
 length_padded places n = simp (length-append, length-replicate)
 
 pub padded_digits : (places n : ℕ) → n < 2 ^ 64 → AllDigits 10 (padded places n)
-padded_digits places n small = zeros_digits (places - length (decimal n)) (decimal n) (decimal_is_IsNumeral n small).0.1
+padded_digits places n small = (zeros (places - length (decimal n)) (decimal n) (decimal_is_IsNumeral n small).0.1).0
 
 pub padded_value : (places n : ℕ) → n < 2 ^ 64 → digits_value 10 (padded places n) ≡ n
-padded_value places n small = zeros_value (places - length (decimal n)) (decimal n) ∙ (decimal_is_IsNumeral n small).1
+padded_value places n small = (zeros (places - length (decimal n)) (decimal n) (decimal_is_IsNumeral n small).0.1).1 ∙ (decimal_is_IsNumeral n small).1
 
 -- numbers of two digits
 pub two_places : (n : ℕ) → n < 100 → padded 2 n ≡ (48 + n / 10) ∷ (48 + n % 10) ∷ []
@@ -37,12 +33,11 @@ padded_shortest n small = grind (arith, length_padded, digit_at, padded_digits, 
 -- digits of one length and one value are the same
 same_digits : (a b : ℕ) (ds es : List ℕ) → AllDigits 10 ds → AllDigits 10 es → length ds ≡ length es → digits_value_after 10 a ds ≡ digits_value_after 10 b es → (a ≡ b) × (ds ≡ es)
 same_digits a b [] [] d f l e = (e, refl)
-same_digits a b [] (y ∷ ys) d f l e = absurd (omega arith)
-same_digits a b (x ∷ xs) [] d f l e = absurd (omega arith)
 same_digits a b (x ∷ xs) (y ∷ ys) d f l e =
     let rest = same_digits (a * 10 + digit_value x) (b * 10 + digit_value y) xs ys d.1 f.1 (omega arith) e in
     let first : x ≡ y = omega (arith, digit_value_digit x (digit_from_value x d.0), digit_value_digit y (digit_from_value y f.0)) in
     (omega arith, rw (first, rest.1) refl)
+same_digits a b ds es d f l e = absurd (omega arith)
 
 padded_is : (ds : List ℕ) → AllDigits 10 ds → IsShortest ds → digits_value 10 ds < 2 ^ 64 → ds ≡ padded 4 (digits_value 10 ds)
 padded_is ds h so small =

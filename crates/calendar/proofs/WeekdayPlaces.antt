@@ -1,26 +1,14 @@
 -- Days that have a given day of the week, and the first and the last of them.
-use Rattle.calendar.proofs.Common.{◌≡◌, ◌+◌, ◌-◌, ◌/◌, ◌%◌, ◌<◌, ◌≤ℤ◌, ◌<ℤ◌, ◌+ℤ◌, ◌-ℤ◌, ◌*ℤ◌, ℕ, ℤ, pos, negsuc, unsigned_abs, List, [], ◌∷◌, get_or, FitsSigned, MatchOption, Option, w64, SomeIff, ◌∙◌, ap, arith, refl, sym, ints, floored_by_range, greatest_is_only, least_is_only, linear, only_floored, Weekday, Sunday, Monday, Tuesday, Wednesday, Thursday, Friday, Saturday, FirstWeekdayExists, FirstWeekdayIsOnly, IsoNumberIsOnly, LastWeekdayExists, LastWeekdayIsOnly, WeekdayIsOnly, WeekdaysFollow, weekday_number, HasWeekday, IsFirstWeekday, IsLastWeekday}
+use Rattle.calendar.proofs.Common.{◌≡◌, ◌+◌, ◌-◌, ◌/◌, ◌%◌, ◌<◌, ◌≤ℤ◌, ◌<ℤ◌, ◌+ℤ◌, ◌-ℤ◌, ◌*ℤ◌, ℕ, ℤ, pos, negsuc, unsigned_abs, FitsSigned, MatchOption, Option, w64, SomeIff, ap, arith, refl, ints, floored_by_range, greatest_is_only, least_is_only, linear, only_floored, Weekday, Thursday, FirstWeekdayExists, FirstWeekdayIsOnly, IsoNumberIsOnly, LastWeekdayExists, LastWeekdayIsOnly, WeekdayIsOnly, WeekdaysFollow, weekday_number, HasWeekday, IsFirstWeekday, IsLastWeekday}
 use Rattle.calendar.proofs.FoundOrBeyond.{only_or_beyond}
 
 -- ---- days of one day of the week
 
-abbrev weekdays : List Weekday
-weekdays = Sunday ∷ Monday ∷ Tuesday ∷ Wednesday ∷ Thursday ∷ Friday ∷ Saturday ∷ []
-
-by_number : (weekday : Weekday) → (weekday_number weekday < 7) × (get_or weekdays (weekday_number weekday) Sunday ≡ weekday)
-by_number Sunday = (omega arith, refl)
-by_number Monday = (omega arith, refl)
-by_number Tuesday = (omega arith, refl)
-by_number Wednesday = (omega arith, refl)
-by_number Thursday = (omega arith, refl)
-by_number Friday = (omega arith, refl)
-by_number Saturday = (omega arith, refl)
-
 pub below_seven : (weekday : Weekday) → weekday_number weekday < 7
-below_seven weekday = (by_number weekday).0
+below_seven weekday = grind arith
 
 only_number : {a b : Weekday} → weekday_number a ≡ weekday_number b → a ≡ b
-only_number {a} {b} same = sym (by_number a).1 ∙ ap (λ (n : ℕ). get_or weekdays n Sunday) same ∙ (by_number b).1
+only_number {a} {b} same = grind arith
 
 -- by whole weeks
 pub on_weekday : {day : ℤ} (weekday : Weekday) (weeks : ℤ) → day +ℤ pos 4 ≡ weeks *ℤ pos 7 +ℤ pos (weekday_number weekday) → HasWeekday day weekday
@@ -35,22 +23,19 @@ pub week_later : {day : ℤ} {weekday : Weekday} → HasWeekday day weekday → 
 week_later h = weeks_apart (pos 1) refl h
 
 -- the day of the week some days later, and some days before
-pub days_later : {day : ℤ} {a b : Weekday} (n : ℕ) → HasWeekday day a → weekday_number b ≡ (weekday_number a + n) % 7 → HasWeekday (day +ℤ pos n) b
-days_later {a = a} {b = b} n h turned = on_weekday b (h.remainder.quotient +ℤ pos ((weekday_number a + n) / 7)) (omega (arith, ints, h.remainder.division.division.equation))
+pub days_later : {day later : ℤ} {a b : Weekday} (n : ℕ) → later ≡ day +ℤ pos n → HasWeekday day a → weekday_number b ≡ (weekday_number a + n) % 7 → HasWeekday later b
+days_later {a = a} {b = b} n place h turned = on_weekday b (h.remainder.quotient +ℤ pos ((weekday_number a + n) / 7)) (omega (arith, ints, h.remainder.division.division.equation))
 
-pub days_earlier : {day : ℤ} {a b : Weekday} (n : ℕ) → HasWeekday day a → weekday_number a ≡ (weekday_number b + n) % 7 → HasWeekday (day -ℤ pos n) b
-days_earlier {b = b} n h turned = on_weekday b (h.remainder.quotient -ℤ pos ((weekday_number b + n) / 7)) (omega (arith, ints, h.remainder.division.division.equation))
+pub days_earlier : {day sooner : ℤ} {a b : Weekday} (n : ℕ) → sooner ≡ day -ℤ pos n → HasWeekday day a → weekday_number a ≡ (weekday_number b + n) % 7 → HasWeekday sooner b
+days_earlier {b = b} n place h turned = on_weekday b (h.remainder.quotient -ℤ pos ((weekday_number b + n) / 7)) (omega (arith, ints, h.remainder.division.division.equation))
 
 -- eras are whole weeks
 pub weekday_in_era : {day : ℤ} (era : ℤ) (n : ℕ) (weekday : Weekday) → day ≡ pos 146097 *ℤ era +ℤ pos n -ℤ pos 865566 → weekday_number weekday ≡ (n + 2) % 7 → HasWeekday day weekday
 weekday_in_era era n weekday place is = on_weekday weekday (pos 20871 *ℤ era -ℤ pos 123652 +ℤ pos ((n + 2) / 7)) (omega (arith, ints))
 
-same_place : (a b p q : ℤ) (w : ℕ) → a +ℤ pos 4 ≡ p *ℤ pos 7 +ℤ pos w → b +ℤ pos 4 ≡ q *ℤ pos 7 +ℤ pos w → a <ℤ (b +ℤ pos 7) → b <ℤ (a +ℤ pos 7) → a ≡ b
-same_place a b p q w first second after before = omega (arith, ints)
-
 -- Days of one day of the week are less than a week apart only if they are the same.
 pub same_day : {a b : ℤ} (weekday : Weekday) → HasWeekday a weekday → HasWeekday b weekday → a <ℤ (b +ℤ pos 7) → b <ℤ (a +ℤ pos 7) → a ≡ b
-same_day {a} {b} weekday h k after before = same_place a b h.remainder.quotient k.remainder.quotient (weekday_number weekday) h.remainder.division.division.equation k.remainder.division.division.equation after before
+same_day {a} {b} weekday h k after before = omega (arith, ints, h.remainder.division.division.equation, k.remainder.division.division.equation)
 
 -- ---- the first and the last of them
 
@@ -69,13 +54,15 @@ pub only_last : LastWeekdayIsOnly
 only_last to weekday a b h k = greatest_is_only k a h
 
 -- by the days between the days of the week, if it fits
-pub first_or_beyond : (o : Option ℤ) {day : ℤ} {a : Weekday} (b : Weekday) (n : ℕ) → HasWeekday day a → weekday_number b ≡ (weekday_number a + n) % 7 → n < 7 → SomeIff o (FitsSigned w64 (day +ℤ pos n)) (day +ℤ pos n)
-    → MatchOption o ((z : ℤ) → IsFirstWeekday day b z → ¬ (FitsSigned w64 z)) (IsFirstWeekday day b)
-first_or_beyond o {day = day} b n h turned small found = only_or_beyond (IsFirstWeekday day b) o (only_first day b) found (first_within b (days_later n h turned) (omega (arith, ints)) (omega (arith, ints)))
+pub first_or_beyond : (o : Option ℤ) {day given found : ℤ} {a : Weekday} (b : Weekday) (n : ℕ) → given ≡ day → HasWeekday given a → weekday_number b ≡ (weekday_number a + n) % 7 → n < 7
+    → found ≡ day +ℤ pos n → SomeIff o (FitsSigned w64 found) found → MatchOption o ((z : ℤ) → IsFirstWeekday day b z → ¬ (FitsSigned w64 z)) (IsFirstWeekday day b)
+first_or_beyond o {day = day} b n same h turned small place found =
+    only_or_beyond (IsFirstWeekday day b) o (only_first day b) found (first_within b (days_later n (omega (arith, ints)) h turned) (omega (arith, ints)) (omega (arith, ints)))
 
-pub last_or_beyond : (o : Option ℤ) {day : ℤ} {a : Weekday} (b : Weekday) (n : ℕ) → HasWeekday day a → weekday_number a ≡ (weekday_number b + n) % 7 → n < 7 → SomeIff o (FitsSigned w64 (day -ℤ pos n)) (day -ℤ pos n)
-    → MatchOption o ((z : ℤ) → IsLastWeekday day b z → ¬ (FitsSigned w64 z)) (IsLastWeekday day b)
-last_or_beyond o {day = day} b n h turned small found = only_or_beyond (IsLastWeekday day b) o (only_last day b) found (last_within b (days_earlier n h turned) (omega (arith, ints)) (omega (arith, ints)))
+pub last_or_beyond : (o : Option ℤ) {day given found : ℤ} {a : Weekday} (b : Weekday) (n : ℕ) → given ≡ day → HasWeekday given a → weekday_number a ≡ (weekday_number b + n) % 7 → n < 7
+    → found ≡ day -ℤ pos n → SomeIff o (FitsSigned w64 found) found → MatchOption o ((z : ℤ) → IsLastWeekday day b z → ¬ (FitsSigned w64 z)) (IsLastWeekday day b)
+last_or_beyond o {day = day} b n same h turned small place found =
+    only_or_beyond (IsLastWeekday day b) o (only_last day b) found (last_within b (days_earlier n (omega (arith, ints)) h turned) (omega (arith, ints)) (omega (arith, ints)))
 
 rest_of_week : (day : ℤ) → (weeks : ℤ) × (rest : ℕ) × (rest < 7) × (day +ℤ pos 4 ≡ weeks *ℤ pos 7 +ℤ pos rest)
 rest_of_week (pos n) = (pos ((n + 4) / 7), (n + 4) % 7, omega arith, omega (arith, ints))

@@ -1,5 +1,5 @@
 -- The days of years, and the days on which they begin.
-use Rattle.calendar.proofs.Common.{◌≡◌, ◌+◌, ◌-◌, ◌*◌, ◌/◌, ◌≤◌, ◌≤ℤ◌, ◌<ℤ◌, ◌+ℤ◌, ◌-ℤ◌, ◌*ℤ◌, ℕ, zero, suc, ℤ, pos, negsuc, Bool, true, false, cond, sum, arith, add-one, refl, nat_tests, by_lt_z, ints, to_z-of_z, YearsFollow, month_lengths, first_day}
+use Rattle.calendar.proofs.Common.{◌≡◌, ◌+◌, ◌-◌, ◌*◌, ◌/◌, ◌≤◌, ◌≤ℤ◌, ◌<ℤ◌, ◌+ℤ◌, ◌-ℤ◌, ◌*ℤ◌, ℕ, zero, suc, ℤ, pos, negsuc, Bool, cond, sum, arith, add-one, refl, nat_tests, by_lt_z, ints, to_z-of_z, YearsFollow, month_lengths, first_day}
 use Rattle.calendar.specs.LeapYears.{is_leap_year, is_multiple}
 use Rattle.calendar.specs.Years.{days_after, days_before, days_in_year}
 use Rattle.calendar.proofs.Remainders.{rem_zero}
@@ -10,8 +10,7 @@ use Rattle.calendar.proofs.Remainders.{rem_zero}
 pub ruleset multiples = (ints, to_z-of_z, nat_tests, rem_zero)
 
 pub length_of : (leap : Bool) → sum (month_lengths leap) ≡ cond leap 366 365
-length_of true = refl
-length_of false = refl
+length_of leap = grind arith
 
 -- A year has 365 or 366 days.
 pub length_range : (year : ℤ) → (365 ≤ days_in_year year) × (days_in_year year ≤ 366)
@@ -31,14 +30,12 @@ years_before zero = refl
 years_before (suc n) = omega (arith, years_before n, one_year n)
 
 -- years on both sides of year 0 are as long
-mirrored : (n : ℕ) → days_in_year (pos (suc n)) ≡ days_in_year (negsuc n)
-unfolding days_in_year is_leap_year is_multiple
-mirrored n = refl
-
 years_after : (n : ℕ) → days_after (suc n) ≡ 366 + days_before n
 unfolding days_after days_before days_in_year is_leap_year is_multiple
 years_after zero = refl
-years_after (suc n) = omega (arith, years_after n, mirrored n)
+years_after (suc n) =
+    let mirrored : days_in_year (pos (suc n)) ≡ days_in_year (negsuc n) = refl in
+    omega (arith, years_after n)
 
 none_after : days_after 0 ≡ 0
 unfolding days_after

@@ -194,6 +194,7 @@ impl Date {
 
     /// Returns the day of the year, which is 1 on 1 January.
     /// `Date::new(2000, 12, 31).unwrap().day_of_year()` is `366`.
+    #[tactic(auto, using(crate::proofs::YearLengths::year_steps), unfolding(crate::specs::Years::days_in_year))]
     #[inline]
     pub const fn day_of_year(&self) -> u16
         ensures day { result ≡ year_day_of self.now }

@@ -83,6 +83,7 @@ fn days_to_full_moon(epact: u8, golden: u8) -> u8
 }
 
 /// Returns the epact, the age of the moon on 1 January, in years of this century and golden number.
+#[tactic(auto, using(crate::proofs::EasterSundays::easter_steps))]
 fn epact_of(century: i64, golden: u8) -> u8
     requires { unsigned_abs century < 2 ^ 57 }
     ensures value { IsEpact century golden result }
@@ -103,6 +104,7 @@ fn epact_sum(golden: u8, solar: i64, lunar: i64) -> i64
 }
 
 /// Returns how many leap days the calendar has dropped in multiples of 100.
+#[tactic(auto, using(crate::proofs::EasterSundays::easter_steps))]
 fn solar_correction(century: i64) -> i64
     requires { unsigned_abs century < 2 ^ 57 }
     ensures value { IsSolarCorrection century result }

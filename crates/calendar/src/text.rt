@@ -114,6 +114,7 @@ impl Text for IsoWeek {
 }
 
 /// Prints the year with at least four digits. A year outside 0 to 9999 has a sign.
+#[tactic(auto, using(crate::proofs::DateTexts::plain_year, crate::proofs::DateTexts::signed_year))]
 fn write_year<W: fmt::Write>(year: i64, f: &mut W) -> fmt::Result
     ensures { OnOk result (WritesInCalls W.write_str_gives f.old (year_text year) f.new) }
 {

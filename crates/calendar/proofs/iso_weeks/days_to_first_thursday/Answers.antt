@@ -1,11 +1,11 @@
-use Rattle.calendar.proofs.Common.{FitsSigned, w64, arith, rules, sym, ints, to_z-of_z, first_day}
+use Rattle.calendar.proofs.Common.{arith, ints, first_day}
 use Rattle.calendar.proofs.IsoWeeks.{to_thursday}
+use Rattle.calendar.proofs.MarchYears.{month_at}
 use Rattle.calendar.proofs.iso_weeks.days_to_first_thursday.Goals as goal
 
 pub returns-clause-value : goal.returns-clause-value
 returns-clause-value c =
-    let year = c.ranges.year in
-    let era : FitsSigned w64 c.era_before_year-year_of_era.result.0 = search rules in
-    let place = simp to_z-of_z at c.era_before_year-year_of_era.ensures.place in
-    let january = rw (sym place) at (c.days_to_month-days_to_january.ensures.day c.era_before_year-year_of_era.result.0) in
-    to_thursday {first = first_day c.args.year} c.era_before_year-year_of_era.result.0 c.days_to_month-days_to_january.result (omega (arith, ints, january))
+    let era = c.era_before_year-year_of_era in
+    let days = c.days_to_month-days_to_january in
+    let january = month_at era.result 1 days.result c.ranges.year era.ensures.place days.ensures.day in
+    to_thursday {first = first_day c.args.year} era.result.0 days.result (omega (arith, ints, january))

@@ -1,5 +1,5 @@
 use Rattle.calendar.proofs.Common.{ℤ, Some, FitsSigned, w64, ap, refl, rules, sym, ◌∙◌, to_z-of_z}
-use Rattle.calendar.proofs.DateTexts.{made_date, no_date, only_number, small_parts}
+use Rattle.calendar.proofs.DateTexts.{made_date, no_date, only_number, parts_told, small_parts}
 use Rattle.calendar.proofs.text.parse_date.Goals as goal
 
 pub returns-in_err-year : goal.returns-in_err-year
@@ -9,9 +9,8 @@ returns-in_err-year c = λ date fits. no_date c.from_residual-in_err-year.ensure
 
 pub returns-in_err-parse_year : goal.returns-in_err-parse_year
 returns-in_err-parse_year c = λ date fits. no_date c.from_residual-in_err-parse_year.ensures (λ e.
-    let front = only_number c.args.text.now _ _ _ _ c.in_ok-front.ensures.0 (small_parts date).1 c.in_ok-front.ensures.1 e in
-    let year = only_number c.in_ok-front.front.now _ _ _ _ c.in_ok-year.ensures.0 (small_parts date).0 c.in_ok-year.ensures.1 front.0 in
-    let read = (c.parse_year.ensures date.year fits).1 year.0 in
+    let told = parts_told date c.in_ok-front.ensures c.in_ok-year.ensures e in
+    let read = (c.parse_year.ensures date.year fits).1 told.0 in
     cc (c.in_err-parse_year.was))
 
 pub returns : goal.returns
@@ -24,8 +23,7 @@ returns c =
           let year = (c.parse_year.ensures date.year fits).0 (c.in_ok-parse_year.was ∙ ap (λ (y : ℤ). Some y) (sym parts.year_is)) in
           c.in_ok-front.ensures.1 ∙ rw (c.in_ok-year.ensures.1, year, parts.month_is, parts.day_is) refl,
       λ e.
-          let front = only_number c.args.text.now _ _ _ _ c.in_ok-front.ensures.0 (small_parts date).1 c.in_ok-front.ensures.1 e in
-          let year = only_number c.in_ok-front.front.now _ _ _ _ c.in_ok-year.ensures.0 (small_parts date).0 c.in_ok-year.ensures.1 front.0 in
-          let read = (c.parse_year.ensures date.year fits).1 year.0 in
-          made_date c.new.result date made (cc (c.in_ok-parse_year.was)) year.1 front.1,
+          let (front, month, day) = parts_told date c.in_ok-front.ensures c.in_ok-year.ensures e in
+          let read = (c.parse_year.ensures date.year fits).1 front in
+          made_date c.new.result date made (cc (c.in_ok-parse_year.was)) month day,
     )

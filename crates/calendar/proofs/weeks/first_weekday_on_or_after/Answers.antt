@@ -1,9 +1,10 @@
-use Rattle.calendar.proofs.Common.{pos, FitsSigned, w64, arith, ints, to_z-of_z}
+use Rattle.calendar.proofs.Common.{w64, of_z, to_z, arith, ints, HasWeekday}
 use Rattle.calendar.proofs.WeekdayPlaces.{first_or_beyond}
 use Rattle.calendar.proofs.weeks.first_weekday_on_or_after.Goals as goal
 
 pub returns : goal.returns
 returns c =
-    let days : FitsSigned w64 (pos c.days_until.result) = omega (arith, ints) in
-    let found = simp (c.from.ensures, to_z-of_z w64 c.args.day c.ranges.day, to_z-of_z) at c.checked_add.ensures in
-    first_or_beyond _ c.args.weekday c.days_until.result (record { remainder = simp (to_z-of_z w64 c.args.day c.ranges.day) at c.weekday_of.ensures }) c.days_until.ensures.value c.days_until.ensures.small found
+    let own : HasWeekday (to_z w64 (of_z w64 c.args.day)) c.weekday_of.result = record { remainder = c.weekday_of.ensures } in
+    let days = c.days_until in
+    first_or_beyond _ c.args.weekday days.result (omega (arith, ints)) own days.ensures.value days.ensures.small
+    (omega (arith, ints, c.from.ensures)) c.checked_add.ensures

@@ -1,23 +1,19 @@
-use Rattle.calendar.proofs.Common.{◌+◌, ◌/◌, ◌<◌, ◌≤◌, ℕ, ℤ, FitsSigned, w64, arith, refl, rules, subst, ints, to_z-of_z, Fits, w16, w8, HasDay, merely}
+use Rattle.calendar.proofs.Common.{ℤ, FitsSigned, w64, arith, refl, rules, subst, ints, to_z-of_z, HasDay, merely}
 use Rattle.calendar.proofs.IsoWeeks.{same_thursday, week_of}
 use Rattle.calendar.proofs.YearLengths.{length_range}
 use Rattle.calendar.proofs.date.Date.iso_week.Goals as goal
-
--- the number of a week fits
-few_weeks : {days length : ℕ} → days < length → length ≤ 366 → (days / 7 + 1 ≤ 53) × Fits w8 (days / 7 + 1) × Fits w16 (days / 7 + 1)
-few_weeks within long = (omega arith, omega arith, omega arith)
 
 pub nearby_year-requires : goal.nearby_year-requires
 nearby_year-requires c = grind (arith, to_z-of_z)
 
 pub overflow_add-result : goal.overflow_add-result
-overflow_add-result c = (few_weeks c.in_ok-year.ensures.0 (length_range c.in_ok-year.year).1).2
+overflow_add-result c = omega (arith, c.in_ok-year.ensures, length_range c.in_ok-year.year)
 
 pub overflow_cast-result : goal.overflow_cast-result
-overflow_cast-result c = (few_weeks c.in_ok-year.ensures.0 (length_range c.in_ok-year.year).1).1
+overflow_cast-result c = omega (arith, c.in_ok-year.ensures, length_range c.in_ok-year.year)
 
 pub returns-clause-to_53 : goal.returns-clause-to_53
-returns-clause-to_53 c = (few_weeks c.in_ok-year.ensures.0 (length_range c.in_ok-year.year).1).0
+returns-clause-to_53 c = omega (arith, c.in_ok-year.ensures, length_range c.in_ok-year.year)
 
 pub returns-in_err-year-clause-week : goal.returns-in_err-year-clause-week
 returns-in_err-year-clause-week c =
@@ -28,16 +24,13 @@ returns-in_err-year-clause-week c =
 
 pub invariant_of-result : goal.invariant_of-result
 invariant_of-result c =
-    let year : FitsSigned w64 c.args.self.now.year = search rules in
     let own : FitsSigned w64 c.in_ok-year.year = search rules in
-    let fits : FitsSigned w64 c.days_to_thursday_of_date.result = omega (arith, ints) in
-    let (within, place) = simp to_z-of_z at c.in_ok-year.ensures in
-    simp to_z-of_z (record { valid = merely (record { day = _; in_week = week_of c.days_to_thursday_of_date.ensures.of_week within place refl }) })
+    let of_week = c.days_to_thursday_of_date.ensures.of_week in
+    let found = c.in_ok-year.ensures in
+    simp to_z-of_z (record { valid = merely (record { day = _; in_week = week_of of_week found.0 (grind (arith, ints, to_z-of_z, found)) refl }) })
 
 pub returns-clause-week : goal.returns-clause-week
 returns-clause-week c =
-    let year : FitsSigned w64 c.args.self.now.year = search rules in
     let own : FitsSigned w64 c.in_ok-year.year = search rules in
-    let fits : FitsSigned w64 c.days_to_thursday_of_date.result = omega (arith, ints) in
-    let (within, place) = simp to_z-of_z at c.in_ok-year.ensures in
-    simp to_z-of_z (week_of c.days_to_thursday_of_date.ensures.of_week within place refl)
+    let found = c.in_ok-year.ensures in
+    simp to_z-of_z (week_of c.days_to_thursday_of_date.ensures.of_week found.0 (grind (arith, ints, to_z-of_z, found)) refl)
