@@ -6,13 +6,8 @@ use Rattle.calendar.proofs.YearLengths.{later_year, length_range, next_first_day
 
 -- ---- Thursdays
 
--- whole weeks from day 0 on
-pub is_thursday : {day : ℤ} (q : ℤ) → day ≡ q *ℤ pos 7 → HasWeekday day Thursday
-is_thursday q e = on_weekday Thursday q (omega (arith, ints))
-
 pub same_thursday : {day a b : ℤ} → IsThursdayOfWeek day a → IsThursdayOfWeek day b → a ≡ b
-same_thursday h k =
-    same_day Thursday h.has_weekday k.has_weekday (omega (arith, linear, h.to, k.from)) (omega (arith, linear, h.from, k.to))
+same_thursday h k = same_day Thursday h.has_weekday k.has_weekday (omega (arith, linear, h.to, k.from)) (omega (arith, linear, h.from, k.to))
 
 -- the days from 1 January to the Thursday of the week, by the days of an era
 pub days_to_thursday : (date : Date) (era days : ℤ) (n january : ℕ) → number_of date ≡ pos 146097 *ℤ era +ℤ pos n -ℤ pos 865566 → first_day date.year ≡ pos 146097 *ℤ era +ℤ pos january -ℤ pos 865565
@@ -21,7 +16,7 @@ days_to_thursday date era days n january place first is =
     let (from, to) = year_day_range date.valid in
     let length = length_range date.year in
     let weeks : ℤ = pos 20871 *ℤ era -ℤ pos 123652 +ℤ pos ((n + 1) / 7) in
-    let thursday : HasWeekday (first_day date.year +ℤ days) Thursday = is_thursday weeks (omega (arith, ints, first, is)) in (
+    let thursday : HasWeekday (first_day date.year +ℤ days) Thursday = on_weekday Thursday weeks (omega (arith, ints, first, is)) in (
       record { has_weekday = thursday; from = omega (arith, ints, place, first, is); to = omega (arith, ints, place, first, is) },
       omega (arith, ints, place, first, is, from),
       omega (arith, ints, place, first, is, to, length.1),
@@ -124,7 +119,7 @@ day_or_none (Some date) place weekday same h is near = rw (sym same, near) (by_t
 
 -- the Thursdays of a year, from the first on
 pub later_thursday : (year : ℤ) {first : ℕ} (weeks : ℕ) → IsRemainder IsFloored (pos 0 -ℤ first_day year) (pos 7) (pos first) → HasWeekday (first_day year +ℤ pos (first + 7 * weeks)) Thursday
-later_thursday year weeks h = is_thursday (pos weeks -ℤ h.quotient) (omega (arith, ints, h.division.division.equation))
+later_thursday year weeks h = on_weekday Thursday (pos weeks -ℤ h.quotient) (omega (arith, ints, h.division.division.equation))
 
 -- the Thursday of a week, if it is in the year
 pub thursday_in_year : {year : ℤ} {week : ℕ} (place : ℕ) → HasWeekday (first_day year +ℤ pos place) Thursday → 7 * week ≤ place + 7 → place < 7 * week → place < days_in_year year → IsDayOfIsoWeek (first_day year +ℤ pos place) year week Thursday
@@ -132,8 +127,7 @@ thursday_in_year {year} place h from before inside = grind (arith, ints, next_fi
 
 -- and if some day is in the week, it is
 pub within_year : {day year : ℤ} {week : ℕ} (place : ℕ) → HasWeekday (first_day year +ℤ pos place) Thursday → 7 * week ≤ place + 7 → place < 7 * week → IsInIsoWeek day year week → place < days_in_year year
-within_year {year = year} place own from before h =
-    omega (arith, ints, next_first_day year)
+within_year {year = year} place own from before h = omega (arith, ints, next_first_day year)
 
 -- ---- the number of weeks of a year
 

@@ -7,8 +7,7 @@ use Rattle.calendar.proofs.MonthLengths.{date_of, month_length_range}
 
 -- Dates of one month number are of one year and month.
 pub same_month : (a b : Date) → month_number a.year a.month ≡ month_number b.year b.month → (a.year ≡ b.year) × (a.month ≡ b.month)
-same_month a b same =
-    omega (arith, ints)
+same_month a b same = omega (arith, ints)
 
 -- A date of a later month is later.
 pub later_month : (a b : Date) → month_number a.year a.month <ℤ month_number b.year b.month → number_of a <ℤ number_of b

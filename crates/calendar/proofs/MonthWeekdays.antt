@@ -1,5 +1,5 @@
 -- The days of a month that have a given day of the week.
-use Rattle.calendar.proofs.Common.{◌≡◌, ◌↔◌, ◌+◌, ◌-◌, ◌*◌, ◌<◌, ◌≤◌, ◌+ℤ◌, ◌-ℤ◌, ◌*ℤ◌, ℕ, ℤ, pos, negsuc, MatchOption, Option, Some, None, arith, refl, ints, IsSome, Date, Weekday, HasFifthWeekday, HasParts, IsLastWeekdayOfMonth, IsNthWeekday, number_of, LastWeekdayOfMonthIsOnly, NthWeekdayIsOnly, IsDate, days_in_month, HasWeekday, day_number}
+use Rattle.calendar.proofs.Common.{by_lt_z, ◌≡◌, ◌↔◌, ◌+◌, ◌-◌, ◌*◌, ◌<◌, ◌≤◌, ◌+ℤ◌, ◌-ℤ◌, ◌*ℤ◌, ℕ, ℤ, pos, negsuc, MatchOption, Option, Some, None, arith, refl, ints, IsSome, Date, Weekday, HasFifthWeekday, HasParts, IsLastWeekdayOfMonth, IsNthWeekday, number_of, LastWeekdayOfMonthIsOnly, NthWeekdayIsOnly, IsDate, days_in_month, HasWeekday, day_number}
 use Rattle.calendar.proofs.DateOrder.{only_date}
 use Rattle.calendar.proofs.FoundOrBeyond.{is_found}
 use Rattle.calendar.proofs.MonthLengths.{date_of, month_length_range}
@@ -69,7 +69,9 @@ in_last_week {year} {month} {weekday} date length n parts is h small =
       last = λ other k.
           let apart = in_month other date (record { year_is = k.year_is; month_is = k.month_is; day_is = refl }) parts in
           let to = rw (k.year_is, k.month_is) at other.valid.day_to_last in
-          grind (arith, ints, same_day weekday has_weekday k.has_weekday);
+          by_lt_z (number_of date) (number_of other)
+          (λ more. absurd (omega (arith, ints, same_day weekday has_weekday k.has_weekday (omega (arith, ints)) (omega (arith, ints)))))
+          (λ fine. fine);
     }
 
 -- Each month has a last of each day of the week.

@@ -26,7 +26,9 @@ module _ (after this : Date) {year : ℤ} {weekday : Weekday} (same : year ≡ a
   of_this_month later = record {
     later = (order after this).0 (inr (sym (h.of_month.year_is ∙ same), inr (sym h.of_month.month_is, later)));
     last = own_month h;
-    first = λ other beyond k. last_weekdays_in_order (own_month h) k (grind (arith, ints, h.of_month, later_month other after));
+    first = λ other beyond k. last_weekdays_in_order (own_month h) k (by_lt_z (month_number other.year other.month) (month_number this.year this.month)
+        (λ sooner. absurd (omega (arith, linear, later_month other after (omega (arith, ints, h.of_month)))))
+        (λ fine. fine));
   }
 
   -- and else that of the next month is

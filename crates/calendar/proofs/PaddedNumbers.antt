@@ -49,15 +49,12 @@ padded_is ds h so small =
     ] in
     (same_digits 0 0 ds (padded 4 (digits_value 10 ds)) h (padded_digits 4 (digits_value 10 ds) small) same (sym (padded_value 4 (digits_value 10 ds) small))).1
 
--- what is written so is parsed as the number, and what is parsed as a number is written so
+-- what is written so is parsed as the number
 pub number_read : {E : Type 0} (n : ℕ) (ds : List ℕ) (r : Result ℕ E) → n < 2 ^ 64 → ds ≡ padded 4 n → ParsesUnsigned 64 10 ds r → r ≡ Ok n
 number_read n ds r small e h =
     let so = padded_shortest n small in
     let value = padded_value 4 n small in
     rw value at (parse_gives decimal_numerals 64 (padded 4 n) r (rw e at h) (padded_digits 4 n small) (omega (arith, so.0)) (rw value small))
-
-pub number_text : {E : Type 0} (n : ℕ) (ds : List ℕ) (r : Result ℕ E) → IsShortest ds → r ≡ Ok n → ParsesUnsigned 64 10 ds r → ds ≡ padded 4 n
-number_text n ds r so e h = grind (arith, padded_is)
 
 -- ---- what is read of a string: no number, or the one from the least to the most that is written so
 
@@ -75,6 +72,6 @@ outside_read {least = least} {most = most} {ds = ds} m r small h is outside n = 
 
 pub number_inside_read : {E : Type 0} {least most : ℕ} {ds : List ℕ} (m : ℕ) (r : Result ℕ E) → most < 2 ^ 64 → ParsesUnsigned 64 10 ds r → r ≡ Ok m → IsShortest ds → (least ≤ m) × (m ≤ most) → Reads (Some m) least most ds
 number_inside_read {least = least} {most = most} {ds = ds} m r small h is so within n = (
-  λ e. let same : m ≡ n = cc in subst (λ (t : ℕ). (least ≤ t) × (t ≤ most) × (ds ≡ padded 4 t)) same (within.0, within.1, number_text m ds r so is h),
+  λ e. let same : m ≡ n = cc in subst (λ (t : ℕ). (least ≤ t) × (t ≤ most) × (ds ≡ padded 4 t)) same (within.0, within.1, grind (arith, padded_is)),
   λ k. let read = number_read n ds r (omega arith) k.2 h in cc,
 )

@@ -197,6 +197,7 @@ pub(crate) const fn parts_from_march(year: i64, days: u32) -> (i64, u8, u8)
 }
 
 /// Returns the year whose 1 March is the last one that is not after the day, and the days from there.
+#[tactic(auto, using(crate::proofs::YearLengths::year_steps))]
 #[inline]
 pub(crate) const fn march_year_of_day(day: i64) -> (i64, u32)
     ensures day { day_number result.0 3 1 +ℤ pos result.1 ≡ day }

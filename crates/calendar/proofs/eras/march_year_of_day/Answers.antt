@@ -1,15 +1,6 @@
 use Rattle.calendar.proofs.Common.{◌≡◌, ◌+ℤ◌, ◌*ℤ◌, pos, FitsSigned, w64, arith, rules, ints, to_z-of_z, to_z_pos}
 use Rattle.calendar.proofs.eras.march_year_of_day.Goals as goal
 
-pub overflow_mul-result : goal.overflow_mul-result
-overflow_mul-result c = omega (arith, ints)
-
-pub overflow_add-result : goal.overflow_add-result
-overflow_add-result c = omega (arith, ints)
-
-pub overflow_add-result-2 : goal.overflow_add-result-2
-overflow_add-result-2 c = omega (arith, ints)
-
 pub returns : goal.returns
 returns c =
     let era = c.eras_in_days-era.result.0 in

@@ -1,4 +1,4 @@
-use Rattle.calendar.proofs.Common.{◌≡◌, ◌+ℤ◌, ◌≤ℤ◌, pos, w64, of_z, to_z, arith, ints, to_z-of_z}
+use Rattle.calendar.proofs.Common.{by_lt_z, ◌≡◌, ◌+ℤ◌, ◌≤ℤ◌, pos, w64, of_z, to_z, arith, ints, to_z-of_z}
 use Rattle.calendar.specs.Years.{days_in_year}
 use Rattle.calendar.proofs.IsoWeeks.{earlier, later}
 use Rattle.calendar.proofs.YearLengths.{length_range, next_first_day}
@@ -25,7 +25,9 @@ returns-in_ok-before c =
 
 pub returns-in_ok-after : goal.returns-in_ok-after
 returns-in_ok-after c =
-    let over : pos (days_in_year c.args.year) ≤ℤ c.args.days = grind (arith, ints, to_z-of_z, c.if-is_longer_than.ensures) in
+    let inside = (rw (to_z-of_z w64 c.args.year c.ranges.year) at c.if-is_longer_than.ensures).1 in
+    let over : pos (days_in_year c.args.year) ≤ℤ c.args.days =
+    by_lt_z c.args.days (pos (days_in_year c.args.year)) (λ less. let clash = inside (omega (arith, ints)) in (cc)) (λ far. far) in
     let after : to_z w64 (of_z w64 c.in_ok-after.after) ≡ c.args.year +ℤ pos 1 = omega (arith, ints, c.in_ok-after.ensures) in
     let length = rw (to_z-of_z w64 c.args.year c.ranges.year) at c.length_of-else-is_longer_than.ensures.value in
     rw after (omega (arith, ints, over, length, next_first_day c.args.year, length_range (c.args.year +ℤ pos 1)))

@@ -3,9 +3,6 @@ use Rattle.calendar.proofs.IsoWeeks.{same_thursday, week_of}
 use Rattle.calendar.proofs.YearLengths.{length_range}
 use Rattle.calendar.proofs.date.Date.iso_week.Goals as goal
 
-pub nearby_year-requires : goal.nearby_year-requires
-nearby_year-requires c = grind (arith, to_z-of_z)
-
 pub overflow_add-result : goal.overflow_add-result
 overflow_add-result c = omega (arith, c.in_ok-year.ensures, length_range c.in_ok-year.year)
 
@@ -24,13 +21,16 @@ returns-in_err-year-clause-week c =
 
 pub invariant_of-result : goal.invariant_of-result
 invariant_of-result c =
+    let year : FitsSigned w64 c.args.self.now.year = search rules in
     let own : FitsSigned w64 c.in_ok-year.year = search rules in
-    let of_week = c.days_to_thursday_of_date.ensures.of_week in
-    let found = c.in_ok-year.ensures in
-    simp to_z-of_z (record { valid = merely (record { day = _; in_week = week_of of_week found.0 (grind (arith, ints, to_z-of_z, found)) refl }) })
+    let fits : FitsSigned w64 c.days_to_thursday_of_date.result = omega (arith, ints) in
+    let (within, place) = simp to_z-of_z at c.in_ok-year.ensures in
+    simp to_z-of_z (record { valid = merely (record { day = _; in_week = week_of c.days_to_thursday_of_date.ensures.of_week within place refl }) })
 
 pub returns-clause-week : goal.returns-clause-week
 returns-clause-week c =
+    let year : FitsSigned w64 c.args.self.now.year = search rules in
     let own : FitsSigned w64 c.in_ok-year.year = search rules in
-    let found = c.in_ok-year.ensures in
-    simp to_z-of_z (week_of c.days_to_thursday_of_date.ensures.of_week found.0 (grind (arith, ints, to_z-of_z, found)) refl)
+    let fits : FitsSigned w64 c.days_to_thursday_of_date.result = omega (arith, ints) in
+    let (within, place) = simp to_z-of_z at c.in_ok-year.ensures in
+    simp to_z-of_z (week_of c.days_to_thursday_of_date.ensures.of_week within place refl)
