@@ -30,7 +30,7 @@ pub use Rattle.std.specs.Str.Parse.{AllDigits, ParsesUnsigned, digits_value, dig
 pub use Rattle.integer_core.proofs.FlooredByPositive.{floored_by_range, floored_remainder_range}
 pub use Rattle.integer_core.proofs.Least.{greatest_is_only, least_is_only}
 pub use Rattle.integer_core.proofs.NaturalDivision.{divides_by_magnitude, floored_quotient_range}
-pub use Rattle.integer_core.proofs.Quotients.{only_floored}
+pub use Rattle.integer_core.proofs.Quotients.{floored_exists, only_floored}
 pub use Rattle.integer_core.proofs.Whole.{from_not_less, linear, products, sizes}
 pub use Rattle.integer_core.proofs.WrittenTexts.{same_written, then_written}
 pub use Rattle.integer_core.specs.Division.{IsFloored, IsQuotient, IsRemainder}

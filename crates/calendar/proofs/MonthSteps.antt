@@ -1,5 +1,5 @@
 -- Dates some months apart.
-use Rattle.calendar.proofs.Common.{◌≡◌, ◌<◌, ◌≤◌, ◌+◌, ◌-◌, ◌/◌, ◌%◌, ◌≤ℤ◌, ◌<ℤ◌, ◌+ℤ◌, ◌-ℤ◌, ◌*ℤ◌, ℕ, ℤ, pos, negsuc, min, unsigned_abs, ◌∙◌, arith, inl, inr, refl, sym, cases_lt, by_lt_z, ints, floored_quotient_range, linear, IsFloored, IsQuotient, IsMonthsAfter, IsMonthsBetween, IsYearsBetween, number_of, MonthsAfterExists, MonthsAfterIsOnly, MonthsBetweenIsOnly, YearsBetweenIsOnly, days_in_month, month_number, Date}
+use Rattle.calendar.proofs.Common.{floored_exists, ◌≡◌, ◌<◌, ◌≤◌, ◌+◌, ◌≤ℤ◌, ◌<ℤ◌, ◌+ℤ◌, ◌-ℤ◌, ◌*ℤ◌, ℕ, ℤ, pos, min, unsigned_abs, ◌∙◌, arith, inl, inr, refl, sym, cases_lt, by_lt_z, ints, floored_quotient_range, linear, IsFloored, IsQuotient, IsMonthsAfter, IsMonthsBetween, IsYearsBetween, number_of, MonthsAfterExists, MonthsAfterIsOnly, MonthsBetweenIsOnly, YearsBetweenIsOnly, days_in_month, month_number, Date}
 use Rattle.calendar.proofs.DateOrder.{of_parts, order}
 use Rattle.calendar.proofs.MonthLengths.{date_of, month_length_range}
 
@@ -14,11 +14,6 @@ pub later_month : (a b : Date) → month_number a.year a.month <ℤ month_number
 later_month a b less = (order a b).0 (by_lt_z a.year b.year
     (λ years. inl years)
     (λ rest. inr (omega (arith, ints, a.valid.month_from_one, b.valid.month_to_twelve), inl (omega (arith, ints, a.valid.month_from_one, b.valid.month_to_twelve)))))
-
--- each number is that of a month
-month_of : (number : ℤ) → (year : ℤ) × (month : ℕ) × (1 ≤ month) × (month ≤ 12) × (month_number year month ≡ number)
-month_of (pos n) = (pos (n / 12), n % 12 + 1, omega arith, omega arith, omega (arith, ints))
-month_of (negsuc n) = (negsuc (n / 12), 12 - n % 12, omega arith, omega arith, omega (arith, ints))
 
 -- the quotient of a number by 12 is its year, and the remainder tells the month
 module _ {number year rest : ℤ} (h : IsFloored number (pos 12) year rest) where
@@ -36,7 +31,9 @@ module _ {number year rest : ℤ} (h : IsFloored number (pos 12) year rest) wher
 -- Each date has a date any number of months after it.
 pub months_after_exists : MonthsAfterExists
 months_after_exists from months =
-    let (year, month, month_from, month_to, is) = month_of (month_number from.year from.month +ℤ months) in
+    let (year, rest, division) = floored_exists (month_number from.year from.month +ℤ months) (pos 12) (omega (arith, ints)) in
+    let (month_from, month_to, is) = month_found division in
+    let month = unsigned_abs rest + 1 in
     let (length, most) = month_length_range year month month_from month_to in
     let date : Date = date_of year month (min from.day_of_month (days_in_month year month)) month_from month_to (omega (arith, from.valid.day_from_one)) (omega arith) in
     (date, record { month_is = is; day_is = refl })

@@ -1,5 +1,5 @@
 -- Days that have a given day of the week, and the first and the last of them.
-use Rattle.calendar.proofs.Common.{◌≡◌, ◌+◌, ◌-◌, ◌/◌, ◌%◌, ◌<◌, ◌≤ℤ◌, ◌<ℤ◌, ◌+ℤ◌, ◌-ℤ◌, ◌*ℤ◌, ℕ, ℤ, pos, negsuc, unsigned_abs, FitsSigned, MatchOption, Option, w64, SomeIff, ap, arith, refl, ints, floored_by_range, greatest_is_only, least_is_only, linear, only_floored, Weekday, Thursday, FirstWeekdayExists, FirstWeekdayIsOnly, IsoNumberIsOnly, LastWeekdayExists, LastWeekdayIsOnly, WeekdayIsOnly, WeekdaysFollow, weekday_number, HasWeekday, IsFirstWeekday, IsLastWeekday}
+use Rattle.calendar.proofs.Common.{floored_exists, floored_remainder_range, ◌≡◌, ◌+◌, ◌-◌, ◌/◌, ◌%◌, ◌<◌, ◌≤ℤ◌, ◌<ℤ◌, ◌+ℤ◌, ◌-ℤ◌, ◌*ℤ◌, ℕ, ℤ, pos, unsigned_abs, FitsSigned, MatchOption, Option, w64, SomeIff, ap, arith, refl, ints, floored_by_range, greatest_is_only, least_is_only, linear, only_floored, Weekday, Thursday, FirstWeekdayExists, FirstWeekdayIsOnly, IsoNumberIsOnly, LastWeekdayExists, LastWeekdayIsOnly, WeekdayIsOnly, WeekdaysFollow, weekday_number, HasWeekday, IsFirstWeekday, IsLastWeekday}
 use Rattle.calendar.proofs.FoundOrBeyond.{only_or_beyond}
 
 -- ---- days of one day of the week
@@ -64,16 +64,13 @@ pub last_or_beyond : (o : Option ℤ) {day given found : ℤ} {a : Weekday} (b :
 last_or_beyond o {day = day} b n same h turned small place found =
     only_or_beyond (IsLastWeekday day b) o (only_last day b) found (last_within b (days_earlier n (omega (arith, ints)) h turned) (omega (arith, ints)) (omega (arith, ints)))
 
-rest_of_week : (day : ℤ) → (weeks : ℤ) × (rest : ℕ) × (rest < 7) × (day +ℤ pos 4 ≡ weeks *ℤ pos 7 +ℤ pos rest)
-rest_of_week (pos n) = (pos ((n + 4) / 7), (n + 4) % 7, omega arith, omega (arith, ints))
-rest_of_week (negsuc n) = (pos 0 -ℤ pos ((n + 3) / 7), 6 - (n + 3) % 7, omega arith, omega (arith, ints))
-
 -- Each day of the week comes within a week.
 pub weekday_within : (day : ℤ) (weekday : Weekday) → (days : ℕ) × (days < 7) × HasWeekday (day +ℤ pos days) weekday
 weekday_within day weekday =
-    let (weeks, rest, small, equation) = rest_of_week day in
-    let place = weekday_number weekday + 7 - rest in
-    (place % 7, omega arith, on_weekday weekday (weeks +ℤ pos 1 -ℤ pos (place / 7)) (omega (arith, ints)))
+    let (weeks, rest, h) = floored_exists (day +ℤ pos 4) (pos 7) (omega (arith, ints)) in
+    let range = floored_remainder_range (omega (arith, ints)) (record { quotient = weeks; division = h }) in
+    let place = weekday_number weekday + 7 - unsigned_abs rest in
+    (place % 7, omega arith, on_weekday weekday (weeks +ℤ pos 1 -ℤ pos (place / 7)) (omega (arith, ints, h.division.equation)))
 
 -- so there is a first and a last
 pub first_exists : FirstWeekdayExists
