@@ -1,10 +1,5 @@
 -- What a byte decrypts to.
-use Rattle.std.specs.Prelude.{◌≡◌, ◌↔◌, ◌+◌, ◌*◌, ◌%◌, ◌<◌, ◌-ℤ◌, ◌*ℤ◌, ◌+ℤ◌, ℕ, pos}
-use Rattle.std.proofs.Common.{◌∙◌, sym, arith}
-use Rattle.std.proofs.lemmas.Int.{ints}
-use Rattle.std.proofs.Math.IntN.{pos-*ℤ-pos}
-use Rattle.modular.specs.Congruences.{AreCongruent, IsResidue}
-use Rattle.modular.proofs.ForCallers.{congruent-difference, congruent-refl, congruent-sum, congruent-sym, congruent-trans, congruent_is_natural}
+use Rattle.callers.proofs.Common.{AreCongruent, IsResidue, arith, congruent-difference, congruent-refl, congruent-sum, congruent-sym, congruent-trans, congruent_is_natural, ints, pos, pos-*ℤ-pos, sym, ℕ, ◌%◌, ◌*ℤ◌, ◌*◌, ◌+ℤ◌, ◌+◌, ◌-ℤ◌, ◌<◌, ◌↔◌, ◌∙◌, ◌≡◌}
 
 -- x is encrypted to b exactly if f·x is the residue of b - s
 pub is_decrypted : (f s x : ℕ) {m b : ℕ} → b < 256 → IsResidue (pos 256) (pos b -ℤ pos s) (pos m) → AreCongruent (pos 256) (pos f *ℤ pos x) (pos m) ↔ ((f * x + s) % 256 ≡ b)

@@ -77,6 +77,7 @@ pub fn days_of_months(year: i64) -> u16
 
 /// Returns the day of the week of the date, which is that of the date a week later, or `None` if the year of that
 /// date does not fit.
+#[tactic(auto, using(calendar::proofs::ForCallers::week_later))]
 pub fn weekday_in_a_week(date: &Date) -> Option<Weekday>
     ensures { MatchOption result
         ((later : Date) → number_of later ≡ number_of date.now +ℤ pos 7 → ¬ (FitsSigned w64 later.year))
@@ -87,6 +88,7 @@ pub fn weekday_in_a_week(date: &Date) -> Option<Weekday>
 }
 
 /// Returns `true` if `date` is later than `first`. It is so if its month is later.
+#[tactic(auto, using(calendar::proofs::ForCallers::later_month))]
 pub fn is_after_month(date: &Date, first: &Date) -> bool
     ensures later { IsTrue result ↔ (number_of first.now <ℤ number_of date.now) }
     ensures month { month_number first.now.year first.now.month
@@ -111,6 +113,7 @@ fn is_before(first: &Date, second: &Date) -> bool
 }
 
 /// Returns `true` if the first week is earlier.
+#[tactic(auto, using(std::proofs::lemmas::Int::ints, std::proofs::lemmas::Bool::Decides::nat_tests))]
 fn is_earlier_week(first: &IsoWeek, second: &IsoWeek) -> bool
     ensures { IsTrue result ↔ ((first.now.year <ℤ second.now.year)
         ⊎ ((first.now.year ≡ second.now.year) × (first.now.week < second.now.week))) }

@@ -1,5 +1,4 @@
-use Rattle.std.proofs.Common.{◌≡◌, ◌*◌, ◌+◌, ◌<◌, ◌≤◌, ℕ, min, sum, take}
-use Rattle.std.specs.Prelude.{slice_index}
+use Rattle.callers.proofs.Common.{min, slice_index, sum, take, ℕ, ◌*◌, ◌+◌, ◌<◌, ◌≡◌, ◌≤◌}
 use Rattle.callers.proofs.amounts.split_evenly.Given as goal
 
 -- the first shares are larger by one

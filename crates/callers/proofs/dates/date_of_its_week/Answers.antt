@@ -1,12 +1,4 @@
-use Rattle.std.specs.Prelude.{◌≡◌, ℕ, ℤ, FitsSigned, IfSome, MatchOption, Option, Some, None}
-use Rattle.std.specs.Int.{w64}
-use Rattle.std.proofs.Common.{rules}
-use Rattle.std.proofs.lemmas.Int.{to_z-of_z}
-use Rattle.calendar.specs.Dates.{number_of}
-use Rattle.calendar.specs.IsoWeeks.{IsDayOfIsoWeek}
-use Rattle.calendar.specs.declared.date.Date.{Date}
-use Rattle.calendar.specs.declared.weekday.Weekday.{Weekday}
-use Rattle.calendar.proofs.Laws.{date_is_only, iso_day_is_only}
+use Rattle.callers.proofs.Common.{Date, FitsSigned, IfSome, IsDayOfIsoWeek, MatchOption, None, Option, Some, Weekday, date_is_only, iso_day_is_only, number_of, rules, to_z-of_z, w64, ℕ, ℤ, ◌≡◌}
 use Rattle.callers.proofs.dates.date_of_its_week.Goals as goal
 
 same_date : (o : Option Date) (P : Type 0) (date : Date) (year : ℤ) (week : ℕ) (weekday : Weekday) → IsDayOfIsoWeek (number_of date) year week weekday → MatchOption o P (λ again. IsDayOfIsoWeek (number_of again) year week weekday) → IfSome o (λ again. again ≡ date)

@@ -1,6 +1,4 @@
-use Rattle.std.specs.Prelude.{pos}
-use Rattle.std.proofs.Common.{refl}
-use Rattle.calendar.proofs.ForCallers.{months_after_exists}
+use Rattle.callers.proofs.Common.{months_after_exists, pos, refl}
 use Rattle.callers.proofs.dates.has_no_date_a_month_later.Goals as goal
 
 pub returns-in-None : goal.returns-in-None

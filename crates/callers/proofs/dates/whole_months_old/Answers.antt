@@ -1,8 +1,4 @@
-use Rattle.std.specs.Prelude.{FitsSigned}
-use Rattle.std.specs.Int.{w64}
-use Rattle.std.proofs.Common.{rules}
-use Rattle.std.proofs.lemmas.Int.{to_z-of_z}
-use Rattle.calendar.proofs.ForCallers.{next_month_is_later}
+use Rattle.callers.proofs.Common.{FitsSigned, next_month_is_later, rules, to_z-of_z, w64}
 use Rattle.callers.proofs.dates.whole_months_old.Goals as goal
 
 pub returns : goal.returns

@@ -1,5 +1,4 @@
-use Rattle.std.proofs.Common.{◌*◌, ◌-◌, ◌≤◌}
-use Rattle.num_integer.specs.DivisorSums.{IsSumOfDivisorsTo}
+use Rattle.callers.proofs.Common.{IsSumOfDivisorsTo, ◌*◌, ◌-◌, ◌≤◌}
 use Rattle.callers.proofs.divisors.divisor_sum.Given as goal
 
 abbrev pub invariant-loop-d : goal.invariant-loop-d

@@ -1,6 +1,4 @@
-use Rattle.std.specs.Int.{w64}
-use Rattle.std.proofs.lemmas.Int.{to_z-of_z}
-use Rattle.ratio64.proofs.ForCallers.{nearest_of_equal}
+use Rattle.callers.proofs.Common.{nearest_of_equal, to_z-of_z, w64}
 use Rattle.callers.proofs.UnwrappedFractions.{unwrapped_is_exact}
 use Rattle.callers.proofs.fractions.gear_pair.Goals as goal
 

@@ -1,10 +1,5 @@
 -- The string of a fraction is parsed as the same fraction, by the law `text_is_read_back`.
-use Rattle.std.specs.Prelude.{FitsSigned}
-use Rattle.std.specs.Int.{w64}
-use Rattle.std.proofs.Common.{rules}
-use Rattle.ratio64.proofs.Laws.{text_is_read_back}
-use Rattle.ratio64.specs.Ratio.{text_of}
-use Rattle.ratio64.specs.RatioText.{ReadsFraction}
+use Rattle.callers.proofs.Common.{FitsSigned, ReadsFraction, rules, text_is_read_back, text_of, w64}
 use Rattle.callers.proofs.fractions.print_and_parse.Goals as goal
 
 pub returns : goal.returns

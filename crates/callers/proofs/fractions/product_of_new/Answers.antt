@@ -1,6 +1,4 @@
-use Rattle.std.specs.Int.{w64}
-use Rattle.std.proofs.lemmas.Int.{to_z-of_z}
-use Rattle.ratio64.proofs.ForCallers.{product_of_exact_results}
+use Rattle.callers.proofs.Common.{product_of_exact_results, to_z-of_z, w64}
 use Rattle.callers.proofs.fractions.product_of_new.Goals as goal
 
 pub returns : goal.returns

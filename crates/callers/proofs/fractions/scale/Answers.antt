@@ -1,6 +1,4 @@
-use Rattle.std.specs.Int.{w64}
-use Rattle.std.proofs.lemmas.Int.{to_z-of_z}
-use Rattle.ratio64.proofs.ForCallers.{product_of_exact_results, reduced_is_exact}
+use Rattle.callers.proofs.Common.{product_of_exact_results, reduced_is_exact, to_z-of_z, w64}
 use Rattle.callers.proofs.fractions.scale.Goals as goal
 
 pub returns : goal.returns

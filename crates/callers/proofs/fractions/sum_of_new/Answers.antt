@@ -1,6 +1,4 @@
-use Rattle.std.specs.Int.{w64}
-use Rattle.std.proofs.lemmas.Int.{to_z-of_z}
-use Rattle.ratio64.proofs.ForCallers.{sum_of_exact_results}
+use Rattle.callers.proofs.Common.{sum_of_exact_results, to_z-of_z, w64}
 use Rattle.callers.proofs.fractions.sum_of_new.Goals as goal
 
 pub returns : goal.returns

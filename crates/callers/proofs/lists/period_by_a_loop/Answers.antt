@@ -1,7 +1,4 @@
-use Rattle.std.specs.Prelude.{◌+◌, ℕ, pos}
-use Rattle.std.proofs.Common.{arith}
-use Rattle.std.proofs.lemmas.List.{map_more, take_all}
-use Rattle.applied.proofs.ForCallers.{lcm_of_more, lcm_of_none}
+use Rattle.callers.proofs.Common.{arith, lcm_of_more, lcm_of_none, map_more, pos, take_all, ℕ, ◌+◌}
 use Rattle.callers.proofs.lists.period_by_a_loop.Goals as goal
 
 pub loop-next-init : goal.loop-next-init

@@ -1,5 +1,4 @@
-use Rattle.std.specs.Prelude.{◌<◌, ◌^◌, map, pos, take}
-use Rattle.applied.specs.Lists.{IsLeastCommonMultipleOf}
+use Rattle.callers.proofs.Common.{IsLeastCommonMultipleOf, map, pos, take, ◌<◌, ◌^◌}
 use Rattle.callers.proofs.lists.period_by_a_loop.Given as goal
 
 -- the lcm of the periods so far

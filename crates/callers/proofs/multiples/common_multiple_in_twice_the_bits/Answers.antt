@@ -1,8 +1,4 @@
-use Rattle.std.specs.Prelude.{◌≡◌, pos, unsigned_abs}
-use Rattle.std.specs.Int.{FitsUnsignedBits}
-use Rattle.std.proofs.Common.{arith, subst}
-use Rattle.std.proofs.lemmas.Int.{ints}
-use Rattle.num_integer.proofs.ForCallers.{lcm_at_most_product, product_at_most, sizes}
+use Rattle.callers.proofs.Common.{FitsUnsignedBits, arith, ints, lcm_at_most_product, pos, product_at_most, sizes, subst, unsigned_abs, ◌≡◌}
 use Rattle.callers.proofs.multiples.common_multiple_in_twice_the_bits.Goals as goal
 
 pub lcm-requires-clause-lcm_fits : goal.lcm-requires-clause-lcm_fits
@@ -12,6 +8,5 @@ lcm-requires-clause-lcm_fits c = λ l h.
     let m_fits = c.ranges.m in
     let n_fits = c.ranges.n in
     let size = product_at_most {u = pos c.from.result} {v = pos c.from-2.result} {x = pos 4294967295} {y = pos 4294967295} (omega (arith, sizes)) (omega (arith, sizes)) (omega (arith, sizes)) (omega (arith, sizes)) in
-    let below = lcm_at_most_product h in
     let same : pos (unsigned_abs l) ≡ l = omega (arith, sizes, h.from_zero) in
-    subst (FitsUnsignedBits 64) same (omega (arith, ints, sizes, size, below, same))
+    subst (FitsUnsignedBits 64) same (omega (arith, ints, sizes, size, lcm_at_most_product h, same))

@@ -1,5 +1,4 @@
-use Rattle.std.proofs.Common.{rules}
-use Rattle.num_integer.proofs.ForCallers.{literal_lcm_fits}
+use Rattle.callers.proofs.Common.{literal_lcm_fits, rules}
 use Rattle.callers.proofs.multiples.common_multiple_of_literals.Goals as goal
 
 pub lcm-requires-clause-lcm_fits : goal.lcm-requires-clause-lcm_fits

@@ -1,5 +1,4 @@
-use Rattle.std.proofs.Common.{rules}
-use Rattle.num_integer.proofs.ForCallers.{literal_lcm_fits_signed}
+use Rattle.callers.proofs.Common.{literal_lcm_fits_signed, rules}
 use Rattle.callers.proofs.multiples.signed_common_multiple_of_literals.Goals as goal
 
 pub lcm-requires-clause-lcm_fits : goal.lcm-requires-clause-lcm_fits

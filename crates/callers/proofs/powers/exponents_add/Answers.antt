@@ -1,8 +1,4 @@
-use Rattle.std.specs.Prelude.{pos}
-use Rattle.std.proofs.Common.{arith}
-use Rattle.std.proofs.lemmas.Bool.Decides.{nat_tests}
-use Rattle.std.proofs.lemmas.Int.{ints}
-use Rattle.modular.proofs.Laws.{exponents_add}
+use Rattle.callers.proofs.Common.{arith, exponents_add, ints, nat_tests, pos}
 use Rattle.callers.proofs.powers.exponents_add.Goals as goal
 
 pub returns : goal.returns

@@ -1,5 +1,4 @@
-use Rattle.std.proofs.lemmas.Int.{to_z-of_z}
-use Rattle.num_integer.proofs.ForCallers.{floored_remainder_range}
+use Rattle.callers.proofs.Common.{floored_remainder_range, to_z-of_z}
 use Rattle.callers.proofs.quotients.remainder_below.Goals as goal
 
 pub returns : goal.returns

@@ -1,6 +1,4 @@
-use Rattle.std.specs.Prelude.{◌≡◌, ◌++◌, ◌∷◌, [], List, ℤ, map}
-use Rattle.std.proofs.Common.{◌∙◌, append_assoc, sym}
-use Rattle.std.proofs.lemmas.List.{append-nil, map-append}
+use Rattle.callers.proofs.Common.{List, [], append-nil, append_assoc, map, map-append, sym, ℤ, ◌++◌, ◌∙◌, ◌∷◌, ◌≡◌}
 use Rattle.callers.proofs.rows.row_by_a_loop.Goals as goal
 
 -- an item moves from the rest of the row to the list

@@ -1,5 +1,4 @@
-use Rattle.std.specs.Prelude.{◌≡◌, ◌++◌, map}
-use Rattle.num_integer.specs.Row.{row_of}
+use Rattle.callers.proofs.Common.{map, row_of, ◌++◌, ◌≡◌}
 use Rattle.callers.proofs.rows.row_by_a_loop.Given as goal
 
 abbrev pub invariant-loop-item : goal.invariant-loop-item

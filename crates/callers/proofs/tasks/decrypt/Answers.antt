@@ -1,8 +1,4 @@
-use Rattle.std.specs.Prelude.{◌≡◌, ◌<◌, ◌-ℤ◌, ◌*ℤ◌, pos, unsigned_abs, true, false}
-use Rattle.std.proofs.Common.{ap, arith, rules}
-use Rattle.std.proofs.lemmas.Int.{ints}
-use Rattle.modular.specs.Congruences.{AreCongruent, IsResidue}
-use Rattle.modular.proofs.ForCallers.{odd_coprime}
+use Rattle.callers.proofs.Common.{AreCongruent, IsResidue, ap, arith, false, ints, odd_coprime, pos, rules, true, unsigned_abs, ◌*ℤ◌, ◌-ℤ◌, ◌<◌, ◌≡◌}
 use Rattle.callers.proofs.AffineCiphers.{is_decrypted}
 use Rattle.callers.proofs.tasks.decrypt.Goals as goal
 

@@ -1,5 +1,4 @@
-use Rattle.std.proofs.Common.{◌≡◌, ◌≤◌, ◌+◌, arith, get_or, sum, take}
-use Rattle.std.proofs.lemmas.List.Sums.{sum_by_more, sum_by-take-le}
+use Rattle.callers.proofs.Common.{arith, get_or, sum, sum_by-take-le, sum_by_more, take, ◌+◌, ◌≡◌, ◌≤◌}
 use Rattle.callers.proofs.tasks.total_of.Goals as goal
 
 pub returns-in_err-total : goal.returns-in_err-total
