@@ -5,8 +5,5 @@ pub returns : goal.returns
 returns c =
     let a = c.ranges.a in
     let b = c.ranges.b in
-    record {
-      named = simp to_z-of_z at c.extended_gcd_counted.ensures.answer;
-      iterations = simp to_z-of_z at c.extended_gcd_counted.ensures.iterations;
-      bound = simp to_z-of_z at c.extended_gcd_counted.ensures.bound;
-    }
+    let e = simp to_z-of_z at c.extended_gcd_counted.ensures in
+    record { named = e.answer; iterations = e.iterations; bound = e.bound }
