@@ -1,37 +1,20 @@
 -- What a call for the class of two congruences returns.
-use Rattle.cellarcove_c.proofs.Common.{◌≡◌, ◌⊎◌, ◌↔◌, ◌<ℤ◌, ◌≤ℤ◌, ℕ, ℤ, pos, zero, suc, MatchOption, Option, arith, inl, inr, refl, subst, sym, ints, IsResidueClass, SolvesBothCongruences, IsLeastCommonMultiple, EachFits, Refuses, IsClassOfBoth, IsNever, StatusIsOneOf, StatusIs, answer_of, bad_modulus, no_solution, not_fitting}
+use Rattle.cellarcove_c.proofs.Common.{◌≡◌, ◌⊎◌, ◌↔◌, ◌<ℤ◌, ◌≤ℤ◌, ℕ, ℤ, pos, zero, suc, MatchOption, Option, arith, inr, refl, subst, sym, ints, IsResidueClass, SolvesBothCongruences, IsLeastCommonMultiple, EachFits, Refuses, IsClassOfBoth, IsNever, StatusIsOneOf, StatusIs, answer_of, no_solution, not_fitting}
 use Rattle.cellarcove_c.proofs.CommonSolutions.{class_has, no_third}
 
--- two moduli are bad, or both are positive
+-- of two positive moduli none is bad
 not_bad : {m n : ℤ} → pos 0 <ℤ m → pos 0 <ℤ n → ¬ ((m ≤ℤ pos 0) ⊎ (n ≤ℤ pos 0))
-not_bad m_up n_up (inl low) = absurd (omega (arith, ints, m_up, low))
-not_bad m_up n_up (inr low) = absurd (omega (arith, ints, n_up, low))
-
-bad : {m n : ℤ} → ¬ ((pos 0 <ℤ m) × (pos 0 <ℤ n)) → (m ≤ℤ pos 0) ⊎ (n ≤ℤ pos 0)
-bad h = grind (arith, ints)
+not_bad m_up n_up bad = grind (arith, ints)
 
 module _ {X : Type 0} (value : X → ℤ) (fits : ℤ → Type 0) (a m b n : ℤ) (zeros : X × X) (small : fits (value zeros.0) × fits (value zeros.1)) where
   abbrev Both : ℤ → Type 0
   Both = SolvesBothCongruences a m b n
 
-  abbrev IsClass : ℕ → X × X → Type 0
-  IsClass status class = IsClassOfBoth value fits a m b n zeros status class
-
-  pub bad_modulus_is : ¬ ((pos 0 <ℤ m) × (pos 0 <ℤ n)) → IsClass bad_modulus zeros
-  bad_modulus_is not_good = record {
-    answer = λ m_up n_up _. absurd (not_good (m_up, n_up));
-    modulus_is_bad = (λ _. bad not_good, λ _. refl);
-    step_is_beyond = (λ same. absurd (omega (arith, same)), λ (m_up, n_up, _, _). absurd (not_good (m_up, n_up)));
-    is_never = (λ same. absurd (omega (arith, same)), λ (m_up, n_up, _). absurd (not_good (m_up, n_up)));
-    refusal = λ _. (refl, inl refl);
-    in_range = small;
-  }
-
   module _ (good : (pos 0 <ℤ m) × (pos 0 <ℤ n)) where
     -- where the least common multiple fits
     pub class_is : EachFits fits (IsLeastCommonMultiple m n) → (status : ℕ) (class : X × X) (o : Option (X × X))
         → MatchOption o (IsNever Both) (λ s. fits (value s.0) × fits (value s.1) × IsResidueClass Both (value s.0) (value s.1)) → answer_of status class ≡ o
-        → Refuses (StatusIs no_solution) zeros status class → IsClass status class
+        → Refuses (StatusIs no_solution) zeros status class → IsClassOfBoth value fits a m b n zeros status class
     class_is lcm_fits zero class o own same refuses =
         let found = subst (λ (p : Option (X × X)). MatchOption p (IsNever Both) (λ s. fits (value s.0) × fits (value s.1) × IsResidueClass Both (value s.0) (value s.1))) (sym same) own in
         let (x, solves) = class_has found.2 in
@@ -57,7 +40,7 @@ module _ {X : Type 0} (value : X → ℤ) (fits : ℤ → Type 0) (a m b n : ℤ
 
     -- where it does not
     pub reason_is : ¬ (EachFits fits (IsLeastCommonMultiple m n)) → (status : ℕ) → (status ≡ not_fitting) ↔ ((x : ℤ) × Both x) → (status ≡ no_solution) ↔ IsNever Both
-        → StatusIsOneOf not_fitting no_solution status → IsClass status zeros
+        → StatusIsOneOf not_fitting no_solution status → IsClassOfBoth value fits a m b n zeros status zeros
     reason_is beyond status fitting solved either = record {
       answer = λ _ _ lcm_fits. absurd (beyond lcm_fits);
       modulus_is_bad = (λ same. absurd (no_third either (λ e. absurd (omega (arith, e))) (λ e. absurd (omega (arith, e))) same), λ bad. absurd (not_bad good.0 good.1 bad));

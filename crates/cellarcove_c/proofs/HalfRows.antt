@@ -1,5 +1,5 @@
 -- Rows of Pascal's triangle one after the other, each up to its middle.
-use Rattle.cellarcove_c.proofs.Common.{◌≡◌, ◌+◌, ◌-◌, ◌*◌, ◌/◌, ◌<◌, ◌≤◌, ℕ, zero, suc, min, List, [], ◌∷◌, ◌++◌, length, take, get_or, ◌∙◌, ap, arith, inl, inr, le_refl, refl, cases_lt, get_or-append_right, get_or-take, get_or_append_left, length-take-le, coefficient, coefficient-zero, none_above, pascal, coefficient_mirror}
+use Rattle.cellarcove_c.proofs.Common.{◌≡◌, ◌+◌, ◌-◌, ◌*◌, ◌/◌, ◌<◌, ◌≤◌, ℕ, zero, suc, min, List, [], ◌∷◌, ◌++◌, length, take, get_or, ◌∙◌, ap, arith, inl, inr, mul-le-mul, refl, cases_lt, get_or-append_right, get_or-take, get_or_append_left, length-take-le, coefficient, coefficient-zero, none_above, pascal, coefficient_mirror}
 
 -- the sums of each two neighbours of a row, whose first number follows `before`
 unfoldable pub sums : ℕ → List ℕ → List ℕ
@@ -51,11 +51,7 @@ start-suc : (n : ℕ) → start (suc n) ≡ start n + (n / 2 + 1)
 start-suc n = grind arith
 
 start-rises : (n m : ℕ) → n ≤ m → start n ≤ start m
-start-rises n zero h = let same : n ≡ 0 = omega arith in rw same (le_refl _)
-start-rises n (suc m) h = elim (cases_lt m n) [
-  | inl top ↦ let same : n ≡ suc m = omega arith in rw same (le_refl _)
-  | inr below ↦ omega (arith, start-rises n m below, start-suc m)
-]
+start-rises n m h = mul-le-mul (omega arith) (omega arith)
 
 -- ---- the item of n and k
 

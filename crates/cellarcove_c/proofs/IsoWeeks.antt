@@ -1,5 +1,5 @@
 -- The weeks of a year, and their days.
-use Rattle.cellarcove_c.proofs.Common.{◌≡◌, ◌↔◌, ◌+◌, ◌-◌, ◌≤◌, ◌-ℤ◌, ◌*ℤ◌, ℕ, ℤ, pos, FitsSigned, w64, ◌∙◌, arith, subst, sym, ints, HasParts, number_of, HasIsoWeek, HasIsoWeeks, IsDayOfIsoWeek, IsInIsoWeek, iso_number, HasDay, Date, Weekday, in_its_year, weeks_apart, iso_day_exists, iso_day_is_only, iso_number_is_only, weeks_of_a_year, IsDayBeyond, IsOfIsoNumber}
+use Rattle.cellarcove_c.proofs.Common.{◌≡◌, ◌↔◌, ◌+◌, ◌-◌, ◌≤◌, ◌-ℤ◌, ◌*ℤ◌, ℕ, ℤ, pos, FitsSigned, w64, ◌∙◌, arith, subst, sym, ints, number_of, HasIsoWeek, HasIsoWeeks, IsDayOfIsoWeek, IsInIsoWeek, iso_number, HasDay, Date, Weekday, in_its_year, weeks_apart, iso_day_exists, iso_day_is_only, iso_number_is_only, weeks_of_a_year, IsDayBeyond}
 
 -- ---- weeks
 
@@ -47,10 +47,3 @@ not_beyond {year} {week} weekday date same own fits = λ h.
     let weekday_is = iso_number_is_only h.day_of_week weekday (h.number ∙ sym same) in
     let day = iso_day_is_only h.day (number_of date) year week weekday (subst (λ (d : Weekday). IsDayOfIsoWeek h.day year week d) weekday_is h.of_week) own in
     h.beyond date.year (subst (λ (t : ℤ). HasDay date.year t) (sym day) (in_its_year date)) fits
-
--- ---- days of the week by their number
-
--- a date with a property of its day of the week, by the number of that day
-pub of_iso_number : {weekday : ℕ} {Is : Weekday → Date → Type 0} {year : ℤ} {month day : ℕ} (w : Weekday) (date : Date) → iso_number w ≡ weekday → HasParts date year month day
-    → Is w date → IsOfIsoNumber weekday Is year month day
-of_iso_number w date number parts holds = record { day_of_week = w; number = number; date = date; parts = parts; holds = holds }

@@ -1,5 +1,5 @@
 -- The laws of specs/Laws.antt, a lemma each.
-use Rattle.cellarcove_c.proofs.Common.{◌≡◌, ◌≢◌, ◌⊎◌, ◌↔◌, ◌<◌, ◌≤◌, ◌+◌, ◌*◌, ◌<ℤ◌, ◌≤ℤ◌, ◌+ℤ◌, ◌-ℤ◌, ℕ, ℤ, zero, suc, pos, negsuc, Bool, List, true, false, FitsSigned, IfSome, IsTrue, MatchOption, MatchResult, Option, Some, None, Ok, Err, Result, w64, Equal, Greater, Less, ◌∙◌, ap, arith, inl, inr, mul-le-mul_right, refl, subst, sym, cases_lt, iff_false, by_lt_z, ints, Divides-difference, least_is_only, linear, sizes, small_multiple_is_zero, remainder_is_only, root_is_only, IsRemainder, IsTruncated, Divides, IsLeastCommonMultiple, IsLeastFrom, residue_class_is_only, MatchCommonSolution, IsResidueClass, SolvesBothCongruences, SolvesEach, HasParts, IsMonthsBetween, IsYearsBetween, Date, Weekday, same_month, date_of_parts_is_only, iso_number_is_only, text_is_only, IsBeyond, IsClassOfBoth, IsNever, IsNextOfSeveral, IsReasonOfCongruences, IsReasonOfSeveral, HasText, ReadsDate, HasDigits, StatusIsOneOf, bad_modulus, common_solution_of, no_solution, not_fitting, outside, FractionAnswer, AnswersIsOnly, AnswersModuloIsOnly, ClassOfBothIsOnly, DayOfIsoNumberIsOnly, FewestPagesIsOnly, FractIsOnly, InDigitsIsOnly, InPartsIsOnly, MonthsBetweenIsOnly, MonthsLaterIsOnly, NextOfSeveralIsOnly, OfIsoNumberIsOnly, OnBothIsOnly, OrderNumberIsOnly, PaddingIsOnly, PowerIsOnly, ReadDateIsOnly, ReasonIsOnly, RootWithRestIsOnly, StandsForIsOnly, StandsForNumberIsOnly, StandsForReadIsOnly, YearsBetweenIsOnly, answer_is_only, rounded_even_is_only, den_of, num_of, RatioError, Ratio}
+use Rattle.cellarcove_c.proofs.Common.{◌≡◌, ◌≢◌, ◌⊎◌, ◌↔◌, ◌<◌, ◌≤◌, ◌+◌, ◌*◌, ◌<ℤ◌, ◌≤ℤ◌, ◌+ℤ◌, ◌-ℤ◌, ℕ, ℤ, zero, suc, pos, Bool, List, true, false, FitsSigned, IfSome, IsTrue, MatchOption, MatchResult, Option, Some, None, Ok, Err, Result, w64, Equal, Greater, Less, ◌∙◌, ap, arith, inl, inr, mul-le-mul_right, refl, subst, sym, cases_lt, iff_false, by_lt_z, ints, Divides-difference, least_is_only, linear, sizes, small_multiple_is_zero, remainder_is_only, root_is_only, IsRemainder, IsTruncated, Divides, IsLeastCommonMultiple, IsLeastFrom, residue_class_is_only, MatchCommonSolution, IsResidueClass, SolvesBothCongruences, SolvesEach, HasParts, IsMonthsBetween, IsYearsBetween, Date, Weekday, same_month, date_of_parts_is_only, iso_number_is_only, text_is_only, IsBeyond, IsClassOfBoth, IsNever, IsNextOfSeveral, IsReasonOfCongruences, IsReasonOfSeveral, HasText, ReadsDate, HasDigits, bad_modulus, common_solution_of, no_solution, not_fitting, outside, FractionAnswer, AnswersIsOnly, AnswersModuloIsOnly, ClassOfBothIsOnly, DayOfIsoNumberIsOnly, FewestPagesIsOnly, FractIsOnly, InDigitsIsOnly, InPartsIsOnly, MonthsBetweenIsOnly, MonthsLaterIsOnly, NextOfSeveralIsOnly, OfIsoNumberIsOnly, OnBothIsOnly, OrderNumberIsOnly, PaddingIsOnly, PowerIsOnly, ReadDateIsOnly, ReasonIsOnly, RootWithRestIsOnly, StandsForIsOnly, StandsForNumberIsOnly, StandsForReadIsOnly, YearsBetweenIsOnly, answer_is_only, rounded_even_is_only, den_of, num_of, RatioError, Ratio}
 use Rattle.calendar.proofs.Laws.{months_between_is_only as whole_months_are_only, years_between_is_only as whole_years_are_only}
 use Rattle.cellarcove_c.specs.declared.dates.Date.{Date as Parts}
 use Rattle.ratio64.specs.RatioError.{number_of}
@@ -17,22 +17,12 @@ answers_is_only domain Is Reason zeros (suc s) (suc t) a b only one h k = grind 
 
 -- what is not at most 0 is positive
 positive_of : (m : ℤ) → ¬ (m ≤ℤ pos 0) → pos 0 <ℤ m
-positive_of (pos zero) h = absurd (h (omega (arith, ints)))
-positive_of (pos (suc n)) h = omega (arith, ints)
-positive_of (negsuc n) h = absurd (h (omega (arith, ints)))
-
--- two statuses of one modulus are the same
-same_reason : {modulus : ℤ} {reason s t : ℕ} → (s ≡ bad_modulus) ↔ (modulus ≤ℤ pos 0) → (t ≡ bad_modulus) ↔ (modulus ≤ℤ pos 0)
-    → StatusIsOneOf bad_modulus reason s → StatusIsOneOf bad_modulus reason t → s ≡ t
-same_reason h k (inl p) other = p ∙ sym (k.1 (h.0 p))
-same_reason h k (inr p) (inl q) = h.1 (k.0 q) ∙ sym q
-same_reason h k (inr p) (inr q) = p ∙ sym q
+positive_of m h = by_lt_z (pos 0) m (λ up. up) (λ low. absurd (h low))
 
 pub answers_modulo_is_only : {A : Type 0} (modulus : ℤ) (reason : ℕ) (without : Type 0) (Is : A → Type 0) → AnswersModuloIsOnly modulus reason without Is
 answers_modulo_is_only modulus reason without Is zeros zero zero a b only never h k = grind arith
-answers_modulo_is_only modulus reason without Is zeros zero (suc t) a b only never h k = grind arith
 answers_modulo_is_only modulus reason without Is zeros (suc s) zero a b only never h k = grind arith
-answers_modulo_is_only modulus reason without Is zeros (suc s) (suc t) a b only never h k = grind arith
+answers_modulo_is_only modulus reason without Is zeros s (suc t) a b only never h k = grind arith
 
 -- ---- congruences
 
@@ -158,21 +148,18 @@ same_sign true false P h k = absurd (iff_false k refl (h.0 refl))
 same_sign false true P h k = absurd (iff_false h refl (k.0 refl))
 same_sign false false P h k = refl
 
--- a quotient with more leaves no room for a rest
-no_less : (m whole other part rest : ℕ) → whole * m + part ≡ other * m + rest → part < m → ¬ (whole < other)
-no_less m whole other part rest same below less = let most : (whole + 1) * m ≤ other * m = mul-le-mul_right m (omega arith) in omega (arith, most)
+-- a number with a rest below m is divided by m alike
+no_more : (m whole other part rest : ℕ) → whole * m + part ≡ other * m + rest → part < m → other ≤ whole
+no_more m whole other part rest same below = elim (cases_lt whole other) [
+  | inl less ↦ let most : (whole + 1) * m ≤ other * m = mul-le-mul_right m (omega arith) in absurd (omega (arith, most))
+  | inr most ↦ most
+]
 
 same_digits : {units : ℤ} {places : ℕ} {a b : Bool} {whole other part rest : ℕ} → HasDigits units places a whole part → HasDigits units places b other rest
     → (a ≡ b) × (whole ≡ other) × (part ≡ rest)
 same_digits {whole = whole} {other = other} h k =
     let size = sym h.size ∙ k.size in
-    let same : whole ≡ other = elim (cases_lt whole other) [
-      | inl less ↦ absurd (no_less _ _ _ _ _ size h.below less)
-      | inr most ↦ elim (cases_lt other whole) [
-        | inl less ↦ absurd (no_less _ _ _ _ _ (sym size) k.below less)
-        | inr least ↦ omega arith
-      ]
-    ] in
+    let same : whole ≡ other = omega (arith, no_more _ _ _ _ _ size h.below, no_more _ _ _ _ _ (sym size) k.below) in
     (same_sign _ _ _ h.sign k.sign, same, let equation = rw same at size in omega (arith, equation))
 
 pub in_digits_is_only : InDigitsIsOnly
@@ -201,12 +188,7 @@ pub order_number_is_only : OrderNumberIsOnly
 order_number_is_only Less Less same = refl
 order_number_is_only Equal Equal same = refl
 order_number_is_only Greater Greater same = refl
-order_number_is_only Less Equal same = absurd (omega (arith, ints))
-order_number_is_only Less Greater same = absurd (omega (arith, ints))
-order_number_is_only Equal Less same = absurd (omega (arith, ints))
-order_number_is_only Equal Greater same = absurd (omega (arith, ints))
-order_number_is_only Greater Less same = absurd (omega (arith, ints))
-order_number_is_only Greater Equal same = absurd (omega (arith, ints))
+order_number_is_only a b same = absurd (omega (arith, ints))
 
 -- ---- dates
 

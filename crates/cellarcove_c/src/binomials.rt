@@ -226,6 +226,7 @@ pub(crate) fn signed_binomial(n: i64, k: i64) -> Option<i64>
 }
 
 /// Returns the binomial coefficient of `n` and `k` from the table.
+#[tactic(auto, using(num_integer::proofs::ForCallers::none_above))]
 fn from_table(n: u64, k: u64) -> u64
     requires { n < 68 }
     ensures { result ≡ coefficient n k }

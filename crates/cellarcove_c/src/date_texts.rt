@@ -12,6 +12,7 @@ use std::str;
 ///
 /// `NO_DATE` if it is the text of no date whose year fits.
 #[unsafe(no_mangle)]
+#[tactic(auto, using(crate::proofs::AsciiDates::date_is_utf8))]
 pub extern "C" fn cellarcove_date_from_text(text: &[u8]) -> DateAnswer
     ensures { ReadsDate text.now result }
 {

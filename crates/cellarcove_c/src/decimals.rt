@@ -83,6 +83,7 @@ fn round_even_to(a: Result<Ratio, RatioError>, parts: i64) -> Result<Ratio, Rati
 
 impl DecimalAnswer {
     /// Returns a result.
+    #[tactic(auto, using(ratio64::proofs::DecimalTexts::ten_up, crate::proofs::DecimalDigits::part_fits))]
     fn some(decimal: &Decimal) -> DecimalAnswer
         requires { unsigned_abs (units_of decimal.now) / 10 ^ places_of decimal.now < 2 ^ 64 }
         ensures status { result.status ≡ 0 }

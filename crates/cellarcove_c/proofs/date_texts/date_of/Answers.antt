@@ -7,9 +7,8 @@ returns-in-Ok c =
     let fits : FitsSigned w64 date.year = search rules in
     let text = (c.in-Ok.ensures.value date fits).0 refl in
     let made = c.some.ensures in
-    let answered = made.status in
     record {
       found = λ _. record { date = date; has_parts = made.parts; text_is = text };
-      none = (λ same. absurd (omega (arith, same, answered)), λ no. absurd (no date fits text));
-      refusal = λ other. absurd (other answered);
+      none = (λ same. absurd (omega (arith, same, made.status)), λ no. absurd (no date fits text));
+      refusal = λ other. absurd (other made.status);
     }

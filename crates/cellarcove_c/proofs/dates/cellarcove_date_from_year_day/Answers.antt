@@ -4,5 +4,4 @@ use Rattle.cellarcove_c.proofs.dates.cellarcove_date_from_year_day.Goals as goal
 pub returns-in-Some : goal.returns-in-Some
 returns-in-Some c =
     let date = c.some.result.date in
-    let whole = year_day_range {year = date.year} {month = date.month} {day = date.day_of_month} c.some.ensures.date in
-    grind (arith, to_z-of_z, whole)
+    grind (arith, to_z-of_z, year_day_range {year = date.year} {month = date.month} {day = date.day_of_month} c.some.ensures.date)

@@ -1,4 +1,4 @@
-use Rattle.cellarcove_c.proofs.Common.{rules, units_of}
+use Rattle.cellarcove_c.proofs.Common.{rules}
 use Rattle.cellarcove_c.proofs.DecimalDigits.{digits_made, whole_below}
 use Rattle.cellarcove_c.proofs.decimals.cellarcove_fraction_to_decimal.Goals as goal
 
@@ -12,14 +12,7 @@ returns-in-Some c =
       c.reduced.result,
       c.reduced.ensures,
       rw c.in-Ok.is (record {
-        answer = rw made.status (
-          few,
-          record {
-            units = units_of c.in-Some.decimal;
-            rounded = own.rounded;
-            digits = digits_made own.places_are made.sign made.whole made.part;
-          },
-        );
+        answer = rw made.status (few, digits_made own.places_are own.rounded made.sign made.whole made.part);
         refusal = λ other. absurd (other made.status);
       }),
     )
