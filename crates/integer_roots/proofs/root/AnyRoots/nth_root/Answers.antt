@@ -9,4 +9,8 @@ check-requires-2 g c = elim c.if-n-ne0.branch [
 ]
 
 pub returns : goal.returns
-returns g c = record { in_range = c.root_by_magnitude.ensures.in_range; root = c.root_by_magnitude.ensures.root }
+returns g c =
+    record {
+      in_range = c.root_by_magnitude.ensures.in_range;
+      root = c.root_by_magnitude.ensures.root;
+    }
