@@ -78,7 +78,16 @@ after(async () => {
   browser.kill();
   await ended;
   server.close();
-  rmSync(profile, {recursive: true, force: true, maxRetries: 10});
+  // Other processes of the browser may write a file into the folder while it is removed, so that it isn't empty.
+  for (let tries = 1; tries <= 50; tries++) {
+    try {
+      rmSync(profile, {recursive: true, force: true});
+      return;
+    } catch (error) {
+      if (tries === 50) throw error;
+      await new Promise((done) => setTimeout(done, 100));
+    }
+  }
 });
 
 test('numbers are typed by keyboard alone', async () => {
