@@ -18,7 +18,7 @@ pub use Rattle.modular.specs.Counts.{AreAllFrom}
 pub use Rattle.modular.specs.declared.common_solutions.CommonSolution.{CommonSolution}
 pub use Rattle.modular.specs.declared.common_solutions.CommonSolution.TheVariants.{At, Beyond, Never}
 pub use Rattle.num_integer.proofs.FittingAnswers.{few_bits, floored, IsKind}
-pub use Rattle.num_integer.proofs.ForCallers.{Divides-antisym, Divides-difference, Divides-refl, Divides-trans, Divides-zero, answer_only, answers_as, answers_only, cancel, ceiled_by_range, ceiled_quotient_least, coefficient-zero, coefficient_grows, comm, coprime_divides, divided_by_gcd, divides_magnitude, divides_or_not, divisor_at_most, divisor_size, even_power, exact_power_root, exact_quotient, expand, factor_positive, factorial-pos, fits_below, floored_by_range, floored_range, from_not_less, from_test, gcd-swap, gcd-zero, gcd_fits_is, int_pow-suc, int_pow-zero, lcm-positive, least_is_only, least_multiple_beyond, linear, magnitude_divides, mul-neg, multiples_apart, natural_exact_quotient, natural_gcd_positive, natural_quotients_coprime, next_multiple_least, no_minus_one, none_above, odd_power, one_divides, one_fits, only_ceiled, only_gcd, only_pair_by_range, other_quotient_fits, part_fits, pascal, positive_quotient_fits, power_of_one, power_of_zero, power_size, product_at_most, product_from_zero, product_positive, products, root_by_squares, sizes, some_in_domain, square_root_of_square, truncated_is, within_fits, zero_divides, zero_fits, zero_or_not, only_lcm, gcd-divisor}
+pub use Rattle.num_integer.proofs.ForCallers.{Divides-antisym, Divides-difference, Divides-refl, Divides-trans, Divides-zero, answer_only, answers_as, answers_only, cancel, ceiled_by_range, ceiled_quotient_least, coefficient-zero, coefficient_grows, comm, coprime_divides, divided_by_gcd, divides_magnitude, divides_or_not, divisor_at_most, divisor_size, even_or_next, even_power, exact_power_root, exact_quotient, expand, factor_positive, factorial-pos, fits_below, floored_by_range, floored_range, from_not_less, from_test, gcd-divisor, gcd-swap, gcd-zero, gcd_fits_is, int_pow-suc, int_pow-zero, lcm-positive, least_is_only, least_multiple_beyond, linear, magnitude_divides, mul-neg, multiples_apart, natural_exact_quotient, natural_gcd_positive, natural_quotients_coprime, next_multiple_least, no_minus_one, none_above, not_both_even, odd_power, one_divides, one_fits, only_ceiled, only_gcd, only_lcm, only_pair_by_range, other_quotient_fits, part_fits, pascal, positive_quotient_fits, power_of_one, power_of_zero, power_size, product_at_most, product_from_zero, product_positive, products, root_by_squares, sizes, some_in_domain, square_root_of_square, truncated_is, within_fits, zero_divides, zero_fits, zero_or_not}
 pub use Rattle.num_integer.proofs.Laws.{division_exists, factorial_formula, gcd_exists, lcm_exists}
 pub use Rattle.num_integer.specs.Checked.{AnswersWhere, FitsWith}
 pub use Rattle.num_integer.specs.Coefficient.{coefficient}

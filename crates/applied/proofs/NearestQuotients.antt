@@ -1,5 +1,5 @@
 -- Quotients rounded to the nearest integer: from those rounded down, the only ones, and when they fit.
-use Rattle.applied.proofs.Common.{◌≡◌, ◌≢◌, ◌⊎◌, ◌↔◌, ◌<◌, ◌≤◌, ◌≤ℤ◌, ◌+◌, ◌*◌, ◌<ℤ◌, ◌+ℤ◌, ◌-ℤ◌, ◌*ℤ◌, beq, IsKind, floored, Bool, true, false, not, signed, ℕ, ℤ, pos, neg_ℤ, unsigned_abs, arith, inl, inr, le_refl, refl, subst, cases_lt, by_lt_z, unsigned_abs-mul, mul-le, IsDivision, IsFloored, IsQuotient, IsEven, EachFits, IsRange, divides_or_not, expand, from_not_less, linear, other_quotient_fits, products, sizes, zero_or_not, division_exists, NearestEvenQuotientIsOnly, NearestQuotientExists, NearestQuotientFitsExactly, NearestQuotientIsOnly, NoIntegerIsNearer, IsDown, IsNearer, IsNearest, IsNearestEven, LiesWithin}
+use Rattle.applied.proofs.Common.{◌≡◌, ◌≢◌, ◌⊎◌, ◌↔◌, ◌<◌, ◌≤◌, ◌≤ℤ◌, ◌+◌, ◌*◌, ◌<ℤ◌, ◌+ℤ◌, ◌-ℤ◌, ◌*ℤ◌, beq, IsKind, floored, Bool, true, false, not, signed, ℕ, ℤ, pos, neg_ℤ, unsigned_abs, arith, inl, inr, le_refl, refl, subst, cases_lt, by_lt_z, unsigned_abs-mul, mul-le, IsDivision, IsFloored, IsQuotient, IsEven, EachFits, IsRange, divides_or_not, expand, from_not_less, linear, other_quotient_fits, products, sizes, division_exists, even_or_next, not_both_even, zero_or_not, NearestEvenQuotientIsOnly, NearestQuotientExists, NearestQuotientFitsExactly, NearestQuotientIsOnly, NoIntegerIsNearer, IsDown, IsNearer, IsNearest, IsNearestEven, LiesWithin}
 
 next_product : (q d : ℤ) → (q +ℤ pos 1) *ℤ d ≡ q *ℤ d +ℤ d
 next_product q d = simp expand (omega (arith, products))
@@ -15,17 +15,6 @@ half_down : {n d q r : ℤ} → IsDivision n d q r → d ≡ neg_ℤ (r +ℤ r) 
 half_down {n} {d} {q} {r} h half =
     let same : neg_ℤ q *ℤ neg_ℤ d ≡ q *ℤ d = grind (arith, products) in
     grind arith
-
-not_both_even : {q p : ℤ} → p ≡ q +ℤ pos 1 → IsEven q → ¬ (IsEven p)
-not_both_even next even other = let half = even.product in let other_half = other.product in omega (arith, products)
-
-even_or_next : (q : ℤ) → ¬ (IsEven q) → IsEven (q +ℤ pos 1)
-even_or_next q odd =
-    let half = division_exists.1 q (pos 2) (λ e. omega (arith, linear)) in
-    elim (zero_or_not half.1) [
-      | inl none ↦ absurd (odd (record { factor = half.0; product = omega (arith, products) }))
-      | inr one ↦ record { factor = half.0 +ℤ pos 1; product = omega (arith, products, sizes) }
-    ]
 
 -- ---- from the quotient rounded down to the nearest
 

@@ -1,6 +1,6 @@
 -- Results that exist, and numbers that fit an `i64` or lie beyond it.
 use Rattle.std.proofs.Math.Nat.{mul-le-mul}
-use Rattle.calendar.proofs.Common.{◌<◌, ◌^◌, ◌+ℤ◌, ◌*ℤ◌, unsigned_abs, w128, arith, to_z-of_z, ◌≡◌, ℤ, FitsSigned, MatchOption, Option, Result, Ok, Err, Some, None, w64, SomeIff, refl, subst, sym, IsSome, OkIff, result_ok}
+use Rattle.calendar.proofs.Common.{◌<◌, ◌^◌, ◌+ℤ◌, ◌*ℤ◌, unsigned_abs, w128, arith, ◌≡◌, ℤ, FitsSigned, MatchOption, Option, Result, Ok, Err, Some, None, w64, SomeIff, refl, subst, sym, IsSome, OkIff, result_ok}
 
 -- A result is there if something meets its condition.
 pub is_found : {A : Type 0} (P : A → Type 0) (o : Option A) → (x : A) × P x → MatchOption o ((x : A) → ¬ (P x)) P → IsSome o
@@ -11,9 +11,6 @@ is_found P (Some found) exists is = refl
 pub fits_wide : (size count more : ℤ) → unsigned_abs size < 2 ^ 18 → FitsSigned w64 size → FitsSigned w64 count → FitsSigned w64 more
     → FitsSigned w128 (size *ℤ count +ℤ more) × FitsSigned w128 (size *ℤ count) × FitsSigned w128 size × FitsSigned w128 count × FitsSigned w128 more
 fits_wide size count more small size_fits count_fits more_fits = grind (arith, mul-le-mul)
-
--- what a function's goals about such a sum need
-pub ruleset wide_sums = (to_z-of_z, fits_wide)
 
 -- a number that is the only one, if it fits, and else no number that fits
 pub only_or_beyond : (P : ℤ → Type 0) (o : Option ℤ) {found : ℤ} → ((a b : ℤ) → P a → P b → a ≡ b) → SomeIff o (FitsSigned w64 found) found → P found → MatchOption o ((z : ℤ) → P z → ¬ (FitsSigned w64 z)) P

@@ -88,7 +88,7 @@ const fn groups_and_rest(n: i64, size: i64) -> (i64, u32)
 }
 
 /// Returns the number of days in `eras` eras and `days` days more, or `None` if it does not fit.
-#[tactic(auto, using(crate::proofs::YearLengths::year_steps))]
+#[tactic(auto, using(std::proofs::lemmas::Int::wraps))]
 #[inline]
 pub(crate) fn days_of_eras(eras: i64, days: i64) -> Option<i64>
     requires eras_small { unsigned_abs eras < 2 ^ 57 }
@@ -102,7 +102,6 @@ pub(crate) fn days_of_eras(eras: i64, days: i64) -> Option<i64>
 }
 
 /// Returns `size` times `count` plus `more`.
-#[tactic(auto, using(crate::proofs::FoundOrBeyond::wide_sums))]
 #[inline]
 pub(crate) fn wide_sum(size: i64, count: i64, more: i64) -> i128
     requires { unsigned_abs size < 2 ^ 18 }

@@ -6,3 +6,7 @@ pub unwrapped_is_exact : {num den : ℤ} {r : Result Ratio RatioError} {x : Rati
     → IsExact num den (num_of x) (den_of x)
 unwrapped_is_exact {num} {den} num_fits den_fits ok made =
     at_ok (λ x. IsExact num den (num_of x) (den_of x)) ok (rw (to_z-of_z w64 num num_fits, to_z-of_z w64 den den_fits) at made.exact)
+
+-- what is exact of the words of two numbers is exact of the numbers
+pub exact_of_words : {a b n d : ℤ} → FitsSigned w64 a → FitsSigned w64 b → IsExact (to_z w64 (of_z w64 a)) (to_z w64 (of_z w64 b)) n d → IsExact a b n d
+exact_of_words a_fits b_fits exact = rw (to_z-of_z w64 _ a_fits, to_z-of_z w64 _ b_fits) at exact

@@ -74,18 +74,6 @@ module _ {X : Type 0} (value : X → ℤ) (fits : ℤ → Type 0) {from : ℤ} {
   never_of : {s : ℕ} {x : X} → IsNextOfSeveral value fits from pairs zero_value s x → s ≡ no_solution → IsNever (SolvesEach value pairs)
   never_of h none = rw none at (solved h (λ same. absurd (omega (arith, none, same))) (λ same. absurd (omega (arith, none, same))))
 
-  -- two reasons are the same
-  same_reason_of_several : {s t : ℕ} {x y : X} → IsNextOfSeveral value fits from pairs zero_value s x → IsNextOfSeveral value fits from pairs zero_value t y
-      → IsReasonOfSeveral s → IsReasonOfSeveral t → s ≡ t
-  same_reason_of_several h k (inl more) other = more ∙ sym (k.too_many.1 (h.too_many.0 more))
-  same_reason_of_several h k (inr (inl bad)) other = bad ∙ sym (k.modulus_is_bad.1 (h.modulus_is_bad.0 bad))
-  same_reason_of_several h k (inr (inr p)) (inl more) = h.too_many.1 (k.too_many.0 more) ∙ sym more
-  same_reason_of_several h k (inr (inr p)) (inr (inl bad)) = h.modulus_is_bad.1 (k.modulus_is_bad.0 bad) ∙ sym bad
-  same_reason_of_several h k (inr (inr (inl far))) (inr (inr (inl too))) = far ∙ sym too
-  same_reason_of_several h k (inr (inr (inl far))) (inr (inr (inr none))) = let (z, least, beyond) = beyond_of h far in absurd (never_of k none z least.holds)
-  same_reason_of_several h k (inr (inr (inr none))) (inr (inr (inl far))) = let (z, least, beyond) = beyond_of k far in absurd (never_of h none z least.holds)
-  same_reason_of_several h k (inr (inr (inr none))) (inr (inr (inr too))) = none ∙ sym too
-
   -- if one result has a number that fits, no other has a reason
   no_reason : {t : ℕ} {x y : X} → fits (value x) → IsNextOfSeveral value fits from pairs zero_value 0 x → IsNextOfSeveral value fits from pairs zero_value t y → IsReasonOfSeveral t → ⊥
   no_reason in_range h k (inl more) = omega (arith, h.too_many.1 (k.too_many.0 more))

@@ -1,5 +1,5 @@
 -- The names of the libraries and of the specs that the proofs cite, passed on from one place. Declares nothing.
-pub use Rattle.std.specs.Prelude.{◌%◌, ◌*ℤ◌, ◌*◌, ◌+ℤ◌, ◌+◌, ◌-ℤ◌, ◌-◌, ◌/◌, ◌<ℤ◌, ◌<◌, ◌^◌, ◌↔◌, ◌∷◌, ◌≡◌, ◌≢◌, ◌≤ℤ◌, ◌≤◌, ◌⊎◌, Bool, IfSome, IsTrue, List, MatchOption, None, Option, Some, [], false, int_div, length, neg_ℤ, negsuc, not, pos, suc, true, unsigned_abs, zero, ℕ, ℤ}
+pub use Rattle.std.specs.Prelude.{◌%◌, ◌*ℤ◌, ◌*◌, ◌+ℤ◌, ◌+◌, ◌-ℤ◌, ◌-◌, ◌/◌, ◌<ℤ◌, ◌<◌, ◌^◌, ◌↔◌, ◌∷◌, ◌≡◌, ◌≢◌, ◌≤ℤ◌, ◌≤◌, ◌⊎◌, Bool, IfSome, IsTrue, List, MatchOption, None, Option, Some, [], false, int_div, length, neg_ℤ, negsuc, not, pos, suc, unsigned_abs, zero, ℕ, ℤ}
 pub use Rattle.std.proofs.Common.{◌∙◌, add-one, ap, arith, get_or, inl, inr, refl, subst, sym, take}
 pub use Rattle.std.proofs.Math.Bool.{beq}
 pub use Rattle.std.proofs.Math.Nat.{lt_of_not-le, mod-eq_of_lt, mul-le-mul_left, mul-le-mul_right, mul_comm, one-le-pow, pow-le-pow_right, pow-succ', two-pow-succ}

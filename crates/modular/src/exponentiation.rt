@@ -27,7 +27,6 @@ pub(crate) trait ResidueForm {
             (meaning self.now x *ℤ meaning self.now y) (meaning self.now result) };
 
     /// Returns the product if the binary digit is 1, and `x` if it is 0.
-    #[tactic(auto, using(crate::proofs::PowerIterations::times_at_one, crate::proofs::PowerIterations::times_at_zero))]
     fn product_if(&self, digit: u128, x: Self::Number, y: Self::Number) -> Self::Number
         requires x_valid { is_valid self.now x }
         requires y_valid { is_valid self.now y }

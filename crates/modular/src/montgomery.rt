@@ -59,7 +59,6 @@ impl Montgomery {
     }
 
     /// Multiplies two residues in Montgomery form.
-    #[tactic(auto, using(crate::proofs::MontgomeryProducts::montgomery_forms_product))]
     pub(crate) fn product(&self, x: u64, y: u64) -> u64
         requires { x < self.now.modulus }
         ensures below { result < self.now.modulus }

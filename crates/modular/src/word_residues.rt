@@ -46,7 +46,6 @@ impl SplitModulus {
     }
 
     /// Returns the pair of 1.
-    #[tactic(auto, using(crate::proofs::SplitModuli::joined_of))]
     fn one(&self) -> (u64, u64)
         ensures below { result.0 < self.now.odd.modulus }
         ensures congruent { AreCongruent (pos (self.now.odd.modulus * 2 ^ 64)) (pos 1)
@@ -56,7 +55,6 @@ impl SplitModulus {
     }
 
     /// Returns the pair of `x`.
-    #[tactic(auto, using(crate::proofs::SplitModuli::joined_of))]
     fn form_of(&self, x: u64) -> (u64, u64)
         ensures below { result.0 < self.now.odd.modulus }
         ensures congruent { AreCongruent (pos (self.now.odd.modulus * 2 ^ 64)) (pos x)
@@ -91,7 +89,6 @@ impl ResidueForm for SplitModulus {
     }
 
     /// Always multiplies, and keeps the product only if the digit is 1.
-    #[tactic(auto, using(crate::proofs::PowerIterations::times_at_one, crate::proofs::PowerIterations::times_at_zero))]
     fn product_if(&self, digit: u128, x: (u64, u64), y: (u64, u64)) -> (u64, u64) {
         let product = self.product(x, y);
         if digit == 1 { product } else { x }

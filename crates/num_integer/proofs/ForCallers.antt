@@ -48,6 +48,9 @@ pub use Rattle.integer_core.proofs.FlooredByPositive.{floored_range, floored_rem
 
 pub use Rattle.integer_core.proofs.DivisorSizes.{divisor_at_most, gcd_with_positive_fits, gcd_at_most, small_multiple_is_zero, lcm_at_most_product, lcm-positive}
 pub use Rattle.num_integer.proofs.Multiples.{first_multiple_answers, first_multiple_at_u64, first_natural_multiple, lcm_is_first, natural_gcd_at_most}
+-- ---- even numbers
+
+pub use Rattle.num_integer.proofs.Multiples.{even_or_next, not_both_even}
 -- ---- sums of divisors
 
 pub use Rattle.num_integer.proofs.DivisorSums.{divisor_added, divisor_passed, divisor_steps, no_divisors}

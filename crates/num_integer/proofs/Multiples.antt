@@ -1,8 +1,12 @@
--- Least common multiples as the first positive common multiples, bounds of greatest common divisors, and least common multiples of literals.
+-- Least common multiples as the first positive common multiples, bounds of greatest common divisors, least common multiples of literals, and
+-- even numbers.
 use Rattle.num_integer.proofs.Common.{◌≢◌, ◌<◌, ◌≤◌, ◌^◌, ℕ, ℤ, pos, Option, Some, None, FitsUnsignedBits, Divides, EachFits, IsGreatestCommonDivisor, IsLeastCommonMultiple, arith, inl, inr, ints, linear, lcm_exists, subst, sym, cases_lt, ◌≡◌, ◌*◌, ◌/◌, ◌%◌, zero, suc, unsigned_abs, IsTrue, nat_lt, FitsSigned, Width, ◌∙◌, ap, refl, mul-zero, zero-div, ltb-true, gcd-remainder, gcd-zero, lcm-computed, only_lcm, zero_divides, zero_or_not}
-use Rattle.std.specs.Prelude.{MatchOption}
+use Rattle.std.specs.Prelude.{MatchOption, ◌+ℤ◌}
 use Rattle.integer_core.proofs.DivisorSizes.{divisor_at_most, gcd_at_most, lcm-positive}
 use Rattle.integer_core.proofs.Least.{least_is_only}
+use Rattle.integer_core.proofs.Quotients.{division_exists}
+use Rattle.integer_core.proofs.Whole.{products, sizes}
+use Rattle.integer_core.specs.Divisors.{IsEven}
 use Rattle.num_integer.specs.Checked.{AnswersWhere, FitsWith}
 use Rattle.num_integer.specs.Least.{IsLeastFrom}
 use mir.Val.{hbits}
@@ -92,3 +96,18 @@ literal_lcm_fits bits h test = subst (FitsUnsignedBits bits) (sym (lcm_is h)) (l
 
 pub literal_lcm_fits_signed : (w : Width) {a b l : ℤ} → IsLeastCommonMultiple a b l → IsTrue (nat_lt (lcm_number (unsigned_abs a) (unsigned_abs b)) (2 ^ hbits w)) → FitsSigned w l
 literal_lcm_fits_signed w h test = subst (FitsSigned w) (sym (lcm_is h)) (fits_signed_from_abs w _ (ltb-true _ _ test))
+
+-- ---- even numbers
+
+-- a number and the next one are not both even
+pub not_both_even : {q p : ℤ} → p ≡ q +ℤ pos 1 → IsEven q → ¬ (IsEven p)
+not_both_even next even other = let half = even.product in let other_half = other.product in omega (arith, products)
+
+-- one of a number and the next one is even
+pub even_or_next : (q : ℤ) → ¬ (IsEven q) → IsEven (q +ℤ pos 1)
+even_or_next q odd =
+    let half = division_exists.1 q (pos 2) (λ e. omega (arith, linear)) in
+    elim (zero_or_not half.1) [
+      | inl none ↦ absurd (odd (record { factor = half.0; product = omega (arith, products) }))
+      | inr one ↦ record { factor = half.0 +ℤ pos 1; product = omega (arith, products, sizes) }
+    ]

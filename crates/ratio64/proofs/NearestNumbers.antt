@@ -1,5 +1,5 @@
 -- Quotients by a positive number, and the nearest integer.
-use Rattle.ratio64.proofs.Common.{◌≡◌, ◌⊎◌, ◌<◌, ◌≤◌, ◌*◌, ◌^◌, ◌<ℤ◌, ◌≤ℤ◌, ◌+ℤ◌, ◌-ℤ◌, ◌*ℤ◌, ℤ, pos, neg_ℤ, unsigned_abs, FitsSigned, MatchOption, Option, Width, w64, w128, of_z, to_z, ap, arith, inl, inr, by_lt_z, ints, LiesWithin, expand, linear, multiples_apart, product_from_zero, products, sizes, zero_or_not, division_exists, AnswersWhere, IsDivision, IsFloored, IsQuotient, IsTruncated, IsEven, IsOnly, EachFits, IsRange, within_fits, RoundedEvenIsOnly, RoundedIsOnly, IsRounded, IsRoundedEven}
+use Rattle.ratio64.proofs.Common.{◌≡◌, ◌⊎◌, ◌<◌, ◌≤◌, ◌*◌, ◌^◌, ◌<ℤ◌, ◌≤ℤ◌, ◌+ℤ◌, ◌-ℤ◌, ◌*ℤ◌, ℤ, pos, neg_ℤ, unsigned_abs, FitsSigned, MatchOption, Option, Width, w64, w128, of_z, to_z, ap, arith, inl, inr, by_lt_z, ints, LiesWithin, expand, linear, multiples_apart, product_from_zero, products, sizes, even_or_next, not_both_even, AnswersWhere, IsDivision, IsFloored, IsQuotient, IsTruncated, IsEven, IsOnly, EachFits, IsRange, within_fits, RoundedEvenIsOnly, RoundedIsOnly, IsRounded, IsRoundedEven}
 
 -- ---- a quotient by a positive number fits if the dividend does
 
@@ -56,17 +56,6 @@ only_rounded n d r up x s y = let least = rounded_apart up x y in let most = rou
 
 pub rounded_even_division : {n d r : ℤ} → pos 0 <ℤ d → IsRoundedEven n d r → IsDivision n d r (n -ℤ r *ℤ d)
 rounded_even_division {n} {d} {r} up h = let near = h.nearest in record { equation = omega (arith, linear); small = omega (arith, sizes) }
-
-not_both_even : {q p : ℤ} → p ≡ q +ℤ pos 1 → IsEven q → ¬ (IsEven p)
-not_both_even next even other = let half = even.product in let other_half = other.product in omega (arith, products)
-
-even_or_next : (q : ℤ) → ¬ (IsEven q) → IsEven (q +ℤ pos 1)
-even_or_next q odd =
-    let half = division_exists.1 q (pos 2) (λ e. omega (arith, linear)) in
-    elim (zero_or_not half.1) [
-      | inl none ↦ absurd (odd (record { factor = half.0; product = omega (arith, products) }))
-      | inr one ↦ record { factor = half.0 +ℤ pos 1; product = omega (arith, products, sizes) }
-    ]
 
 -- the quotient rounded down, if less than half is left, or half and it is even
 pub rounded_even_below : {n d q r : ℤ} → pos 0 <ℤ d → IsFloored n d q r → ((r +ℤ r) <ℤ d) ⊎ ((r +ℤ r ≡ d) × IsEven q) → IsRoundedEven n d q

@@ -43,6 +43,3 @@ wide_product {a} {b} a_fits b_fits e f =
     let left = part_size a a_fits in
     let right = part_size b b_fits in
     rw (e, f, to_z-of_z w64 a a_fits, to_z-of_z w64 b b_fits, read a (omega arith), read b (omega arith)) (read _ (product_below a b a_fits b_fits))
-
--- for `grind`: the product of two parts and its size
-pub ruleset product_steps = (wide_product, product_below, product_by_positive)

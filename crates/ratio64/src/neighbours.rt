@@ -62,7 +62,6 @@ pub(crate) fn neighbours(num: u64, den: u64, max: u64) -> (Neighbour, Neighbour)
 
 /// Moves a neighbour toward the other one as far as it may go: each step adds the parts of the other
 /// one.
-#[tactic(auto, using(crate::proofs::NeighbourIterations::steps_within))]
 fn closer(side: Neighbour, other: Neighbour, max: u64) -> Neighbour
     requires gap { 0 < other.gap × other.gap < side.gap }
     requires den { 0 < other.den × side.den + other.den ≤ max }

@@ -9,7 +9,6 @@ use num_integer::operators::{is_below, is_equal, is_negative, is_zero, negated, 
 use num_integer::{Integer, gcd};
 
 /// Returns the product of two parts.
-#[tactic(auto, using(crate::proofs::WideSums::product_steps))]
 pub(crate) fn product(a: i64, b: i64) -> i128
     ensures value { result ≡ a *ℤ b }
     ensures below { unsigned_abs result < 2 ^ 127 }
@@ -19,7 +18,6 @@ pub(crate) fn product(a: i64, b: i64) -> i128
 }
 
 /// Returns the numerator of the sum of `a / b` and `c / d` over the product of their denominators.
-#[tactic(auto, using(crate::proofs::WideSums::numbers_read))]
 pub(crate) fn numerator_of_sum(a: i64, b: i64, c: i64, d: i64) -> i128
     requires b_positive { pos 0 <ℤ b }
     requires d_positive { pos 0 <ℤ d }
@@ -31,7 +29,6 @@ pub(crate) fn numerator_of_sum(a: i64, b: i64, c: i64, d: i64) -> i128
 
 /// Returns the numerator of the difference of `a / b` and `c / d` over the product of their
 /// denominators.
-#[tactic(auto, using(crate::proofs::WideSums::numbers_read))]
 pub(crate) fn numerator_of_difference(a: i64, b: i64, c: i64, d: i64) -> i128
     requires b_positive { pos 0 <ℤ b }
     requires d_positive { pos 0 <ℤ d }

@@ -358,6 +358,7 @@ pub fn quotients<T: Integer>(n: T, d: T) -> (T, T)
 }
 
 /// Returns the quotients at `i64`.
+#[tactic(auto, using(std::proofs::lemmas::Int::wraps))]
 pub fn quotients_of_i64(n: i64, d: i64) -> (i64, i64)
     requires nonzero { d ≢ pos 0 }
     requires quotients_fit { EachKind (λ Kind. EachFits (FitsSigned w64) (IsQuotient Kind n d)) }
@@ -398,6 +399,7 @@ pub fn multiples<T: Integer>(n: T, d: T) -> (T, T)
 }
 
 /// Returns the multiples at `i64`.
+#[tactic(auto, using(std::proofs::lemmas::Int::wraps))]
 pub fn multiples_of_i64(n: i64, d: i64) -> (i64, i64)
     requires nonzero { d ≢ pos 0 }
     requires previous_fits { EachFits (FitsSigned w64) (IsMultiple IsFloored n d) }
@@ -661,6 +663,7 @@ pub fn iterations_for_bezout_pair<T: Integer>(a: T, b: T) -> (ExtendedGcd<T>, u3
 }
 
 /// Returns the pair and the number of iterations at `i64`.
+#[tactic(auto, using(std::proofs::lemmas::Int::wraps))]
 pub fn iterations_for_bezout_pair_of_i64(a: i64, b: i64) -> (ExtendedGcd<i64>, u32)
     requires gcd_fits { GcdFits (FitsSigned w64) a b }
     ensures named { IsBezoutAnswer a b result.0.gcd result.0.x result.0.y }
@@ -698,6 +701,7 @@ pub fn iterations_for_binomial_of_u64(n: u64, k: u64) -> (u64, u32)
 }
 
 /// Returns the parts of a fraction. The denominator is positive, and the greatest common divisor of the parts is 1.
+#[tactic(auto, using(std::proofs::lemmas::Int::wraps))]
 pub fn parts_of_fraction(x: &Ratio) -> (i64, i64)
     ensures num { result.0 ≡ num_of x.now }
     ensures den { result.1 ≡ den_of x.now }
@@ -708,6 +712,7 @@ pub fn parts_of_fraction(x: &Ratio) -> (i64, i64)
 
 /// Returns the reduced fraction that is equal to `num / den`. Returns an error if the denominator is 0 or if a part
 /// of the reduced fraction does not fit in `i64`.
+#[tactic(auto, using(std::proofs::lemmas::Int::wraps))]
 pub fn fraction(num: i64, den: i64) -> Result<Ratio, RatioError>
     ensures exact { IfOk result (λ x. IsExact num den (num_of x) (den_of x)) }
     ensures zero_denominator { (result ≡ Err RatioError.ZeroDenominator) ↔ (den ≡ pos 0) }

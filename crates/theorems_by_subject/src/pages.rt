@@ -31,6 +31,7 @@ pub fn items_of_page(page: u64, page_size: u64, items: u64) -> (u64, u64)
 // ---- offsets and schedules
 
 /// Returns the next day from `now` on that is on each schedule, or `None` if there is no such day or it does not fit.
+#[tactic(auto, using(std::proofs::lemmas::Int::wraps))]
 pub fn next_shift(now: i64, schedules: &[Schedule<i64>]) -> Option<i64>
     requires in_range { All (λ s. FitsSigned w64 s.0 × FitsSigned w64 s.1) schedules.now }
     requires positive { All (λ s. pos 0 <ℤ s.1) schedules.now }

@@ -81,6 +81,7 @@ pub fn previous_congruent_is_unique(to: i64, first: i64, step: i64, known: i64) 
 }
 
 /// Returns `At(known)`: the next number that solves two congruences is unique.
+#[tactic(auto, using(std::proofs::lemmas::Int::wraps))]
 pub fn next_common_solution_is_unique(
     from: i64,
     a: i64,

@@ -33,15 +33,11 @@ impl Total {
     /// Returns the total and the number.
     fn more(self, number: u128) -> Total {
         match self.low.checked_add(number) {
-            Some(low) => Total {
-                low,
-                over: self.over,
-                under: self.under,
-            },
+            Some(low) => Total { low, ..self },
             None => Total {
                 low: number - (u128::MAX - self.low) - 1,
                 over: self.over + 1,
-                under: self.under,
+                ..self
             },
         }
     }
@@ -49,15 +45,11 @@ impl Total {
     /// Returns the total without the number.
     fn less(self, number: u128) -> Total {
         match self.low.checked_sub(number) {
-            Some(low) => Total {
-                low,
-                over: self.over,
-                under: self.under,
-            },
+            Some(low) => Total { low, ..self },
             None => Total {
                 low: u128::MAX - (number - self.low - 1),
-                over: self.over,
                 under: self.under + 1,
+                ..self
             },
         }
     }

@@ -123,7 +123,6 @@ fn has_zero<T: Fits>(numbers: &[T]) -> bool
 
 /// Returns the sum of the numbers of a built-in type of at most 64 bits, or `None` if it does not fit. The sum of the first numbers need
 /// not fit. `sum_of(&[100i8, 100, -100])` is `Some(100)`, `sum_of(&[100i8, 100])` is `None`, and `sum_of::<i64>(&[])` is `Some(0)`.
-#[tactic(auto, using(crate::proofs::SignedSums::total_more))]
 pub fn sum_of<T: NativeInteger<Magnitude = u64>>(numbers: &[T]) -> Option<T>
     requires in_range { All (λ x. T.fits (T.value x)) numbers.now }
     ensures { AnswersWhere

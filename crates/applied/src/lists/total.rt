@@ -52,15 +52,11 @@ impl Total {
         ensures under { result.under ≡ self.under }
     {
         match self.low.checked_add(number) {
-            Some(low) => Total {
-                low,
-                over: self.over,
-                under: self.under,
-            },
+            Some(low) => Total { low, ..self },
             None => Total {
                 low: number - (u128::MAX - self.low) - 1,
                 over: self.over + 1,
-                under: self.under,
+                ..self
             },
         }
     }
@@ -74,15 +70,11 @@ impl Total {
         ensures under { result.under ≤ self.under + 1 }
     {
         match self.low.checked_sub(number) {
-            Some(low) => Total {
-                low,
-                over: self.over,
-                under: self.under,
-            },
+            Some(low) => Total { low, ..self },
             None => Total {
                 low: u128::MAX - (number - self.low - 1),
-                over: self.over,
                 under: self.under + 1,
+                ..self
             },
         }
     }

@@ -75,7 +75,6 @@ impl Ratio {
 }
 
 /// Returns the numerator of the sum of an integer and a fraction, over the denominator of the fraction.
-#[tactic(auto, using(crate::proofs::WideSums::numbers_read))]
 fn numerator(whole: i64, part: Neighbour) -> i64
     requires den { part.den < 2 ^ 63 }
     requires fits { FitsSigned w64 (whole *ℤ pos part.den +ℤ pos part.num) }

@@ -6,5 +6,4 @@ returns c =
     let n = c.ranges.n in
     let d = c.ranges.d in
     let fits = c.mod_floor.ensures.in_range in
-    let range = floored_remainder_range c.requires (simp to_z-of_z at c.mod_floor.ensures.floored) in
-    simp to_z-of_z range
+    simp to_z-of_z (floored_remainder_range c.requires (simp to_z-of_z at c.mod_floor.ensures.floored))

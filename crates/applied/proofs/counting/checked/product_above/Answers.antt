@@ -1,5 +1,8 @@
-use Rattle.applied.proofs.FallingFactorials.{next_factor_fits, next_product_fits}
+use Rattle.applied.proofs.FallingFactorials.{next_factor_fits, next_product_fits, product_first, product_next}
 use Rattle.applied.proofs.counting.checked.product_above.Goals as goal
+
+pub loop-high-init : goal.loop-high-init
+loop-high-init g c = product_first c.requires.in_range.0 c.one-ways.ensures.in_range c.one-ways.ensures.value c.requires.ordered
 
 pub successor-factor-requires-clause-sum_fits : goal.successor-factor-requires-clause-sum_fits
 successor-factor-requires-clause-sum_fits g c =
@@ -8,3 +11,9 @@ successor-factor-requires-clause-sum_fits g c =
 pub returns-in_err-ways : goal.returns-in_err-ways
 returns-in_err-ways g c = rw c.from_residual.ensures (λ fits.
     c.in_err-ways.ensures (rw c.successor-factor.ensures.value (next_product_fits c.loop-high.invariant c.requires.from_zero (c.is_below.ensures.0 c.loop-high-test.true) g.met.T.Integer.range_law fits)))
+
+pub loop-high-preserved : goal.loop-high-preserved
+loop-high-preserved g c =
+    let next = c.successor-factor.ensures in
+    let times = c.in_ok-ways.ensures.1 in
+    product_next c.loop-high.invariant c.requires.from_zero (c.is_below.ensures.0 c.loop-high-test.true) next.value times.1 next.in_range times.0
