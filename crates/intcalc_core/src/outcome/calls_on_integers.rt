@@ -2,8 +2,9 @@
 //! needs, in the order of the table, and then makes the call of the library.
 #![tactic(auto, unfolding(crate::specs::Outcome::OutcomeOfFitting))]
 
-ghost use Rattle.std.specs.Prelude.{pos};
+ghost use Rattle.std.specs.Prelude.{◌≡◌, ◌≢◌, pos, MatchResult};
 ghost use Rattle.intcalc_core.specs.declared.calls.Call.TheVariants as calls;
+ghost use Rattle.intcalc_core.specs.declared.calls.Refusal.TheVariants as refusals;
 ghost use Rattle.intcalc_core.specs.Outcome.{OutcomeOfFitting};
 
 use crate::calls::{Answer, Refusal};
@@ -16,9 +17,7 @@ pub(crate) fn div_rem<T: Operand>(pair: (T, T)) -> Result<Answer, Refusal>
     ensures { OutcomeOfFitting T.fits (calls.DivRem (T.value pair.0) (T.value pair.1)) result }
 {
     let (n, d) = pair;
-    if is_zero(d) {
-        return Err(Refusal::ZeroDivisor);
-    }
+    check_divisor(d)?;
     if !n.quotient_fits(&d) {
         return Err(Refusal::NotFitting);
     }
@@ -30,9 +29,7 @@ pub(crate) fn div_mod_floor<T: Operand>(pair: (T, T)) -> Result<Answer, Refusal>
     ensures { OutcomeOfFitting T.fits (calls.DivModFloor (T.value pair.0) (T.value pair.1)) result }
 {
     let (n, d) = pair;
-    if is_zero(d) {
-        return Err(Refusal::ZeroDivisor);
-    }
+    check_divisor(d)?;
     if !n.quotient_fits(&d) {
         return Err(Refusal::NotFitting);
     }
@@ -44,9 +41,7 @@ pub(crate) fn div_floor<T: Operand>(pair: (T, T)) -> Result<Answer, Refusal>
     ensures { OutcomeOfFitting T.fits (calls.DivFloor (T.value pair.0) (T.value pair.1)) result }
 {
     let (n, d) = pair;
-    if is_zero(d) {
-        return Err(Refusal::ZeroDivisor);
-    }
+    check_divisor(d)?;
     if !n.quotient_fits(&d) {
         return Err(Refusal::NotFitting);
     }
@@ -58,9 +53,7 @@ pub(crate) fn div_ceil<T: Operand>(pair: (T, T)) -> Result<Answer, Refusal>
     ensures { OutcomeOfFitting T.fits (calls.DivCeil (T.value pair.0) (T.value pair.1)) result }
 {
     let (n, d) = pair;
-    if is_zero(d) {
-        return Err(Refusal::ZeroDivisor);
-    }
+    check_divisor(d)?;
     if !n.quotient_fits(&d) {
         return Err(Refusal::NotFitting);
     }
@@ -72,9 +65,7 @@ pub(crate) fn mod_floor<T: Operand>(pair: (T, T)) -> Result<Answer, Refusal>
     ensures { OutcomeOfFitting T.fits (calls.ModFloor (T.value pair.0) (T.value pair.1)) result }
 {
     let (n, d) = pair;
-    if is_zero(d) {
-        return Err(Refusal::ZeroDivisor);
-    }
+    check_divisor(d)?;
     Ok(Answer::One(widen(n.mod_floor(&d))))
 }
 
@@ -83,9 +74,7 @@ pub(crate) fn next_multiple_of<T: Operand>(pair: (T, T)) -> Result<Answer, Refus
     ensures { OutcomeOfFitting T.fits (calls.NextMultipleOf (T.value pair.0) (T.value pair.1)) result }
 {
     let (n, d) = pair;
-    if is_zero(d) {
-        return Err(Refusal::ZeroDivisor);
-    }
+    check_divisor(d)?;
     if !n.next_multiple_fits(&d) {
         return Err(Refusal::NotFitting);
     }
@@ -97,9 +86,7 @@ pub(crate) fn prev_multiple_of<T: Operand>(pair: (T, T)) -> Result<Answer, Refus
     ensures { OutcomeOfFitting T.fits (calls.PrevMultipleOf (T.value pair.0) (T.value pair.1)) result }
 {
     let (n, d) = pair;
-    if is_zero(d) {
-        return Err(Refusal::ZeroDivisor);
-    }
+    check_divisor(d)?;
     if !n.prev_multiple_fits(&d) {
         return Err(Refusal::NotFitting);
     }
@@ -223,4 +210,16 @@ pub(crate) fn binomial<T: Operand>(pair: (T, T)) -> Result<Answer, Refusal>
         return Err(Refusal::NotFitting);
     }
     Ok(Answer::One(widen(num_integer::binomial(n, k))))
+}
+
+/// Returns `ZeroDivisor` if the divisor is 0.
+fn check_divisor<T: Integer>(d: T) -> Result<(), Refusal>
+    requires { T.fits (T.value d) }
+    ensures { MatchResult result (λ _. T.value d ≢ pos 0) (λ refusal. (refusal ≡ refusals.ZeroDivisor) × (T.value d ≡ pos 0)) }
+{
+    if is_zero(d) {
+        Err(Refusal::ZeroDivisor)
+    } else {
+        Ok(())
+    }
 }
