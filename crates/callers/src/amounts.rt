@@ -18,7 +18,7 @@ pub fn share_with_host(cents: i64, guests: i64) -> i64
     cents.div_floor(&operators::sum(guests, 1))
 }
 
-/// Returns the same share. The sum is an operator, so the proof file says that it fits.
+/// Returns the same share. The sum is an operator, and the lemmas of `wraps` say that its bits are those of a sum that fits.
 #[tactic(auto, using(std::proofs::lemmas::Int::wraps))]
 pub fn share_by_plus(cents: i64, guests: i64) -> i64
     requires { (pos 0 ≤ℤ guests) × (guests ≤ℤ pos 1000) }
