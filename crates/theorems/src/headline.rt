@@ -663,7 +663,6 @@ pub fn iterations_for_bezout_pair<T: Integer>(a: T, b: T) -> (ExtendedGcd<T>, u3
 }
 
 /// Returns the pair and the number of iterations at `i64`.
-#[tactic(auto, using(std::proofs::lemmas::Int::wraps))]
 pub fn iterations_for_bezout_pair_of_i64(a: i64, b: i64) -> (ExtendedGcd<i64>, u32)
     requires gcd_fits { GcdFits (FitsSigned w64) a b }
     ensures named { IsBezoutAnswer a b result.0.gcd result.0.x result.0.y }
@@ -701,7 +700,6 @@ pub fn iterations_for_binomial_of_u64(n: u64, k: u64) -> (u64, u32)
 }
 
 /// Returns the parts of a fraction. The denominator is positive, and the greatest common divisor of the parts is 1.
-#[tactic(auto, using(std::proofs::lemmas::Int::wraps))]
 pub fn parts_of_fraction(x: &Ratio) -> (i64, i64)
     ensures num { result.0 ≡ num_of x.now }
     ensures den { result.1 ≡ den_of x.now }
