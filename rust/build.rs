@@ -1,4 +1,4 @@
-//! Says what the compiler has that Rust 1.73 lacks: the attributes `diagnostic::on_unimplemented` since 1.78 and
+//! Says what the compiler has that older ones lack: the attributes `diagnostic::on_unimplemented` since 1.78 and
 //! `diagnostic::do_not_recommend` since 1.85, and `core::error::Error` since 1.81.
 
 use std::env;

@@ -8,6 +8,7 @@ import subprocess
 from collections.abc import Iterable, Iterator, Mapping
 
 ROOT = pathlib.Path(__file__).resolve().parent.parent
+MISSING = 3                     # the status of a part that needs a program which isn't there
 REGISTRY = pathlib.Path('/usr/share/cargo/registry')         # Debian's sources of packages for cargo
 DEBIAN = (ROOT / 'tools/gate/debian.toml').read_text() if REGISTRY.is_dir() else ''
 
@@ -37,12 +38,26 @@ def counted(found: Iterable[tuple[str, bool]]) -> bool:
     return counts[1] == 0 < counts[0]
 
 
-def run(*words: str | pathlib.Path) -> bool:
-    """Runs a program in the root of the repository. Whether it is there and succeeds; outside the gate it may be missing."""
-    if not shutil.which(words[0]):
-        print(f'{words[0]} is missing: tools/gate/install_packages.sh installs it')
-        return not os.environ.get('CI')
-    return subprocess.run(words, cwd=ROOT, check=False).returncode == 0
+def python_with(module: str) -> str | None:
+    """The Python that has a module: the first one in the path, or the system's."""
+    for python in ('python3', '/usr/bin/python3'):
+        if shutil.which(python):
+            words = [python, '-c', f'import {module}']
+            if subprocess.run(words, capture_output=True, check=False).returncode == 0:
+                return python
+    return None
+
+
+def run(*words: str) -> int:
+    """Runs a program in the root of the repository, or a module of Python. The status is 0 if it
+    succeeds, 1 if it fails, and `MISSING` if it isn't there; in the gate that's a failure too."""
+    program, name = shutil.which(words[0]), words[0]
+    if words[:2] == ('python3', '-m'):
+        program, name = python_with(words[2]), words[2]
+    if not program:
+        print(f'{name} is missing: tools/gate/install_packages.sh installs it')
+        return 1 if os.environ.get('CI') else MISSING
+    return int(subprocess.run([program, *words[1:]], cwd=ROOT, check=False).returncode != 0)
 
 
 def write(root: pathlib.Path, made: Mapping[str, str | None]) -> bool:

@@ -4,14 +4,14 @@
     tools/cellarcove check [PART [WORD..]]
 
 Without a PART it runs those that need no WORD, one after the other, but for the slow ones. `--help` after a PART says more of it. The
-status is 1 if something fails, and 2 if a form is not known."""
+status is 1 if something fails, 2 if a form is not known, and 3 if nothing fails and a program is missing."""
 import glob
 import importlib
 import sys
 import tomllib
 from typing import NamedTuple
 
-from tools import ROOT, as_made, run, write
+from tools import MISSING, ROOT, as_made, run, write
 from tools.erase.source import Unknown
 
 
@@ -29,7 +29,7 @@ def run_part(verb: str, part: Part, words: list[str]) -> int:
     """The status of a part."""
     if ' ' in part.runs:
         command = [file for word in part.runs.split() for file in (sorted(glob.glob(word, root_dir=ROOT)) if '*' in word else [word])]
-        return 0 if run(*command, *words) else 1
+        return run(*command, *words)
     name, function = part.runs.split(':')
     module = importlib.import_module(name)
     if words == ['--help']:
@@ -53,10 +53,10 @@ def main(words: list[str]) -> int:
             print('', f'    {verb}', *(f'        {name:<12}{part.does}{" *" * part.named}' for name, part in parts.items()), sep='\n')
         print('\nThose with a star run only if they are named.')
         return 0 if words == ['--help'] else 2
-    worst = 0
+    found = set[int]()
     for each, part in PARTS[verb].items():
         if each == name or not (part.named or name):
             if verb == 'check' or not name:
                 print(verb, each, flush=True)
-            worst = max(worst, run_part(verb, part, rest))
-    return worst
+            found.add(run_part(verb, part, rest))
+    return max(found - {MISSING}, default=0) or max(found, default=0)

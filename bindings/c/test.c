@@ -600,12 +600,12 @@ static void more_of_dates(void) {
 }
 
 static void texts(void) {
-    const uint8_t *half = (const uint8_t *)"6/-4";
+    const char *half = "6/-4";
     CHECK(cellarcove_fraction_from_text(half, 4).value.num == -3 && cellarcove_fraction_from_text(half, 1).value.num == 6);
     CHECK(cellarcove_fraction_from_text(half, 2).status == CELLARCOVE_OUTSIDE && cellarcove_fraction_from_text(NULL, 0).status == CELLARCOVE_OUTSIDE);
-    CHECK(cellarcove_fraction_from_text((const uint8_t *)"1/0", 3).status == CELLARCOVE_ZERO_DENOMINATOR);
-    CHECK(cellarcove_fraction_from_text((const uint8_t *)"9223372036854775808", 19).status == CELLARCOVE_NOT_FITTING);
-    const uint8_t *day = (const uint8_t *)"+12000-04-02";
+    CHECK(cellarcove_fraction_from_text("1/0", 3).status == CELLARCOVE_ZERO_DENOMINATOR);
+    CHECK(cellarcove_fraction_from_text("9223372036854775808", 19).status == CELLARCOVE_NOT_FITTING);
+    const char *day = "+12000-04-02";
     CHECK(is_date(cellarcove_date_from_text(day, 12).date, 12000, 4, 2) && is_date(cellarcove_date_from_text(day + 2, 10).date, 2000, 4, 2));
     CHECK(cellarcove_date_from_text(day + 1, 11).status == CELLARCOVE_NO_DATE && cellarcove_date_from_text(NULL, 0).status == CELLARCOVE_NO_DATE);
 }

@@ -1,11 +1,21 @@
 // The header for C++: each template with both signs, each class with its operators and its text, and what it refuses.
 #include "cellarcove.hpp"
 
+#include <array>
 #include <cstdio>
 #include <iomanip>
+#include <map>
 #include <sstream>
 #include <string>
+#include <unordered_set>
 #include <vector>
+#ifdef __cpp_lib_span
+#include <span>
+#endif
+
+#if defined(NEEDS_FORMAT) && !defined(__cpp_lib_format)
+#error "the library of this compiler has no std::format"
+#endif
 
 static int failed = 0;
 static int passed = 0;
@@ -181,6 +191,99 @@ static void dates() {
     CHECK(*cellarcove::iso_week(*date::make(2005, 1, 1)) == cellarcove::week_of_year{53, 2004});
 }
 
+// What the header computes in constant expressions is what the calls return.
+template <class T> static void constants_of(const std::vector<T> &numbers) {
+    namespace constant = cellarcove::detail::constant;
+    for (T a : numbers) {
+        for (T b : numbers) {
+            CHECK(constant::div_rem(a, b) == cellarcove::div_rem(a, b));
+            CHECK(constant::div_floor(a, b) == cellarcove::div_floor(a, b));
+            CHECK(constant::div_mod_floor(a, b) == cellarcove::div_mod_floor(a, b));
+            CHECK(constant::mod_floor(a, b) == cellarcove::mod_floor(a, b));
+            CHECK(constant::div_ceil(a, b) == cellarcove::div_ceil(a, b));
+        }
+    }
+}
+
+static void constants() {
+    std::vector<std::int64_t> numbers{INT64_MIN, INT64_MIN + 1, -(INT64_C(1) << 32), INT64_C(1) << 32, INT64_MAX - 1, INT64_MAX};
+    std::vector<std::uint64_t> naturals{UINT64_MAX, UINT64_MAX - 1, UINT64_C(1) << 63, UINT64_C(1) << 32};
+    for (std::int64_t number = -9; number <= 9; number++) {
+        numbers.push_back(number);
+        naturals.push_back(static_cast<std::uint64_t>(number + 9));
+    }
+    constants_of(numbers);
+    constants_of(naturals);
+    std::vector<fraction> fractions;
+    for (std::int64_t num : numbers) {
+        for (std::int64_t den : numbers) {
+            if (auto made = fraction::make(num, den)) {
+                fractions.push_back(*made);
+            }
+        }
+    }
+    for (const fraction &a : fractions) {
+        for (const fraction &b : fractions) {
+            CHECK(cellarcove::detail::constant::is_less(a, b) == (*cellarcove::fraction_cmp(a, b) < 0));
+        }
+    }
+    static_assert(*cellarcove::div_floor(-8, 3) == -3 && *cellarcove::div_ceil(-8, 3) == -2 && *cellarcove::mod_floor(INT64_MIN, -1) == 0);
+    static_assert(cellarcove::div_rem(-8, 3)->remainder == -2 && cellarcove::div_mod_floor(-8, 3)->remainder == 1);
+    static_assert(cellarcove::div_ceil(7U, 2U) == cellarcove::result<std::uint64_t>(4) && cellarcove::div_floor(1U, 0U) == status::outside);
+    static_assert(fraction(2) < fraction(3) && fraction(-2) > fraction(-3) && fraction(2) >= 2);
+}
+
+// What the standard library knows of the classes.
+static void idioms() {
+    auto half = *fraction::make(1, 2);
+    auto day = *date::make(2024, 1, 31);
+    cellarcove::result<fraction> total(fraction(0));
+    total += half;
+    total += half;
+    total *= 3;
+    total -= 1;
+    total /= 4;
+    CHECK(*total == half);
+    CHECK((total /= 0) == status::zero_denominator && (total += half) == status::zero_denominator);
+    cellarcove::result<date> later(day);
+    CHECK(*(later += 1) == *date::make(2024, 2, 1) && *(later -= 1) == day);
+    CHECK(cellarcove::div_floor(7, 2).transform([](std::int64_t x) { return x == 3; }).value());
+    CHECK(cellarcove::div_floor(7, 0).transform([](std::int64_t x) { return x == 3; }) == status::outside);
+    CHECK(*cellarcove::div_floor(7, 0).or_else([](status) { return cellarcove::result<std::int64_t>(-1); }) == -1);
+    CHECK(*cellarcove::div_floor(7, 2).or_else([](status) { return cellarcove::result<std::int64_t>(-1); }) == 3);
+
+    CHECK(*fraction::from_c({2, 4}) == half && fraction::from_c({1, 0}) == status::zero_denominator);
+    CHECK(*date::from_c({2024, 1, 31}) == day && date::from_c({2024, 13, 45}) == status::no_date);
+
+    std::unordered_set<fraction> fractions{half, *fraction::make(2, 4), fraction(3)};
+    std::unordered_set<date> dates{day, *date::make(2024, 1, 30), day};
+    CHECK(fractions.size() == 2 && fractions.count(half) == 1 && dates.size() == 2 && dates.count(day) == 1);
+    std::map<date, int> sorted{{day, 2}, {*date::make(2023, 12, 31), 1}};
+    CHECK(sorted.begin()->second == 1);
+
+    std::int64_t numbers[] = {12, -18, 8};
+    std::vector<long long> long_long{12, -18, 8};
+    std::vector<long> of_long{12, -18, 8};
+    static_assert(sizeof(long long) == sizeof(std::int64_t));
+    CHECK(*cellarcove::gcd_of(numbers) == 2 && *cellarcove::gcd_of(long_long) == 2 && *cellarcove::gcd_of(std::array<std::int64_t, 2>{4, 6}) == 2);
+    CHECK(sizeof(long) != sizeof(std::int64_t) || *cellarcove::gcd_of(std::vector<std::int64_t>(of_long.begin(), of_long.end())) == 2);
+    const std::uint64_t weights[] = {1, 1, 1};
+    unsigned long long parts[3] = {};
+    CHECK(cellarcove::shares(100U, weights, parts) == status::answer && parts[0] == 34 && parts[2] == 33);
+#ifdef __cpp_lib_span
+    CHECK(cellarcove::shares(10U, std::span(weights), std::span(parts)) == status::answer && parts[0] == 4);
+#endif
+#ifdef __cpp_lib_three_way_comparison
+    CHECK((half <=> fraction(1)) < 0 && (day <=> day) == 0 && (fraction(2) <=> half) > 0);
+#endif
+#ifdef __cpp_lib_format
+    CHECK(std::format("{} {:>6} {} {}", half, half, day, status::no_date) == "1/2    1/2 2024-01-31 there is no such date");
+    CHECK(std::format("{:*^12}|{}", day, cellarcove::decimal{true, 0, 5, 2}) == "*2024-01-31*|-0.05");
+    CHECK(std::format("{}", *cellarcove::iso_week(day)) == "2024-W05");
+#endif
+    static_assert(CELLARCOVE_VERSION_NUMBER == CELLARCOVE_VERSION_MAJOR * 10000 + CELLARCOVE_VERSION_MINOR * 100 + CELLARCOVE_VERSION_PATCH);
+}
+
 int main() {
     CHECK(std::string(cellarcove::text(status::no_date)) == "there is no such date");
     numbers();
@@ -188,6 +291,8 @@ int main() {
     texts();
     fractions();
     dates();
+    constants();
+    idioms();
     std::printf("%d results right, %d wrong\n", passed, failed);
     return failed != 0;
 }

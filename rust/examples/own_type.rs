@@ -28,18 +28,26 @@ impl fmt::Display for Cents {
 }
 
 macro_rules! operators {
-    ($($Operator:ident $method:ident)*) => {$(
+    ($($Operator:ident $method:ident($x:ident, $y:ident) $result:expr;)*) => {$(
         impl $Operator for Cents {
             type Output = Cents;
 
             fn $method(self, other: Cents) -> Cents {
-                Cents(self.0.$method(other.0))
+                let ($x, $y) = (self.0, other.0);
+                Cents($result)
             }
         }
     )*};
 }
 
-operators!(Add add Sub sub Mul mul Div div Rem rem);
+// A plain `x + y` wraps in a release build. `/` and `%` panic there too.
+operators! {
+    Add add(x, y) x.checked_add(y).expect("the sum of the amounts does not fit");
+    Sub sub(x, y) x.checked_sub(y).expect("the difference of the amounts does not fit");
+    Mul mul(x, y) x.checked_mul(y).expect("the product of the amounts does not fit");
+    Div div(x, y) x / y;
+    Rem rem(x, y) x % y;
+}
 
 impl Zero for Cents {
     fn zero() -> Cents {
@@ -127,4 +135,47 @@ fn main() -> Result<(), Box<dyn Error>> {
         );
     }
     Ok(())
+}
+
+/// Where a result does not fit, each operator panics, and so do the calls that are made of them.
+#[cfg(test)]
+mod tests {
+    use super::Cents;
+    use cellarcove::counting::factorial;
+    use cellarcove::Integer;
+
+    #[test]
+    fn largest_factorial() {
+        assert_eq!(factorial(Cents(20)), Cents(2432902008176640000));
+    }
+
+    #[test]
+    #[should_panic = "the product of the amounts does not fit"]
+    fn factorial_that_does_not_fit() {
+        let _ = factorial(Cents(21));
+    }
+
+    #[test]
+    #[should_panic = "the sum of the amounts does not fit"]
+    fn sum_that_does_not_fit() {
+        let _ = Cents(i64::MAX) + Cents(1);
+    }
+
+    #[test]
+    #[should_panic = "the difference of the amounts does not fit"]
+    fn difference_that_does_not_fit() {
+        let _ = Cents(i64::MIN) - Cents(1);
+    }
+
+    #[test]
+    #[should_panic = "attempt to divide with overflow"]
+    fn quotient_that_does_not_fit() {
+        let _ = Cents(i64::MIN) / Cents(-1);
+    }
+
+    #[test]
+    #[should_panic = "the least common multiple does not fit"]
+    fn multiple_that_does_not_fit() {
+        let _ = Cents(i64::MAX).lcm(&Cents(2));
+    }
 }

@@ -49,7 +49,7 @@ pub fn factorial<T: Integer + Copy>(n: T) -> T {
 ///
 /// # Panics
 ///
-/// If `n` or `k` is negative, or if the factorial does not fit.
+/// If `n` or `k` is negative, or if the falling factorial does not fit.
 ///
 /// [Contract](crate::definitions::contracts#countingfalling)
 #[track_caller]

@@ -4,7 +4,7 @@
 use crate::operators::is_below;
 use crate::{average_floor, Average, Integer};
 
-/// Returns the midpoint of two numbers in either order, rounded down. It never overflows.
+/// Returns the midpoint of two numbers in either order, rounded down. Their sum need not fit.
 ///
 /// # Examples
 ///
@@ -13,6 +13,7 @@ use crate::{average_floor, Average, Integer};
 ///
 /// assert_eq!(midpoint(2, 5), 3);
 /// assert_eq!(midpoint(-2, -5), -4);
+/// assert_eq!(midpoint(100i8, 120), 110);
 /// ```
 ///
 /// [Contract](crate::definitions::contracts#halvingmidpoint)

@@ -8,7 +8,7 @@ mod division;
 mod divisors;
 pub(crate) mod fitting;
 pub(crate) mod guards;
-pub(crate) mod narrowing;
+pub mod narrowing;
 mod native;
 mod native_integer;
 #[doc(hidden)]

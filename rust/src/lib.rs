@@ -42,11 +42,10 @@ mod serde_strings;
 pub mod shares;
 pub(crate) mod sign_magnitude;
 
-pub(crate) use crate::integer_core::narrowing;
 pub(crate) use crate::integer_core::padded;
 pub use crate::integer_core::{
-    div_ceil, div_floor, div_mod_floor, div_rem, gcd, gcd_lcm, lcm, mod_floor, operators,
-    ExtendedGcd, Integer, NativeInteger,
+    div_ceil, div_floor, div_mod_floor, div_rem, gcd, gcd_lcm, lcm, mod_floor, narrowing,
+    operators, ExtendedGcd, Integer, NativeInteger,
 };
 pub use crate::integer_roots::{average_ceil, average_floor, cbrt, nth_root, sqrt, Average, Roots};
 pub use coefficients::{binomial, multinomial};

@@ -10,7 +10,7 @@ use crate::Fits;
 /// Returns the greatest common divisor of the numbers, the largest that divides each of them.
 ///
 /// [`checked::gcd_of`] returns `None` if the result does not fit. In an unsigned
-/// type it always fits.
+/// type it fits: `gcd_of(&[u8::MAX, 0])` is `255`.
 ///
 /// # Examples
 ///
@@ -20,6 +20,7 @@ use crate::Fits;
 /// assert_eq!(gcd_of(&[12, 18, 8]), 2);
 /// assert_eq!(gcd_of(&[-4, 0]), 4);
 /// assert_eq!(gcd_of::<i64>(&[]), 0);
+/// assert_eq!(gcd_of(&[u8::MAX, 0]), 255);
 /// ```
 ///
 /// # Panics

@@ -96,6 +96,7 @@ pub fn item_at<T: Fits>(page: T, place: T, page_size: T) -> Option<T> {
 ///
 /// assert_eq!(range_of_page(2, 4, 10), (8, 10));
 /// assert_eq!(range_of_page(3, 4, 10), (10, 10));
+/// assert_eq!(range_of_page(-1, 4, 10), (10, 10));
 /// ```
 ///
 /// # Panics
@@ -134,6 +135,7 @@ pub fn range_of_page<T: Integer + Copy>(page: T, page_size: T, items: T) -> (T, 
 /// assert_eq!(range_of_part(0, 3, 10), (0, 4));
 /// assert_eq!(range_of_part(1, 3, 10), (4, 7));
 /// assert_eq!(range_of_part(2, 3, 10), (7, 10));
+/// assert_eq!(range_of_part(2, 3, 2), (2, 2));
 /// ```
 ///
 /// # Panics

@@ -5,7 +5,7 @@
 mod decimal;
 mod error;
 mod fraction;
-pub(crate) mod integer_words;
+pub mod integer_words;
 mod neighbours;
 mod order;
 mod parse;

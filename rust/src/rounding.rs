@@ -46,6 +46,7 @@ pub fn div_round<T: Integer + Copy>(x: T, y: T) -> T {
 /// assert_eq!(div_round_even(8, 3), 3);
 /// assert_eq!(div_round_even(5, 2), 2);
 /// assert_eq!(div_round_even(7, 2), 4);
+/// assert_eq!(div_round_even(-5, 2), -2);
 /// ```
 ///
 /// # Panics

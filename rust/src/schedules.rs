@@ -20,7 +20,8 @@ use crate::{Fits, Integer};
 /// ```
 pub type Schedule<T> = (T, T);
 
-/// Returns the first time, not before `now`, that is in both schedules.
+/// Returns the first time, not before `now`, that is in both schedules. Before its first time a
+/// schedule has no times: `next_meeting(0, (13, 4), (3, 6))` is `CommonSolution::At(21)`.
 ///
 /// # Examples
 ///
@@ -30,6 +31,7 @@ pub type Schedule<T> = (T, T);
 ///
 /// assert_eq!(next_meeting(10, (1, 4), (3, 6)), CommonSolution::At(21));
 /// assert_eq!(next_meeting(0, (0, 2), (1, 2)), CommonSolution::Never);
+/// assert_eq!(next_meeting(0, (13, 4), (3, 6)), CommonSolution::At(21));
 /// ```
 ///
 /// # Panics
@@ -51,7 +53,7 @@ pub fn next_meeting<T: Modular + Fits>(
 }
 
 /// Returns the first time, not before `now`, that is in all schedules. The product of the periods
-/// may not fit.
+/// need not fit: `next_meeting_of(0u8, &[(1, 16), (1, 17)])` is `CommonSolution::At(1)`.
 ///
 /// # Examples
 ///
@@ -60,6 +62,7 @@ pub fn next_meeting<T: Modular + Fits>(
 /// use cellarcove::schedules::next_meeting_of;
 ///
 /// assert_eq!(next_meeting_of(10, &[(1, 4), (3, 6), (0, 7)]), CommonSolution::At(21));
+/// assert_eq!(next_meeting_of(0u8, &[(1, 16), (1, 17)]), CommonSolution::At(1));
 /// ```
 ///
 /// # Panics
@@ -75,7 +78,7 @@ pub fn next_meeting_of<T: Modular + Fits>(now: T, schedules: &[Schedule<T>]) -> 
 }
 
 /// Returns how many times of the schedule are in `from..=to`, or `None` if the type cannot hold
-/// that count. No time is before the first time of the schedule.
+/// that count. Before its first time a schedule has no times: `count(-9, 15, (3, 6))` is `Some(3)`.
 ///
 /// # Examples
 ///
@@ -83,8 +86,8 @@ pub fn next_meeting_of<T: Modular + Fits>(now: T, schedules: &[Schedule<T>]) -> 
 /// use cellarcove::schedules::count;
 ///
 /// assert_eq!(count(4, 15, (3, 6)), Some(2));
-/// assert_eq!(count(-9, 15, (3, 6)), Some(3));
 /// assert_eq!(count(-128i8, 127, (-128, 1)), None);
+/// assert_eq!(count(-9, 15, (3, 6)), Some(3));
 /// ```
 ///
 /// # Panics

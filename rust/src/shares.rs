@@ -8,17 +8,28 @@ pub use error::SharesError;
 pub use remainders::shares_by_largest_remainder;
 
 /// Fills `shares` with the shares of the amount that are in proportion to the weights. Together
-/// they are the amount, and each differs by less than 1 from its exact share. The first shares
-/// together are their exact share rounded up, so the first of equal weights get the larger shares.
+/// they are the amount, and each differs by less than 1 from its exact share.
+///
+/// Running totals are rounded up. So of four equal weights the first and the third get more of
+/// 1002: their exact running totals are 250.5, 501, 751.5 and 1002. To give more to the first two,
+/// use [`shares_by_largest_remainder`].
 ///
 /// # Examples
 ///
 /// ```
-/// use cellarcove::shares::shares;
+/// use cellarcove::shares::{shares, shares_by_largest_remainder};
 ///
 /// assert_eq!(
 ///     { let mut parts = [0; 3]; (shares(100, &[1, 1, 1], &mut parts), parts) },
 ///     (Ok(()), [34, 33, 33])
+/// );
+/// assert_eq!(
+///     { let mut parts = [0; 4]; (shares(1002, &[1; 4], &mut parts), parts) },
+///     (Ok(()), [251, 250, 251, 250])
+/// );
+/// assert_eq!(
+///     { let mut parts = [0; 4]; (shares_by_largest_remainder(1002, &[1; 4], &mut parts), parts) },
+///     (Ok(()), [251, 251, 250, 250])
 /// );
 /// ```
 ///
@@ -53,6 +64,10 @@ pub fn shares(amount: u64, weights: &[u64], shares: &mut [u64]) -> Result<(), Sh
 /// assert_eq!(
 ///     { let mut parts = [0; 3]; (signed_shares(-100, &[1, 1, 1], &mut parts), parts) },
 ///     (Ok(()), [-34, -33, -33])
+/// );
+/// assert_eq!(
+///     { let mut parts = [0; 3]; (signed_shares(100, &[1, 1, 1], &mut parts), parts) },
+///     (Ok(()), [34, 33, 33])
 /// );
 /// ```
 ///

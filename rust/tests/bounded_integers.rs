@@ -118,7 +118,9 @@ fn small_numbers_are_as_at_i64() {
         assert_eq!(x.average_ceil(&y).number(), a.average_ceil(&b));
         assert_eq!((x < y, x == y), (a < b, a == b));
         assert_eq!(x.is_multiple_of(&y), Integer::is_multiple_of(&a, &b));
+        assert_eq!((x.is_even(), x.is_odd()), (a & 1 == 0, a & 1 == 1));
         if b != 0 {
+            assert!(a / b == 8 || (x / y).number() == a / b, "{a} {b}");
             assert_eq!(checked::div_floor(x, y), within(Integer::div_floor(&a, &b)));
             assert_eq!(x.mod_floor(&y).number(), a.mod_floor(&b));
             assert_eq!((x % y).number(), a % b);
@@ -165,6 +167,11 @@ fn the_traits_are_those_of_the_numbers() {
     assert_eq!(Cents::new(-5).signum(), -Cents::one());
     assert_eq!(Cents::new(7).abs_sub(&Cents::new(9)), Cents::zero());
     assert!(Cents::new(-5).is_negative() && Cents::one().is_positive());
+    assert!(!Cents::zero().is_negative() && !Cents::zero().is_positive());
+    assert!(!Cents::one().is_negative() && !Cents::new(-1).is_positive());
+    assert!(Cents::new(-5).is_odd() && !Cents::new(-4).is_odd());
+    assert_eq!(Cents::new(-7) / Cents::new(2), Cents::new(-3));
+    assert_eq!(Cents::new(7) / Cents::new(-2), Cents::new(-3));
     assert_eq!(sqrt(Minutes::new(1439)), Minutes::new(37));
     assert_eq!(nth_root(Cents::new(-27), 3), Cents::new(-3));
     assert_eq!(

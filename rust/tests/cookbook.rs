@@ -124,15 +124,20 @@ mod page {
 
     #[test]
     fn tasks_of_the_page() {
-        let mut budgets = [0; 3];
-        shares::shares(1001, &[5, 3, 2], &mut budgets).unwrap();
-        assert_eq!(budgets, [501, 300, 200]);
+        let mut budgets = [0; 4];
+        shares::shares(1002, &[1, 1, 1, 1], &mut budgets).unwrap();
+        assert_eq!(budgets, [251, 250, 251, 250]);
+        shares::shares_by_largest_remainder(1002, &[1, 1, 1, 1], &mut budgets).unwrap();
+        assert_eq!(budgets, [251, 251, 250, 250]);
         let both_buses = schedules::next_meeting(10, (1, 4), (3, 6));
         assert_eq!(both_buses, CommonSolution::At(21));
-        let tax = checked::product_div_mod_floor(i64::MAX, 19, 100);
-        assert_eq!(tax, Some((1752440687002407403, 33)));
-        let price = Ratio::new(1234, 5).unwrap().to_decimal(2);
-        assert_eq!(price.unwrap().to_string(), "246.80");
+        assert_eq!(checked::product_div_mod_floor(1999, 19, 100), Some((379, 81)));
+        let largest_tax = checked::product_div_mod_floor(i64::MAX, 19, 100);
+        assert_eq!(largest_tax, Some((1752440687002407403, 33)));
+        let price = Ratio::new(1, 8).unwrap().to_decimal(2);
+        assert_eq!(price.unwrap().to_string(), "0.12");
+        let coin = Ratio::new(1, 20).unwrap().to_decimal(2);
+        assert_eq!(coin.unwrap().to_string(), "0.05");
         let invoice: Date = "2026-01-31".parse().unwrap();
         assert_eq!(invoice.plus_months(1).unwrap().to_string(), "2026-02-28");
     }

@@ -1,5 +1,6 @@
 //! Choices out of less than eight, pages and parts of few items, places in short lists, and powers, against lists of all.
 
+use cellarcove::counted::binomial_counted;
 use cellarcove::halving::{lower_bound, midpoint};
 use cellarcove::layout::{align_up, padding};
 use cellarcove::paging::{pages, place_of, range_of_page, range_of_part};
@@ -37,6 +38,25 @@ fn next_choices() {
         }
         assert!(!next_choice(&mut choice, n), "{n}");
         assert_eq!(all.last(), Some(&choice), "{n}");
+    }
+}
+
+/// The coefficients by the sums of Pascal's triangle, and the iterations: the smaller of `k` and `n - k`.
+#[test]
+fn rows_of_pascal() {
+    let mut row = vec![1u64];
+    for n in 0..=60u64 {
+        for (k, coefficient) in (0..).zip(&row) {
+            let iterations = k.min(n - k) as u32;
+            assert_eq!(
+                binomial_counted(n, k),
+                (*coefficient, iterations),
+                "{n} {k}"
+            );
+        }
+        assert_eq!(binomial_counted(n, n + 1), (0, 0), "{n}");
+        let next = row.windows(2).map(|pair| pair[0] + pair[1]);
+        row = [1].into_iter().chain(next).chain([1]).collect();
     }
 }
 

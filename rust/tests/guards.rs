@@ -3,14 +3,14 @@
 
 use cellarcove::modular::counted::power_modulo_counted;
 use cellarcove::modular::{chinese_remainder, product_modulo, Modular};
-use cellarcove::{powers, sqrt, Integer, Roots};
+use cellarcove::{layout, powers, sqrt, Integer, Roots};
 use num_traits::{Num, One, Zero};
 use std::fmt::Debug;
 use std::ops::{Add, Div, Mul, Rem, Sub};
 use std::panic::{catch_unwind, UnwindSafe};
 
 const MODULUS: &str = "the modulus is not positive";
-const SQUARE_ROOT: &str = "attempt to take the square root of a negative number";
+const DEGREE: &str = "attempt to take a root of degree 0";
 
 /// A type whose methods do not test their domains.
 #[derive(Debug, Clone, Copy, PartialEq, Eq, PartialOrd, Ord)]
@@ -108,34 +108,75 @@ impl Roots for Bold {
     }
 }
 
-/// The reason of the panic of a call.
-fn reason<R: Debug>(call: impl FnOnce() -> R + UnwindSafe) -> String {
-    let payload = catch_unwind(call).expect_err("the call panics");
-    *payload.downcast::<String>().expect("a reason")
+/// What a call returns, or the reason of its panic.
+fn outcome<R: Debug>(call: impl FnOnce() -> R + UnwindSafe) -> Result<R, String> {
+    catch_unwind(call).map_err(|payload| *payload.downcast().expect("a reason"))
+}
+
+/// Each call panics with the reason. All that do not are printed.
+macro_rules! panics {
+    ($($reason:ident { $($call:expr;)* })*) => {{
+        let mut wrong = Vec::new();
+        $($(
+            let found = outcome(|| $call);
+            if found.as_ref().err().map(String::as_str) != Some($reason) {
+                wrong.push(format!("{}: {found:?}, and not {:?}", stringify!($call), $reason));
+            }
+        )*)*
+        assert!(wrong.is_empty(), "{wrong:#?}");
+    }};
 }
 
 #[test]
 fn functions_test_before_the_methods_of_a_type() {
-    let (x, m) = (Bold(-9), Bold(-7));
-    assert_eq!(reason(|| sqrt(x)), SQUARE_ROOT);
-    assert_eq!(reason(|| product_modulo(x, x, m)), MODULUS);
-    assert_eq!(reason(|| power_modulo_counted(x, 3, m)), MODULUS);
+    let (x, y, m) = (Bold(-9), Bold(9), Bold(-7));
+    panics! {
+        MODULUS {
+            power_modulo_counted(x, 3, m);
+            power_modulo_counted(y, 3, m);
+            power_modulo_counted(y, 3, Bold(0));
+        }
+    }
+}
+
+#[test]
+fn functions_call_the_methods_of_a_type() {
+    let (x, m, one) = (Bold(-9), Bold(-7), Bold(1));
     assert_eq!((x.sqrt(), x.product_modulo(&x, &m)), (x, Bold(81)));
+    assert_eq!((sqrt(x), product_modulo(x, x, m)), (x, Bold(81)));
+    assert_eq!(outcome(|| power_modulo_counted(x, 3, one)), Ok((x, 0)));
 }
 
 /// The multiple fits the type of the magnitudes, and a negative number is no power of degree 0.
 #[test]
 fn before_the_last_step() {
-    let (lcm, degree) = (
-        "the least common multiple does not fit",
-        "attempt to take a root of degree 0",
-    );
-    assert_eq!(reason(|| 100i8.gcd_lcm(&3)), lcm);
-    assert_eq!(reason(|| powers::is_power(-9, 0)), degree);
+    let lcm = "the least common multiple does not fit";
+    panics! {
+        lcm { 100i8.gcd_lcm(&3); }
+        DEGREE { powers::is_power(-9, 0); }
+    }
 }
 
 #[test]
 fn moduli_are_tested_before_their_multiple() {
-    assert_eq!(reason(|| chinese_remainder(1, i64::MIN, 3, 5)), MODULUS);
-    assert_eq!(reason(|| chinese_remainder(1, 5, 3, i64::MIN)), MODULUS);
+    panics! {
+        MODULUS {
+            chinese_remainder(1, i64::MIN, 3, 5);
+            chinese_remainder(1, 5, 3, i64::MIN);
+        }
+    }
+}
+
+/// Where std's division would panic too, the reason is that of the call.
+#[test]
+fn alignments_are_tested_before_the_division() {
+    let reason = "the alignment is not positive";
+    for alignment in [0i8, -1, i8::MIN] {
+        panics! {
+            reason {
+                layout::padding(5, alignment);
+                layout::align_up(5, alignment);
+            }
+        }
+    }
 }

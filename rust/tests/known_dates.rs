@@ -6,8 +6,8 @@ use cellarcove::calendar::Weekday::{
 use cellarcove::calendar::{
     days_between, days_in_month, days_in_year, easter, first_weekday_on_or_after, is_leap_year,
     last_weekday_of_month, last_weekday_on_or_before, months_between, next_last_weekday,
-    nth_weekday_of_month, weekday_of, weeks_in_year, years_between, Date, IsoWeek, Weekday,
-    WeekdayError,
+    nth_weekday_of_month, weekday_of, weeks_in_year, years_between, Date, DateError, IsoWeek,
+    Weekday, WeekdayError,
 };
 use std::fmt::Debug;
 
@@ -111,6 +111,82 @@ fn strings_of_years_with_four_digits() {
             let string = format!("{year:04}-{month:02}-{day:02}");
             holds_at(date((year, month, day)).to_string() == string, &string);
         }
+    }
+}
+
+/// Dates and their strings, by ISO 8601: a year of four digits has no sign. Any other has one, and as few zeros as four digits ask for.
+const STRINGS_OF_DATES: [(Parts, &str); 10] = [
+    ((2024, 2, 29), "2024-02-29"),
+    ((0, 1, 1), "0000-01-01"),
+    ((9999, 12, 31), "9999-12-31"),
+    ((10000, 1, 1), "+10000-01-01"),
+    ((-1, 12, 31), "-0001-12-31"),
+    ((-999, 5, 6), "-0999-05-06"),
+    ((-9999, 5, 6), "-9999-05-06"),
+    ((-10000, 5, 6), "-10000-05-06"),
+    ((MAX, 12, 31), "+9223372036854775807-12-31"),
+    ((MIN, 1, 1), "-9223372036854775808-01-01"),
+];
+
+/// Strings of no date. Some have a year of fewer or of more digits than it is written with, or a year beyond the ends.
+const NO_DATES: [&str; 29] = [
+    "",
+    "2024",
+    "2024-02",
+    "2024-02-30",
+    "2023-02-29",
+    "2024-2-29",
+    "2024-02-29 ",
+    " 2024-02-29",
+    "20240229",
+    "2024/02/29",
+    "2024-02-+9",
+    "999-01-01",
+    "10000-01-01",
+    "00001-01-01",
+    "02024-02-29",
+    "+2024-02-29",
+    "+9999-12-31",
+    "+09999-12-31",
+    "+010000-01-01",
+    "-0000-01-01",
+    "-001-01-01",
+    "-00001-01-01",
+    "-09999-01-01",
+    "--001-01-01",
+    "+9223372036854775808-01-01",
+    "-9223372036854775809-01-01",
+    "+18446744073709551616-01-01",
+    "2024-\u{0662}-29",
+    "\u{662}\u{660}\u{662}\u{664}-02-29",
+];
+
+#[test]
+fn strings_of_dates() {
+    for &(parts, string) in &STRINGS_OF_DATES {
+        let date = date(parts);
+        holds_at(date.to_string() == string, &("to_string", string));
+        holds_at(string.parse() == Ok(date), &("parse", string));
+    }
+    for string in NO_DATES {
+        let is_error = string.parse::<Date>() == Err(DateError);
+        holds_at(is_error, &("parse", string));
+    }
+}
+
+/// Each place of a date has a character of more than one byte in turn, so that the string is cut within it.
+#[test]
+fn strings_of_other_bytes() {
+    let string = "2024-02-29";
+    for other in ['é', '‐', '𝟐'] {
+        for place in 0..string.len() {
+            let mut changed = string.to_string();
+            changed.replace_range(place..=place, &other.to_string());
+            let is_error = changed.parse::<Date>() == Err(DateError);
+            holds_at(is_error, &("parse", changed));
+        }
+        let is_error = format!("{other}29").parse::<Date>() == Err(DateError);
+        holds_at(is_error, &("parse", other));
     }
 }
 
@@ -321,6 +397,31 @@ const WEEKS_OF_YEARS: [((u8, u16), &[i64]); 4] = [
     ((52, 366), &[2024, 0, MIN]),
     ((52, 365), &[2005, 1900]),
 ];
+
+/// Of 400 years those with 53 weeks, by `isocalendar` of Python.
+#[rustfmt::skip]
+const WITH_53_WEEKS: [i64; 71] = [
+    2004, 2009, 2015, 2020, 2026, 2032, 2037, 2043, 2048, 2054, 2060, 2065, 2071, 2076, 2082, 2088, 2093, 2099,
+    2105, 2111, 2116, 2122, 2128, 2133, 2139, 2144, 2150, 2156, 2161, 2167, 2172, 2178, 2184, 2189, 2195,
+    2201, 2207, 2212, 2218, 2224, 2229, 2235, 2240, 2246, 2252, 2257, 2263, 2268, 2274, 2280, 2285, 2291, 2296,
+    2303, 2308, 2314, 2320, 2325, 2331, 2336, 2342, 2348, 2353, 2359, 2364, 2370, 2376, 2381, 2387, 2392, 2398,
+];
+
+/// The weeks repeat after 400 years.
+#[test]
+fn weeks_of_400_years() {
+    for year in 2000..2400 {
+        let is_there = WITH_53_WEEKS.contains(&year);
+        for year in [year, year - 400, year - 4000, year + 4_000_000] {
+            let weeks = if is_there { 53 } else { 52 };
+            holds_at(weeks_in_year(year) == weeks, &("weeks_in_year", year));
+            let has_week = IsoWeek::new(year, 53).is_some();
+            holds_at(has_week == is_there, &("IsoWeek::new", year));
+            let has_date = Date::from_iso_week(year, 53, Thursday).is_some();
+            holds_at(has_date == is_there, &("from_iso_week", year));
+        }
+    }
+}
 
 #[test]
 fn weeks_of_years() {

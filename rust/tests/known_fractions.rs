@@ -163,6 +163,13 @@ fn answers_of_operations() {
     }
 }
 
+/// The numbers that `cellarcove.h` has for the errors.
+#[test]
+fn numbers_of_errors() {
+    let numbers = [ZeroDenominator, NotFitting].map(|error| error.number());
+    assert_eq!(numbers, [1, 2]);
+}
+
 /// One more than the fraction, and whether that is less than 3.
 fn plus_one(x: &Ratio) -> Result<(Ratio, bool), RatioError> {
     let sum = x.checked_add(&Ratio::from(1))?; // 5/3 where x is 2/3
@@ -344,7 +351,7 @@ fn signs() {
 /// The parts of a fraction and a number, and their product rounded down, up and to the nearest.
 type Row = (Parts, i64, (Option<i64>, Option<i64>, Option<i64>));
 
-static TIMES: [Row; 28] = [
+static TIMES: [Row; 29] = [
     ((2, 3), 100, (Some(66), Some(67), Some(67))),
     ((2, 3), -100, (Some(-67), Some(-66), Some(-67))),
     ((1, 3), 100, (Some(33), Some(34), Some(33))),
@@ -397,6 +404,19 @@ static TIMES: [Row; 28] = [
     ),
     ((-3, 2), 6148914691236517206, (None, None, None)),
     ((274177, 2), -67280421310721, (None, Some(MIN), None)),
+    // a third less than the smallest number
+    ((25, 3), -1106804644422573097, (None, Some(MIN), Some(MIN))),
+];
+
+/// The parts of a fraction and a number, and their product rounded to the nearest, half to even, by the fractions of Python.
+static EVEN_TIMES: [(Parts, i64, Option<i64>); 7] = [
+    ((25, 3), -1106804644422573097, Some(MIN)),
+    ((-25, 3), 1106804644422573097, Some(MIN)),
+    ((274177, 2), -67280421310721, Some(MIN)),
+    ((274177, 2), 67280421310721, None),
+    ((3, 2), 6148914691236517205, None),
+    ((-3, 2), 6148914691236517205, Some(MIN)),
+    ((-3, 2), 6148914691236517206, None),
 ];
 
 #[test]
@@ -405,6 +425,10 @@ fn whole_numbers_times() {
         let x = ratio(given);
         let found = (x.floor_times(n), x.ceil_times(n), x.round_times(n));
         holds_at(found == expected, &("times", given, n));
+    }
+    for &(given, n, expected) in &EVEN_TIMES {
+        let found = ratio(given).round_even_times(n);
+        holds_at(found == expected, &("round_even_times", given, n));
     }
 }
 

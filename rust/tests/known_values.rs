@@ -83,6 +83,15 @@ fn meetings_of_several() {
     holds_at(found == At(21), &"next_meeting_of");
     let found = next_meeting_of(0u8, &[(1, 4), (3, 6), (0, 2)]);
     holds_at(found == Never, &"next_meeting_of");
+    // not before the first time of any, which stands at each place of the list
+    for schedules in [
+        [(50, 10), (0, 1), (0, 2)],
+        [(0, 1), (50, 10), (0, 2)],
+        [(0, 1), (0, 2), (50, 10)],
+    ] {
+        let found = next_meeting_of(0i8, &schedules);
+        holds_at(found == At(50), &("next_meeting_of", schedules));
+    }
     let found = next_meeting_of(i64::MAX, &[(0, 1), (1, 2)]);
     holds_at(found == At(i64::MAX), &"next_meeting_of");
 }
@@ -208,6 +217,18 @@ fn choices_and_their_ranks() {
     assert!(rank_fits(&[2, 6074001000]) && !rank_fits(&[3000000000, 6074001000]));
 }
 
+/// The first choice of each length has the rank 0, and with each number one greater, a rank of 1 for each number.
+#[test]
+fn ranks_of_long_choices() {
+    for length in [60, 61, 62, 63, 64, 65, 1000u64] {
+        let first: Vec<u64> = (0..length).collect();
+        let later: Vec<u64> = (1..=length).collect();
+        holds_at(rank_fits(&first) && rank_fits(&later), &length);
+        holds_at(rank(&first, length) == 0, &("rank", length));
+        holds_at(rank(&later, length + 1) == length, &("rank", length));
+    }
+}
+
 #[test]
 fn ranks() {
     assert!(rank(&[0, 1, 2], 5) == 0 && rank(&[0, 2, 3], 5) == 2 && rank(&[2, 3, 4], 5) == 9);
@@ -269,6 +290,18 @@ fn hashes() {
     assert!(decimal.slide(26, 1, 4) == 40);
     let all_alike = RollingHash::new(257, 1, 0);
     assert!(all_alike.hash(&[255]) == 0 && all_alike.slide(0, 255, 7) == 0);
+}
+
+/// Modulo 2^61 - 1 the powers of 2 repeat after 61 of them, and 2^32 + 1 is 58 more than a multiple of 61. So a window of 2^32 + 2 bytes, a 1
+/// and zeros behind it, has the hash 2^58.
+#[test]
+fn long_windows() {
+    let rolling = RollingHash::new(2, (1 << 61) - 1, (1 << 32) + 1);
+    assert!(rolling.slide(1 << 58, 1, 0) == 0 && rolling.slide(1 << 58, 1, 7) == 7);
+    assert!(rolling.slide(5, 0, 7) == 17);
+    // 2^64 - 1 is 15 more than a multiple of 61
+    let longest = RollingHash::new(2, (1 << 61) - 1, u64::MAX);
+    assert!(longest.slide(1 << 15, 1, 9) == 9);
 }
 
 /// At base 256 a window is read as a number of 32 bits.

@@ -178,6 +178,9 @@ fn sums_of_products_at_the_ends() {
         (&[(i64::MIN, i64::MAX), (i64::MIN, i64::MAX), (i64::MIN, i64::MAX), (i64::MIN, i64::MAX), (i64::MIN, 4), (1, -1)], None),
         (&[(i64::MIN, i64::MAX), (i64::MIN, i64::MAX), (i64::MIN, i64::MAX), (i64::MIN, i64::MAX), (i64::MIN, 4)], None),
         (&[(i64::MIN, i64::MIN), (i64::MIN, i64::MIN), (i64::MIN, i64::MIN), (i64::MIN, i64::MIN), (3, 1)], None),
+        // 5 less than 2^128, and as far from 0 on the other side
+        (&[(i64::MIN, i64::MIN), (i64::MIN, i64::MIN), (i64::MIN, i64::MIN), (i64::MIN, i64::MIN), (5, -1)], None),
+        (&[(i64::MIN, i64::MAX), (i64::MIN, i64::MAX), (i64::MIN, i64::MAX), (i64::MIN, i64::MAX), (i64::MIN, 4), (5, 1)], None),
         (&[(i64::MIN, 1)], Some(i64::MIN)),
         (&[(i64::MIN, -1)], None),
         (&[(i64::MAX, 1), (1, 1)], None),

@@ -169,6 +169,7 @@ fn conversions() {
         ),
         (Ok(i64::MIN), true)
     );
+    assert!(i64::try_from(ratio(1, i64::MAX)).is_err());
     assert_eq!(Ratio::try_from(i64::MAX as u64), Ok(ratio(i64::MAX, 1)));
     assert_eq!(Ratio::try_from(1u64 << 63), Err(RatioError::NotFitting));
     assert_eq!(
@@ -292,6 +293,12 @@ fn other_formats_keep_width_and_fill() {
     assert_eq!(
         format!("{date}|{date:>12}|{date:_<12}|{date:_^14}|{date:12}|{date:.4}|{date:+}|{date:>12.4}|{date:0}"),
         "2024-02-09|  2024-02-09|2024-02-09__|__2024-02-09__|2024-02-09  |2024-02-09|2024-02-09|  2024-02-09|2024-02-09"
+    );
+    // what is over in the middle stands behind, as with a string of std
+    let text = date.to_string();
+    assert_eq!(
+        format!("{date:_^11}|{date:_^13}|{:_^11}|{:_^13}", text, text),
+        "2024-02-09_|_2024-02-09__|2024-02-09_|_2024-02-09__"
     );
     let week = date.iso_week().unwrap();
     assert_eq!(

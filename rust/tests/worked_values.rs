@@ -368,6 +368,10 @@ fn meetings() {
     assert_eq!(next_meeting(5i8, (5, 10), (0, 13)), At(65));
     assert_eq!(next_meeting(66i8, (5, 10), (0, 13)), Beyond);
     assert_eq!(next_meeting(-128i8, (-128, 127), (-128, 126)), At(-128));
+    // not before the first time of either
+    assert_eq!(next_meeting(0i8, (0, 1), (50, 10)), At(50));
+    assert_eq!(next_meeting(0i8, (50, 10), (0, 1)), At(50));
+    assert_eq!(next_meeting(-128i8, (-3, 4), (61, 32)), At(61));
     assert_eq!(next_meeting(10u8, (1, 4), (3, 6)), At(21));
     assert_eq!(next_meeting(250u8, (1, 4), (3, 6)), Beyond);
 }

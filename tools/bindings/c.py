@@ -3,7 +3,7 @@ import itertools
 import re
 import textwrap
 
-from tools.bindings.exports import EXPORTS, VERSION, Call, Struct, c_parameters, c_type, filled, without_returns
+from tools.bindings.exports import EXPORTS, TEXT, VERSION, Call, Field, Struct, c_parameters, c_type, filled, without_returns
 
 WIDTH = 118
 
@@ -19,13 +19,22 @@ def in_c(text: str) -> str:
     return re.sub(r'`([A-Z_]+)`', r'CELLARCOVE_\1', without_returns(text)).replace('`', '')
 
 
+def of_items(parameter: Field) -> str:
+    """What a list or a text has, for readers of C."""
+    if parameter.item == TEXT:
+        return 'bytes'
+    return 'aligned congruences' if parameter.item in EXPORTS().structs else 'aligned numbers'
+
+
 def prototype(call: Call) -> str:
     """The declaration of a call, with a comment on its pointers and its statuses."""
     attribute = 'CELLARCOVE_WRITES' if call.writes else 'CELLARCOVE_PURE' if call.has_slice else 'CELLARCOVE_CONST'
     text = f'{attribute} {c_type(call.result)} {call.symbol}({", ".join(c_parameters(call))});'
     if len(text) > WIDTH:
-        text = '\n    '.join(textwrap.wrap(text, WIDTH - 4))
-    slices = ''.join(f' {p.name} points to {p.name}_len {"congruences" if p.item in EXPORTS().structs else "numbers"}, aligned, which'
+        # a type and its name stay on one line
+        words = re.sub(r' (?=\*?\w+[,)])', '\N{NO-BREAK SPACE}', text.replace(' *CELLARCOVE_RESTRICT ', '\N{NO-BREAK SPACE}*CELLARCOVE_RESTRICT\N{NO-BREAK SPACE}'))
+        text = '\n    '.join(line.replace('\N{NO-BREAK SPACE}', ' ') for line in textwrap.wrap(words, WIDTH - 4))
+    slices = ''.join(f' {p.name} points to {p.name}_len {of_items(p)}, which'
                      f' {"nothing else reads or writes" if p.is_written else "do not change"} during the call; it may be null if'
                      f' {p.name}_len is 0.' for p in call.parameters if p.item)
     always = ' The status is always CELLARCOVE_ANSWER.' * (EXPORTS().has_status(call) and not call.statuses)
@@ -55,4 +64,5 @@ def header() -> str:
             module = call.module
             text += '/* ---- ' + '\n * '.join(textwrap.wrap(in_c(found.headings[module]).rstrip('.'), WIDTH - 14)) + ' ---- */\n\n'
         text += prototype(call) + '\n'
-    return filled('cellarcove.h', version=VERSION, statuses=statuses, texts=texts, calls=text)
+    major, minor, patch = VERSION.split('.')
+    return filled('cellarcove.h', version=VERSION, major=major, minor=minor, patch=patch, statuses=statuses, texts=texts, calls=text)

@@ -9,9 +9,9 @@ def arguments(parameters: list[str]) -> tuple[list[str], list[str]]:
     lines, names, lengths = list[str](), list[str](), list[str]()
     for number, parameter in enumerate(parameters):
         kind, name = parameter.rsplit(' ', 1)
-        if name.startswith('*'):
-            kind = kind.removeprefix('const ')
-            lines += [f'{kind} counts{number}[{"BYTES" if kind == "uint8_t" else "COUNTS"}] = {{0}};', f'size_t length{number} = fill_{kind}(counts{number});']
+        if '*' in parameter:
+            kind = kind.removeprefix('const ').removesuffix(' *CELLARCOVE_RESTRICT')
+            lines += [f'{kind} counts{number}[{"BYTES" if kind == "char" else "COUNTS"}] = {{0}};', f'size_t length{number} = fill_{kind}(counts{number});']
             lines += [f'if (random_bits() % 8 > 0) length{number} = {length};' for length in lengths]  # most lists have one length
             names += [f'counts{number}', f'length{number}']
             lengths.append(f'length{number}')

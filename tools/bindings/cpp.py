@@ -2,12 +2,12 @@
 import itertools
 import textwrap
 
-from tools.bindings.exports import EXPORTS, Call, Field, filled, listed, without_returns
+from tools.bindings.exports import EXPORTS, TEXT, Call, Field, filled, listed, without_returns
 
 WIDTH = 118
 PLAIN, RESULTS, FROM_C = (listed('cpp.txt', sign) for sign in (' = ', ': ', ' -> '))
 CLASSES = ('Fraction', 'Date')
-TEXT = 'u8'  # the items of a text
+CONSTANT = {'div_rem', 'div_floor', 'div_mod_floor', 'mod_floor', 'div_ceil'}  # what the header computes in constant expressions
 
 
 def of(call: Call) -> tuple[str, str]:
@@ -56,7 +56,7 @@ def taken(call: Call, parameter: Field) -> str:
 def given(parameter: Field) -> str:
     """What the call for C gets of a parameter."""
     if parameter.item == TEXT:
-        return f'reinterpret_cast<const std::uint8_t *>({parameter.name}.data()), {parameter.name}.size()'
+        return f'{parameter.name}.data(), {parameter.name}.size()'
     if parameter.item:
         return f'{parameter.name}, {parameter.name}_length.value'
     return f'{named(parameter)}.{"to_c()" if parameter.kind in CLASSES else "value"}'
@@ -90,12 +90,14 @@ def slice_functions(forms: list[Call]) -> str:
     for k, (p, q) in enumerate(zip(call.parameters, forms[-1].parameters)):
         own = f'Items{k}' if p.item else f'N{k}' if p.kind != q.kind else ''
         types += [own] if own else []
-        of_list = f'{"" if p.is_written else "const "}{own} &{p.name}'
+        of_list = f'{own} &&{p.name}' if p.is_written else f'const {own} &{p.name}'
         parameters.append(of_list if p.item else f'{own} {p.name}' if own else taken(call, p))
-    passed = [f'{p.name}.data(), {p.name}.size()' if p.item else p.name for p in call.parameters]
     kinds = {p.name: list(dict.fromkeys(PLAIN[form.parameters[k].item] for form in forms)) for k, p in enumerate(call.parameters) if p.item}
+    passed = [f'detail::items<{", ".join(kinds[p.name])}>({p.name}), std::size({p.name})' if p.item else p.name for p in call.parameters]
     asserts = [f'static_assert(detail::has_items<decltype({name}), {", ".join(of_items)}>, "the items of {name} have to be {" or ".join(of_items)}");'
                for name, of_items in kinds.items()]
+    asserts += [f'static_assert(detail::outlives_call<Items{k}>, "{p.name} ends with the call: pass a variable, or a view of one");'
+                for k, p in enumerate(call.parameters) if p.is_written]
     items = ' or '.join(f'`{kind}`' for kind in dict.fromkeys(itertools.chain(*kinds.values())))
     return text + filled('container.hpp', items=items, types=', '.join(f'class {kind}' for kind in types), name=call.name,
                          parameters=', '.join(parameters), asserts='\n    '.join(asserts), passed=', '.join(passed))
@@ -110,8 +112,9 @@ def template(signed: Call, unsigned: Call) -> str:
 
     def statements(call: Call) -> str:
         arguments = ', '.join(f'static_cast<{PLAIN[p.kind]}>({p.name})' if follow else given(p) for p, follow in zip(call.parameters, follows))
-        return '\n        '.join([*refusal(call, others), f'auto r = {call.symbol}({arguments});', f'return {of(call)[1]};'])
-    return filled('both_forms.hpp', comment=comment(signed), types=', '.join(f'class {kind}' for kind in types), name=signed.name,
+        computed = [f'if (CELLARCOVE_IS_CONSTANT) {{ return detail::constant::{call.name}({arguments}); }}'] if call.name in CONSTANT else []
+        return '\n        '.join([*computed, *refusal(call, others), f'auto r = {call.symbol}({arguments});', f'return {of(call)[1]};'])
+    return filled('both_forms.hpp', comment=comment(signed), constant='CELLARCOVE_CONSTEXPR ' * (signed.name in CONSTANT), types=', '.join(f'class {kind}' for kind in types), name=signed.name,
                   parameters=parameters, uses=f'detail::is_signed<{", ".join(types)}>()', signed=statements(signed), unsigned=statements(unsigned))
 
 

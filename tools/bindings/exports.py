@@ -110,12 +110,16 @@ def c_type(kind: str) -> str:
     return NUMBERS.get(kind) or 'cellarcove_' + re.sub(r'(?<=[a-z0-9])(?=[A-Z])', '_', kind).lower()
 
 
+TEXT = 'u8'  # the items of a text
+
+
 def c_parameters(call: Call) -> Iterator[str]:
     """The parameters of a call in C. A slice is a pointer and a length."""
     for parameter in call.parameters:
         name = parameter.name
         if parameter.item:
-            yield f'{"" if parameter.is_written else "const "}{c_type(parameter.item)} *{name}'
+            kind = 'char' if parameter.item == TEXT else c_type(parameter.item)
+            yield f'{kind} *CELLARCOVE_RESTRICT {name}' if parameter.is_written else f'const {kind} *{name}'
             yield f'size_t {name}_len'
         else:
             yield f'{c_type(parameter.kind)} {name}'

@@ -4,9 +4,11 @@ from tools.bindings.c import header
 from tools.bindings.cpp import hpp
 from tools.bindings.languages import page
 from tools.bindings.python import calls_c, stubs
+from tools.bindings.ufuncs import table, ufuncs_c
 
 
 def made() -> dict[str, str]:
     """The files, and what is to be in them."""
     return {'bindings/c/cellarcove.h': header(), 'bindings/c/cellarcove.hpp': hpp(), 'bindings/python/src/calls.c': calls_c(),
+            'bindings/python/src/ufuncs.c': ufuncs_c(), 'bindings/python/cellarcove/_table.py': table(),
             'bindings/python/cellarcove/_calls.pyi': stubs(), 'docs/LANGUAGES.md': page()} | javascript.made()

@@ -1,6 +1,6 @@
 """Calls all exports on random numbers, and with --small first on all small ones, and compares what they return with the integers, the
-fractions and the dates of Python (by_python.py). The package `cellarcove` makes the calls, as it is installed: over arrays, with and
-without outputs, and of one number.
+fractions and the dates of Python (by_python.py). The package `cellarcove` makes the calls, as it is installed: over arrays of numpy that
+lie in memory in any way, and of one number.
 
 It prints each call that is wrong, and at the end how many calls it made of how many exports. Its status is 1 if a call was
 wrong, or if by_python.py does not say what an export returns. First it wants of some calls what another returns, and each has to be
@@ -86,7 +86,11 @@ def plain(result: Any) -> tuple[int, ...]:
         sign, digits, exponent = result.as_tuple()
         assert isinstance(exponent, int)
         return sign, *divmod(int(''.join(map(str, digits))), 10**-exponent)
-    return tuple(result) if isinstance(result, tuple) else (int(result),)
+    if isinstance(result, cellarcove.Date):
+        return result.year, result.month, result.day
+    if hasattr(result, 'tolist'):
+        return tuple(result.tolist())
+    return tuple(map(int, result)) if isinstance(result, tuple) else (int(result),)
 
 
 def judge(call: Call, arguments: Sequence[Any], status: int, values: Sequence[int] | None) -> None:
@@ -103,23 +107,50 @@ def judge(call: Call, arguments: Sequence[Any], status: int, values: Sequence[in
         raise Wrong(f'{call.symbol}{tuple(arguments)} is {values} with status {status}, and not {said}')
 
 
+def placed(numpy: Any, column: array.array[int], kind: str) -> Any:
+    """A column as an array of numpy: as it is, with its items far apart, at any byte, in the other order of bytes, or
+    of a wider type if the parameter has a smaller one."""
+    found, choice = numpy.array(column), random.randrange(6)
+    if choice == 0:
+        found = numpy.repeat(found, 3)[::3]
+    elif choice == 1:
+        found = numpy.frombuffer(b'x' + found.tobytes(), found.dtype, offset=1)
+    elif choice == 2:
+        found = found.astype(found.dtype.newbyteorder())
+    elif choice == 3 and kind not in ('i64', 'u64'):
+        found = found.astype(random.choice(('i8', 'u8') if min(column) >= 0 else ('i8',)))
+    return found
+
+
 def of_arrays(name: str, call: Call, taken: list[array.array[int]], number_last: bool = False) -> int:
     """Calls of arrays, of which the last may be a number beside the others."""
-    count, outputs, given = len(taken[0]), None, list[Any](taken)
-    has_status = EXPORTS().has_status(call)
-    if random.random() < 0.3:
-        letters = [LETTERS[kind].replace('?', 'B') for _, kind in results(call)] + ['B'] * has_status
-        outputs = tuple(array.array(letter, [77]) * count for letter in letters)
+    import numpy  # noqa: PLC0415
+    count, given = len(taken[0]), [placed(numpy, *each) for each in zip(taken, cells(call))]
     if number_last:
         given[-1] = taken[-1][0]
         taken = [*taken[:-1], array.array(taken[-1].typecode, given[-1:]) * count]
-    returned = getattr(cellarcove, name)(*grouped(call, given), **({'out': outputs} if outputs else {}))
-    found = returned if isinstance(returned, tuple) else (returned,)
-    statuses = found[-1] if has_status else [0] * count
+    found = getattr(cellarcove, name)(*grouped(call, given), errors='status')
     assert {len(column) for column in found} == {count}
-    for numbers, status, values in zip(zip(*taken), statuses, zip(*found[:len(found) - has_status])):
+    statuses, columns = found[-1].tolist(), [column.tolist() for column in found[:-1]]
+    for numbers, status, values in zip(zip(*taken), statuses, zip(*columns)):
         judge(call, grouped(call, numbers), status, values)
+    raises(name, call, given, statuses)
     return count
+
+
+def raises(name: str, call: Call, given: Sequence[Any], statuses: Sequence[int]) -> None:
+    """The same call raises the first status, or masks each."""
+    arguments, first = grouped(call, given), next((status for status in statuses if status), 0)
+    try:
+        getattr(cellarcove, name)(*arguments)
+        right = first == 0
+    except cellarcove.Refused as refused:
+        right = (refused.status, refused.count) == (first, sum(map(bool, statuses)))
+        right &= refused.index is not None and refused.index == statuses.index(first)
+    masked = getattr(cellarcove, name)(*arguments, errors='mask')
+    mask = (masked if not isinstance(masked, tuple) else masked[0]).mask.tolist()
+    if not right or mask != [status > 0 for status in statuses]:
+        raise Wrong(f'{call.symbol} of arrays does not raise or mask status {first}')
 
 
 def flat(arguments: Any) -> Iterator[int]:

@@ -49,21 +49,23 @@ def rows() -> list[tuple[str, ...]]:
         assert reason or export in forms, f'{path}: tools/bindings/languages.txt says neither its export nor why it has none'
         if reason not in used:  # a reason of several calls has one row
             shown = reason.removesuffix('::') if reason.endswith('::') else whole
-            made.append((f'`{in_rattle(whole).replace(whole, shown)}`', f'`cellarcove::{shown}`', *(('', '', '', '', reasons[reason]) if reason else (*cells(export, *others), ''))))
+            made.append((f'`{in_rattle(whole).replace(whole, shown)}`', f'`cellarcove::{shown}`', *(('', '', '', '', reasons[reason]) if reason else cells(export, *others))))
         used |= {reason} if reason else {path, export}
-    made += [(where, where, *cells(export, *NAMED.get(export, ())), '') for export, where in BY_TRAIT.items()]
+    made += [(where, where, *cells(export, *NAMED.get(export, ()))) for export, where in BY_TRAIT.items()]
     unknown = (names.keys() | reasons.keys()) - used
     lost = forms.keys() - used - BY_TRAIT.keys()
     assert not unknown and not lost, f'tools/bindings/languages.txt: no such call {sorted(unknown)}, no row of {sorted(lost)}'
     return made
 
 
-def cells(export: str, in_cpp: str = '', in_python: str = '', in_javascript: str = '') -> tuple[str, str, str, str]:
-    """The names of an export in C, in C++, in Python and in JavaScript, which are the same if no others are given."""
+def cells(export: str, in_cpp: str = '', in_python: str = '', in_javascript: str = '',
+          more: str = '') -> tuple[str, str, str, str, str]:
+    """The names of an export in C, in C++, in Python and in JavaScript, which are the same if no
+    others are given, and more words."""
     forms = [form.form for form in EXPORTS().forms()[export] if form.form]
     c = export + (f'_{{{",".join(forms)}}}' if len(forms) > 1 else f'_{forms[0]}' if forms else '')
     python = in_python or ', '.join([RENAMED.get(export, export), *(alias for alias, name in ALIASES.items() if name == export)])
-    return f'`{c}`', f'`{in_cpp or export}`', f'`{python}`', f'`{in_javascript or camel(export)}`'
+    return f'`{c}`', f'`{in_cpp or export}`', f'`{python}`', f'`{in_javascript or camel(export)}`', more
 
 
 def page() -> str:

@@ -6,7 +6,8 @@ from collections.abc import Callable, Sequence
 from typing import Any
 
 from tools import ROOT
-from tools.bindings.exports import EXPORTS, Call, Field, c_type, filled, listed, without_returns
+from tools.bindings.examples import DOCS, without_examples
+from tools.bindings.exports import EXPORTS, Call, Field, c_type, filled, without_returns
 
 RENAMED = {'fraction_limit_denominator': 'limit_denominator'}
 ALIASES = {'comb': 'binomial', 'isqrt': 'sqrt'}
@@ -14,9 +15,6 @@ PARAMETERS = {'from': 'start', 'to': 'end', 'max': 'max_denominator'}
 OF_MANY = ('gcd', 'lcm')  # which take any count of numbers
 WEEKDAY = 'weekday'        # the parameter that may be a `Weekday`
 WRITTEN = 'count'          # the parameter in place of an array that is written
-DOCS = listed('python.txt', ': ')
-# A sentence of a comment with an example, in whose place a docstring has the lines of the call in the last part of rows.txt.
-EXAMPLE = re.compile(r'(?:That of|Those of|Those for|For|From|The date for|February|-?\d).*\d.*')
 ROWS = (ROOT / 'bindings/python/tests/rows.txt').read_text().rpartition('\n\n')[2]
 
 LETTERS = {'i64': 'q', 'u64': 'Q', 'u32': 'I', 'u16': 'H', 'u8': 'B', 'i32': 'i', 'bool': '?'}
@@ -29,6 +27,7 @@ SHAPES = {'Fraction': 'f', 'Date': 'd'}
 MODULI = {'m', 'n', 'modulus', 'p', 'q', 'period'}  # the parameters whose 0 is the reason of `BAD_MODULUS`
 SEEN_TO = 'there is not one part for each weight, or if '  # a reason of a status that Python never meets, since it makes the parts
 DIVIDES = ('division', 'products')  # the modules whose parameters `y` and `d` are divisors
+OPTIONS = "out=None, where=True, errors='raise'"  # of a call with columns
 # What says, before there is room for the numbers that a call writes, whether it has a result.
 ASKED = {'choice_of_rank': 'is_below_binomial(numbers[0].u, numbers[1].u, numbers[2].u)'}
 
@@ -86,31 +85,31 @@ def object_of(call: Call) -> str:
 
 def form_text(call: Call) -> str:
     """The functions of a form, and its entry."""
-    has_status, found = EXPORTS().has_status(call), results(call)
-    stores = [f'        TO({TYPES[LETTERS[kind]]}, {k}) = r{path};' for k, (path, kind) in enumerate(found)]
-    stores += [f'        TO(uint8_t, {len(found)}) = (uint8_t)r.status;'] * has_status
+    has_status = EXPORTS().has_status(call)
     refused = '''    if (r.status != CELLARCOVE_ANSWER) {
         *status = r.status;
         return NULL;
     }''' if has_status else '    (void)status;'
     return filled(
         'form.c', name=call.symbol.removeprefix('cellarcove_'), type=c_type(call.result), symbol=call.symbol, refused=refused,
-        taken=arguments(call, lambda k, kind: f'({TYPES[LETTERS[kind]]})a[{k}].{"i" if kind[0] == "i" else "u"}'), object=object_of(call),
-        many=arguments(call, lambda k, kind: f'AT({TYPES[LETTERS[kind]]}, {k})'), stores='\n'.join(stores),
-        cells=''.join(LETTERS[kind] for kind in cells(call)), letters=''.join(LETTERS[kind] for _, kind in found) + 'B' * has_status,
-        has_status='true' if has_status else 'false')
+        taken=arguments(call, lambda k, kind: f'({TYPES[LETTERS[kind]]})a[{k}].{"i" if kind[0] == "i" else "u"}'),
+        object=object_of(call), cells=''.join(LETTERS[kind] for kind in cells(call)))
 
 
 def bools(values: Sequence[bool]) -> str:
     return f'(const bool[]){{{", ".join("true" if value else "false" for value in values)}}}'
 
 
+def quoted(names: Sequence[str]) -> str:
+    return ', '.join(f'"{name}"' for name in names)
+
+
 def signature(name: str, forms: list[Call]) -> str:
     if name in OF_MANY:
-        return f'{name}($module, /, *numbers, out=None)'
-    if forms[0].has_slice:
+        return f'{name}($module, /, *numbers, {OPTIONS})'
+    if forms[0].has_slice and len(forms[0].taken) == len(forms[0].parameters):
         return f'{name}($module, {", ".join(parameter_names(forms[0]))}, /)'
-    return f'{name}($module, /, {", ".join(parameter_names(forms[0]))}, *, out=None)'
+    return f'{name}($module, /, {", ".join(parameter_names(forms[0]))}, *, {OPTIONS})'
 
 
 RAISED = {'NOT_FITTING': '`NotFitting`', 'ZERO_DENOMINATOR': '`DivisionByZero`'}
@@ -134,15 +133,27 @@ def examples(name: str) -> list[tuple[str, str]]:
     return found
 
 
-def split(doc: str) -> tuple[str, list[str]]:
-    """The comment of a call without the sentences that have examples, and those."""
-    parts = re.split('(?<=[.]) ', doc)
-    return ' '.join(part for part in parts if not EXAMPLE.fullmatch(part)), list(filter(EXAMPLE.fullmatch, parts))
+def of_columns(call: Call) -> str:
+    """What a docstring says of columns."""
+    if call.has_slice:
+        by_sign = 'The shares of a negative amount are those of its magnitude with its sign. ' * (call.form == 'u64')
+        shared = len(call.taken) < len(call.parameters)
+        return f'{by_sign}Of a column of amounts, or of weights, it is an array, whose last axis is that of the weights.' * shared
+    if call.result.startswith('Date'):
+        days = any(parameter.kind == 'Date' for parameter in call.parameters)
+        return f'Of columns it is {"a column of `datetime64[D]` if a date is one, and else " * days}three columns: year, month and day.'
+    if call.result.startswith('Decimal'):
+        return ''
+    named = next((name for end, (_, name) in CLASSES.items() if end in call.result), '')
+    count = len(results(call))
+    return 'Of columns it is a column.' if count == 1 else f'Of columns it is {f"a `{named}` of" if named else "a tuple of"} {count} columns.'
 
 
 def docstring(name: str, forms: list[Call]) -> str:
-    """What a call does, its errors, its arrays, and its examples, which the tests of the package run."""
-    parts = [split(without_returns(DOCS.get(name, forms[0].doc)))[0], raised(*forms), 'It takes any count of numbers.' * (name in OF_MANY)]
+    """What a call does, its errors, its columns, and its examples, which the tests of the package run."""
+    many = 'It takes any count of numbers, or two columns. ' * (name in OF_MANY)
+    said = without_examples(without_returns(DOCS.get(name, forms[0].doc))).replace('For arrays it is', 'Of columns it is three columns:')
+    parts = [said, raised(*forms), many + of_columns(forms[0])]
     for old, new in PARAMETERS.items():
         parts = [part.replace(f'`{old}`', f'`{new}`') for part in parts]
     text = ['\n'.join(textwrap.wrap(part, 88)) for part in parts if part]
@@ -156,7 +167,7 @@ def call_text(name: str, forms: list[Call]) -> str:
     named = {form.form: f'&form_{form.symbol.removeprefix("cellarcove_")}' for form in forms}
     of_many = filled('of_many.c', name=name) if name in OF_MANY else ''
     return filled(
-        'call.c', name=name, count=str(len(call.parameters)), names=', '.join(f'"{parameter}"' for parameter in parameter_names(call)),
+        'call.c', name=name, count=str(len(call.parameters)), names=quoted(parameter_names(call)),
         shapes=''.join('w' if parameter.name == WEEKDAY else SHAPES.get(parameter.kind, 'n') for parameter in call.parameters),
         divides=bools(divides(call)), follows=bools(follows), of_many=of_many,
         forms=f'NULL, {named["i64"]}, {named["u64"]}' if two else f'&form_{call.symbol.removeprefix("cellarcove_")}, NULL, NULL')
@@ -170,12 +181,11 @@ def list_text(name: str, forms: list[Call]) -> str:
         assert {parameter.kind for parameter in form.parameters if not parameter.item} <= {form.form} and not form.writes, form
 
     def case(form: Call) -> str:
-        others = iter(range(count))
-        passed = ', '.join('of.items, (size_t)of.count' if parameter.item else f'others[{next(others)}].{form.form[0]}' for parameter in form.parameters)
+        passed = ', '.join('of.items, (size_t)of.count' if parameter.item else f'other.{form.form[0]}' for parameter in form.parameters)
         return filled('list_case.c', type=c_type(form.result), symbol=form.symbol, passed=passed, object=OBJECTS[form.form])
     signed = f'\n    if (of.is_signed) {{\n{case(forms[0])}    }}\n' if len(forms) == 2 else ''
     return filled('list.c', name=name, parameters='PyObject *const *args, Py_ssize_t given' if count > 1 else 'PyObject *object',
-                  taken=f'args, given, {count}' if count > 1 else '&object, 1, 1', count=str(count), place=str(place), width=str(width),
+                  taken=f'args, given, {count}' if count > 1 else '&object, 1, 1', place=str(place), width=str(width),
                   has_signed='true' if len(forms) == 2 else 'false', signed=signed, unsigned=case(forms[-1]))
 
 
@@ -190,7 +200,8 @@ def written_text(name: str, call: Call) -> str:
 def method(name: str, forms: list[Call]) -> str:
     lines = f'{signature(name, forms)}\n--\n\n{docstring(name, forms)}'.replace('\\', '\\\\').replace('"', '\\"').split('\n')
     doc = '\n    '.join(f'"{line}\\n"' for line in lines)
-    flags = 'METH_FASTCALL | METH_KEYWORDS' if not forms[0].has_slice else 'METH_FASTCALL' if len(forms[0].parameters) > 1 else 'METH_O'
+    named = not forms[0].has_slice or len(forms[0].taken) < len(forms[0].parameters)
+    flags = 'METH_FASTCALL | METH_KEYWORDS' if named else 'METH_FASTCALL' if len(forms[0].parameters) > 1 else 'METH_O'
     cast = '' if flags == 'METH_O' else '(PyCFunction)(void (*)(void))'
     return f'    {{"{name}", {cast}py_{name}, {flags},\n    {doc}}},\n'
 
@@ -202,7 +213,7 @@ def calls_c() -> str:
     for name, forms in named:
         kinds = [parameter.item for parameter in forms[0].parameters if parameter.item]
         if len(kinds) == 2:
-            text += filled('divided.c', name=name, signed=forms[0].symbol if len(forms) == 2 else 'NULL', unsigned=forms[-1].symbol)
+            text += filled('divided.c', name=name, names=quoted(parameter_names(forms[0])), signed=forms[0].symbol if len(forms) == 2 else 'NULL', unsigned=forms[-1].symbol)
         elif kinds == ['u8']:
             text += filled('text.c', name=name, symbol=forms[0].symbol, kind=c_type(forms[0].result), result=object_of(forms[0]))
         elif kinds:
@@ -215,9 +226,10 @@ def calls_c() -> str:
     return filled('calls.c', calls=text, methods=methods)
 
 
-PYTHON = {'Fraction': 'Fractional', 'Date': 'Dated'}
-NUMBER, ARRAY = 'SupportsIndex', 'Array'
-BYTES = 'Array | bytes | bytearray'  # what an array of `u8` may be too
+PYTHON = {'Fraction': '_Fraction', 'Date': '_Date'}
+NUMBER, COLUMN = 'SupportsIndex', '_Column'
+# The parameters of a call with columns that have names alone.
+NAMED = 'out: Any = ..., where: Any = ..., errors: _Errors = ...'
 
 
 def scalar_result(call: Call) -> str:
@@ -227,31 +239,25 @@ def scalar_result(call: Call) -> str:
             return name
     if len(found) == 1:
         return 'bool' if call.result == 'bool' else 'int'
-    return next((name for end, (_, name) in CLASSES.items() if end in call.result), f'tuple[{", ".join(["int"] * len(found))}]')
-
-
-def array_result(call: Call) -> str:
-    arrays = ['Mask' if kind == 'bool' else 'Numbers' for _, kind in results(call)] + ['Numbers'] * EXPORTS().has_status(call)
-    return arrays[0] if len(arrays) == 1 else f'tuple[{", ".join(arrays)}]'
+    return next((name for end, (_, name) in CLASSES.items() if end in call.result),
+                f'tuple[{", ".join(["int"] * len(found))}]')
 
 
 def scalar_type(parameter: Field) -> str:
-    """The type of a parameter that has no array."""
+    """The type of a parameter that has no column."""
     return f'Weekday | {NUMBER}' if parameter.name == WEEKDAY else PYTHON.get(parameter.kind, NUMBER)
 
 
-def array_types(parameter: Field, chosen: bool) -> str:
-    """The type of a parameter of which one number is an array, or may be one."""
+def column_types(parameter: Field, chosen: bool) -> str:
+    """The type of a parameter of which one number is a column, or may be one."""
     leaves = len(EXPORTS().leaves(parameter.kind))
-    each = f'{ARRAY} | {NUMBER}'
+    each = f'{COLUMN} | {NUMBER}'
     if leaves == 1:
-        array = BYTES if parameter.kind == 'u8' else ARRAY
-        return array if chosen else f'{array} | {scalar_type(parameter)}'
-    returned = f'tuple[{", ".join([ARRAY] * (leaves + 1))}]'  # by another call, with its statuses
+        return COLUMN if chosen else f'{COLUMN} | {scalar_type(parameter)}'
     if not chosen:
-        return f'{PYTHON[parameter.kind]} | tuple[{", ".join([each] * leaves)}] | {returned}'
-    shapes = [[NUMBER] * first + [ARRAY] + [each] * (leaves - first - 1) for first in range(leaves)]
-    return ' | '.join([*(f'tuple[{", ".join(shape)}]' for shape in shapes), returned])
+        return f'{COLUMN} | {PYTHON[parameter.kind]} | tuple[{", ".join([each] * leaves)}]'
+    shapes = ([NUMBER] * first + [COLUMN] + [each] * (leaves - first - 1) for first in range(leaves))
+    return ' | '.join([COLUMN, *(f'tuple[{", ".join(shape)}]' for shape in shapes)])
 
 
 def listed_type(parameter: Field) -> str:
@@ -261,23 +267,37 @@ def listed_type(parameter: Field) -> str:
     if parameter.item == 'u8':
         return 'str'
     leaves = len(EXPORTS().leaves(parameter.item))
-    return f'{ARRAY} | Iterable[{NUMBER}]' if leaves == 1 else f'Iterable[tuple[{", ".join([NUMBER] * leaves)}]]'
+    return (f'{COLUMN} | Iterable[{NUMBER}]' if leaves == 1
+            else f'Iterable[tuple[{", ".join([NUMBER] * leaves)}]]')
+
+
+def overloads(name: str, taken: list[tuple[str, str]]) -> str:
+    """A call that is overloaded: what it takes, and returns."""
+    return ''.join(f'@overload\ndef {name}({given}) -> {result}: ...\n' for given, result in taken)
 
 
 def stub(name: str, forms: list[Call]) -> str:
     call = forms[0]
     names = parameter_names(call)
+    if len(call.taken) < len(call.parameters):
+        amount, weights = names
+        return overloads(name, [
+            (f'{amount}: {COLUMN} | {NUMBER}, {weights}: {COLUMN}, *, {NAMED}', 'Any'),
+            (f'{amount}: {COLUMN}, {weights}: Iterable[{NUMBER}], *, {NAMED}', 'Any'),
+            (f'{amount}: {NUMBER}, {weights}: Iterable[{NUMBER}]', 'tuple[int, ...]')])
     if call.has_slice:
         taken = ', '.join(f'{given}: {listed_type(parameter)}' for given, parameter in zip(names, call.parameters))
         return f'def {name}({taken}, /) -> {"tuple[int, ...]" if call.writes else scalar_result(call)}: ...\n'
     if name in OF_MANY:
-        return filled('of_many.pyi', name=name, array=ARRAY, number=NUMBER, result=array_result(call))
-    overloads = []
+        return filled('of_many.pyi', name=name, array=COLUMN, number=NUMBER, options=NAMED)
+    found = []
     for first in range(len(names)):
-        kinds = [scalar_type(parameter) if k < first else array_types(parameter, k == first) for k, parameter in enumerate(call.parameters)]
-        overloads.append((', '.join(f'{parameter}: {kind}' for parameter, kind in zip(names, kinds)) + ', *, out: Outputs = ...', array_result(call)))
-    overloads.append((', '.join(f'{name}: {scalar_type(parameter)}' for name, parameter in zip(names, call.parameters)), scalar_result(call)))
-    return ''.join(f'@overload\ndef {name}({taken}) -> {result}: ...\n' for taken, result in overloads)
+        kinds = [scalar_type(parameter) if k < first else column_types(parameter, k == first)
+                 for k, parameter in enumerate(call.parameters)]
+        given = ', '.join(f'{parameter}: {kind}' for parameter, kind in zip(names, kinds))
+        found.append((f'{given}, *, {NAMED}', 'Any'))
+    scalars = ', '.join(f'{name}: {scalar_type(parameter)}' for name, parameter in zip(names, call.parameters))
+    return overloads(name, [*found, (scalars, scalar_result(call))])
 
 
 def stubs() -> str:

@@ -55,10 +55,14 @@ def literal() -> Iterator[list[Any]]:
     for name, given, status, value in LITERAL.findall(ROWS.read_text()):
         try:
             arguments, result = eval(given[:-1] + ',)', {}), eval(value or '0', {})
-        except (NameError, SyntaxError, TypeError):
+        except (AttributeError, NameError, SyntaxError, TypeError):
             continue
         forms = EXPORTS().forms().get(names.get(name, ''))
-        if forms and len(arguments) == len(parameter_names(forms[0])) and status in {'', *STATUSES} and all(isinstance(x, int) for x in flat(arguments)):
+        if not forms or len(arguments) != len(parameter_names(forms[0])) or not all(isinstance(x, int) for x in flat(arguments)):
+            continue
+        if not status and min(flat(arguments), default=0) < 0 and {form.form for form in forms} == {'u64'}:
+            continue  # only Python has negative amounts there
+        if status in {'', *STATUSES}:
             yield [names[name], '', arguments, STATUSES.get(status, 0), [] if status else list(result) if isinstance(result, tuple) else [result]]
 
 

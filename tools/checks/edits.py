@@ -1,17 +1,25 @@
-"""Reads the mutants of both suites, crates/NAME/must-fail/*.edit and crates/NAME/must-fail-release/*.edit, and proves
-nothing. The first line of each says what is wrong, in one of three forms. Each file that it names is there, each old text
-stands in that file exactly once where the pairs above have been applied, and its new text is another. Prints a line for each
-that is not so, and a count at the end.
+"""Reads the mutants of both suites, crates/NAME/must-fail/*.edit and
+crates/NAME/must-fail-release/*.edit, and proves nothing. The first line of each says what is wrong,
+in one of three forms. Each file that it names is there, each old text stands in that file exactly
+once where the pairs above have been applied, and its new text is another. In the crates whose
+functions are theorems, a mutant changes each public function that has a body. Prints a line for
+each that is not so, and a count at the end.
 """
 
+import itertools
 import re
 from collections.abc import Iterator
 from pathlib import Path
+from typing import NamedTuple
 
 from tools import ROOT, counted
 
 SUITES = ('must-fail', 'must-fail-release')
 PARTS = ('src/', 'specs/', 'proofs/')
+# The crates whose functions are theorems. A function with an empty body states laws, and has
+# nothing to change.
+THEOREMS = ('theorems', 'theorems_by_subject')
+FUNCTION = re.compile(r'^pub fn (\w+).*?^(?:}|\{\})$', re.DOTALL | re.MULTILINE)
 # The forms of a first line. The calls and the values are expressions of Rust: wrong_lines.py runs them.
 CLAUSE = r'(?:its clause|the clause of `\w+`|`\w+`(?: of (?:`\w+`|its clause))?)'
 FORMS = (
@@ -64,6 +72,51 @@ def apply(crate: Path, edit: Path) -> tuple[re.Match[str], dict[str, str]]:
     return said, texts
 
 
+class Counts(NamedTuple):
+    """How many mutants there are, how many are run as Rust, and how many change a proof."""
+    all: int
+    run: int
+    of_proofs: int
+
+
+def counts() -> Counts:
+    texts = [edit.read_text() for suite in SUITES for edit in ROOT.glob(f'crates/*/{suite}/*.edit')]
+    run = [text for text in texts if not text.startswith('wrong (not run: ')]
+    of_proofs = [text for text in texts if re.search('^file: ?proofs/', text, re.M)]
+    return Counts(len(texts), len(run), len(of_proofs))
+
+
+def functions(text: str) -> dict[str, str]:
+    """The text of each public function of a file that has a body, by its name."""
+    found = {match[1]: match[0] for match in FUNCTION.finditer(text)}
+    return {name: function for name, function in found.items() if not function.endswith('{}')}
+
+
+def changed(crate: Path) -> Iterator[tuple[str, str]]:
+    """The functions that some mutant of a crate changes, each as the name of its file and its own."""
+    for edit in (edit for suite in SUITES for edit in sorted(crate.glob(f'{suite}/*.edit'))):
+        try:
+            texts = apply(crate, edit)[1]
+        except BadEdit:
+            continue
+        for name, text in texts.items():
+            mutants = functions(text)
+            for function, old in functions((crate / name).read_text(encoding='utf-8')).items():
+                if mutants.get(function) != old:
+                    yield name, function
+
+
+def theorems(root: Path) -> Iterator[tuple[str, bool]]:
+    """Each theorem, with whether a mutant changes it."""
+    for crate in (root / 'crates' / name for name in THEOREMS):
+        attacked = set(changed(crate))
+        for file in sorted(crate.glob('src/*.rt')):
+            name = f'src/{file.name}'
+            for function in functions(file.read_text(encoding='utf-8')):
+                passed = (name, function) in attacked
+                yield f'crates/{crate.name}/{name}: no mutant changes `{function}`', passed
+
+
 def judged() -> Iterator[tuple[str, bool]]:
     """Each file of both suites, with what is wrong with it."""
     for suite in SUITES:
@@ -79,4 +132,4 @@ def judged() -> Iterator[tuple[str, bool]]:
 
 
 def check(_: list[str]) -> bool:
-    return counted(judged())
+    return counted(itertools.chain(judged(), theorems(ROOT)))

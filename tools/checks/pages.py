@@ -5,7 +5,7 @@ Each block of Rust is in a `.rt` file, or an example or a test of rust/, each bl
 crates in crates.txt. Of a block of imports alone, each name is imported so in a `.rt` file. Indentation does not count, and a comment
 `// and ..` in a block replaces lines that the block leaves out. Blocks of any other kind are not read. The command of
 README.md is the stored run. A session is a block of `console`: each command in it prints the lines below it and nothing else.
-What the sources print are the messages of rust/src, those of Rust's own operators that rust/tests/domains/forms.rs expects, whose item
+What the sources print are the messages of rust/src, those of Rust's own operators that rust/tests/domains/forms.rs expects, whose row
 says so, the statuses of the exports, and the exceptions of the package for Python. Each panic of the page is one that a test has seen."""
 import functools
 import itertools
@@ -25,16 +25,19 @@ Found = Iterator[tuple[str, bool]]      # places, each with whether it passed
 PAGES = ('README.md', 'docs/*.md', 'crates/*/CALLING.md', 'crates/*/README.md')
 LINKED = PAGES + ('CHANGELOG.md', 'CONTRIBUTING.md', 'bindings/js/*.md', 'bindings/python/*.md', 'compare/*.md', 'rust/*.md',
                   'rust/num-integer/*.md', 'docs/reference/*.md')
+# Pages that a package, or an index of packages, shows without the other pages.
+ALONE = ('rust/README.md', 'rust/num-integer/README.md', 'bindings/js/README.md', 'bindings/python/README.md')
 SESSIONS = ('README.md', 'docs/INTCALC.md')
 BLOCK = re.compile(r'^ *```(rust|antt|crates|console)\n(.*?)(?:^ *```$|\Z)', re.M | re.S)
 IMPORT = re.compile(r'(?:pub )?((?:ghost )?use .*);')
 CODE = re.compile(r'^ *```.*?^ *```$|`[^`\n]*`', re.M | re.S)
 LINK = re.compile(r'\]\(([^()\s]+)\)')
+COPIED = re.compile(r'^cp -r \S*crates/\{(.*)\} ', re.M)     # crates that a page says to copy
 HEADING = re.compile(r'^#{1,6} (.*)$', re.M)
 NAMED = re.compile(r'((?:`\w+`(?:,| and|, and)? )*(?:of )?)`(crates/[\w/]+\.(?:rt|antt))`')
 MESSAGE = re.compile(r'[a-z`].* .*')
 OF_OPERATORS = 'attempt to '            # how a message of Rust's own operators begins
-OF_RUST = '- of Rust: '                 # how its item of the list does
+OF_RUST = ' (of Rust) |'                # how its row of the table says so
 PANICS = ('rust/tests/domains/forms.rs', 'rust/tests/types.rs')     # the tests that see each panic
 SHOWN_STATUS = re.compile(r'^- (\d+) `CELLARCOVE_(\w+)`: ', re.M)
 CLASS = re.compile(r'^class (\w+)\(((?:\w+Error|Refused)\b[\w, ]*)\):', re.M)
@@ -98,11 +101,14 @@ def files() -> Files:
     return Files(read(('src',), '.rt') + plain, read(('src', 'specs', 'proofs'), '.antt'), (ROOT / 'crates.txt').read_text())
 
 
+def headings(text: str) -> set[str]:
+    """The anchors of a page, as the browser of the repository makes them of its headings."""
+    return set(map(Anchors().of, HEADING.findall(re.sub(r'^ *```.*?^ *```$', '', text, flags=re.M | re.S))))
+
+
 @functools.cache
 def anchors_of(page: pathlib.Path) -> set[str]:
-    """The anchors of a page, as the browser of the repository makes them of its headings."""
-    text = page.read_text() if page.suffix == '.md' else ''
-    return set(map(Anchors().of, HEADING.findall(re.sub(r'^ *```.*?^ *```$', '', text, flags=re.M | re.S))))
+    return headings(page.read_text() if page.suffix == '.md' else '')
 
 
 def broken_links(page: pathlib.Path) -> Iterator[str]:
@@ -112,6 +118,23 @@ def broken_links(page: pathlib.Path) -> Iterator[str]:
         target = (page.parent / name).resolve() if name else page.resolve()
         if '://' not in link and (not target.exists() or anchor and anchor not in anchors_of(target)):
             yield link
+
+
+def links_to_others(page: pathlib.Path) -> list[str]:
+    """The links of a page to other pages than itself and those of an address."""
+    return [link for link in LINK.findall(CODE.sub('', page.read_text()))
+            if not link.startswith('#') and '://' not in link]
+
+
+def lacking_lines(text: str, crates: set[str]) -> Iterator[str]:
+    """The crates that a page says to copy and of which it has no line of crates.txt, and those below
+    them that it does not say to copy. `crates` has all of the repository."""
+    lines = [line for block in blocks(text) if block.kind == 'crates' for line in block.lines]
+    below = {name: words.split() for name, _, words in (line.partition(': ') for line in lines)}
+    copied = {name for found in COPIED.findall(text) for name in found.split(',')}
+    yield from (f'no line of {name}' for name in sorted(copied - below.keys()))
+    needed = {word for words in below.values() for word in words if word in crates}
+    yield from (f'{name} is not copied' for name in sorted(needed - copied))
 
 
 def absent_names(text: str, texts: dict[str, str]) -> Iterator[str]:
@@ -144,7 +167,7 @@ def messages_on(page: str) -> set[str]:
 
 def panics(page: str, ours: set[str], seen: set[str]) -> Found:
     """The panics of Rust's own operators and those that a page shows as such; and those of a page with those that tests have seen."""
-    of_rust = ''.join(line for line in page.splitlines() if line.startswith(OF_RUST))
+    of_rust = ''.join(line for line in page.splitlines() if OF_RUST in line)
     yield from compared({f'{message}, of Rust' for message in seen - ours if message.startswith(OF_OPERATORS)},
                         {f'{message}, of Rust' for message in messages_on(of_rust)})
     shown = messages_on(page.partition('\n## Panics')[2].partition('\n## ')[0])
@@ -181,7 +204,8 @@ def errors() -> Found:
     yield from compared(ours | {message for message in seen if message.startswith(OF_OPERATORS)}, messages_on(' '.join(page.split())))
     yield from panics(page, ours, seen)
     statuses = {f'{status.number} CELLARCOVE_{status.name}' for status in EXPORTS().statuses}
-    yield from compared(statuses | exceptions_in(read(package + 'cellarcove/__init__.py'), read(package + 'src/driver.h')), rows_on(page))
+    sources = read(package + 'src/driver.h') + read(package + 'cellarcove/_columns.py')
+    yield from compared(statuses | exceptions_in(read(package + 'cellarcove/__init__.py'), sources), rows_on(page))
 
 
 def compare() -> Found:
@@ -236,7 +260,10 @@ def sessions(program: pathlib.Path, named: Iterable[tuple[str, str]]) -> Found:
 def check(_: list[str]) -> bool:
     texts = {file.relative_to(ROOT).as_posix(): file.read_text() for kind in ('src/**/*.rt', 'specs/**/*.antt', 'proofs/**/*.antt')
              for file in ROOT.glob(f'crates/*/{kind}')}
+    crates = {path.name for path in (ROOT / 'crates').iterdir()}
     return counted(itertools.chain(compare(), look(LINKED, 'leads nowhere', broken_links),
+                                   look(ALONE, 'leads out of its package', links_to_others),
+                                   look(('README.md',), 'is not enough', lambda page: lacking_lines(page.read_text(), crates)),
                                    look(PAGES, 'is not there', lambda page: absent_names(page.read_text(), texts)), errors()))
 
 

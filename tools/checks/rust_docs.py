@@ -1,14 +1,18 @@
 """Reads the made crate of plain Rust: each public function, type and trait has an example that runs, each public function that
 panics with the place of its caller says below `# Panics` when, and no line is wider than 100 columns, but for the first of a file. That each
-item has a comment, and each `Result` its `# Errors`, rustc and clippy see."""
+item has a comment, and each `Result` its `# Errors`, rustc and clippy see. With --links it reads the pages that rustdoc makes: each link
+leads to a file, and to a title that is there."""
 import pathlib
 import re
+import urllib.parse
 from collections.abc import Iterator
 
 from tools import ROOT, counted
 from tools.erase.prose import COLUMNS
 from tools.erase.source import Item, Source
 from tools.pages.api import Shown, shown
+
+LINK = re.compile(r' href="(?![a-z]+:)([^"]+)"')        # one within the pages
 
 
 def lacks(source: Source, item: Item) -> Iterator[str]:
@@ -29,14 +33,17 @@ def wide_lines(folder: pathlib.Path) -> Iterator[str]:
 
 
 def dead_links(folder: pathlib.Path) -> Iterator[str]:
-    """The links of the pages below a folder to a title of such a page that it does not have."""
+    """The relative links of the pages below a folder that lead to no file, or to a title that a page
+    there does not have."""
     texts = {path.resolve(): path.read_text() for path in folder.rglob('*.html')}
     titles = {path: set(re.findall(r' id="([^"]+)"', text)) for path, text in texts.items()}
     for path, text in sorted(texts.items()):
-        for page, title in sorted(set(re.findall(r' href="([^":#]*)#([^"]+)"', text))):
-            target = (path.parent / page).resolve() if page else path
-            if target in titles and title not in titles[target]:
-                yield f'{path.relative_to(folder.resolve())} leads to {page}#{title}, which is not there'
+        for link in sorted(set(LINK.findall(text))):
+            page, _, title = link.partition('#')
+            name = urllib.parse.unquote(page.partition('?')[0])
+            target = (path.parent / name).resolve() if name else path
+            if not target.is_file() or title not in titles.get(target, {title}) | {''}:
+                yield f'{path.relative_to(folder.resolve())} leads to {link}, which is not there'
 
 
 def check(words: list[str]) -> bool:

@@ -1,17 +1,41 @@
-//! The guards of the copy of the crate that tools/checks/guards.py makes. Each call has a number, and the one whose number is that of
-//! the variable GUARD tests nothing.
+//! The guards of the copy of the crate that tools/checks/guards.py makes. Each call has a number. With `7` in the variable GUARD the
+//! seventh tests nothing, and with `7.2` it has the second of its nearest wrong neighbours.
 
 extern crate std;
 
 use crate::guards as tests;
 use crate::integer_core::guards;
 use crate::integer_core::{Integer, Magnitudes};
+use num_traits::Num;
 use std::sync::OnceLock;
 
+/// The number of a guard, and that of a neighbour, or 0.
+fn chosen() -> (usize, usize) {
+    static CHOSEN: OnceLock<(usize, usize)> = OnceLock::new();
+    *CHOSEN.get_or_init(|| {
+        let text = std::env::var("GUARD").unwrap_or_default();
+        let (number, form) = text.split_once('.').unwrap_or((&text, "0"));
+        (number.parse().unwrap_or(0), form.parse().unwrap_or(0))
+    })
+}
+
 fn is_out(number: usize) -> bool {
-    static OUT: OnceLock<Option<usize>> = OnceLock::new();
-    let out = OUT.get_or_init(|| std::env::var("GUARD").ok()?.parse().ok());
-    *out == Some(number)
+    chosen() == (number, 0)
+}
+
+/// The number of the neighbour that a guard has in this run, or 0.
+pub(crate) fn form(number: usize) -> usize {
+    let (chosen, form) = chosen();
+    if chosen == number {
+        form
+    } else {
+        0
+    }
+}
+
+/// At an unsigned type the largest number.
+pub(crate) fn minus_one<T: Num>() -> T {
+    T::zero() - T::one()
 }
 
 #[track_caller]

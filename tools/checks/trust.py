@@ -2,7 +2,8 @@
 
 The contracts of functions in C are assumed. Of a program and of a static library the check prints how many are declared below it, and
 how many it reaches. Of a crate that declares some itself, the line of its verdict has `foreign=`. Of a crate whose proof is kept from
-an earlier run it prints nothing, so then there is nothing to compare."""
+an earlier run it prints nothing, so then there is nothing to compare. The page shows the verdict of a crate, whose count of functions
+and checksum of the logic are compared too."""
 import re
 from collections.abc import Iterable, Iterator
 from pathlib import Path
@@ -10,6 +11,7 @@ from pathlib import Path
 from tools import ROOT, counted
 
 LINKED = ('cellarcove_c', 'intcalc')    # the crates of which the check prints what they reach
+SHOWN = 'integer_core'                  # the crate whose verdict is on the page
 CRATE = re.compile(r'^== (\w+)$', re.M)
 VERDICT = re.compile(r'^logic=proved (.*)$', re.M)
 REPORT = re.compile(r'^axioms (\w+): .*?(?:\((\d+)|none reached) of the (\d+) declared\)?$', re.M)
@@ -29,6 +31,8 @@ def facts_of(log: str) -> Iterator[str]:
     found = {name: (words, reports) for name, words, reports in proofs(log)}
     if found and not any('foreign=' in words for words, _ in found.values()):
         yield 'No crate adds an axiom'
+    if SHOWN in found:
+        yield 'logic=proved ' + ' '.join(found[SHOWN][0].split()[:2])
     for name in LINKED:
         reports = found.get(name, ('', ()))[1]
         if reports:

@@ -6,6 +6,7 @@ words of paths, the head of `fmt`, copies in `integer_core` (copies.py), and com
 What is added: `#[must_use]` of public calls that only return, `#[track_caller]` on the way to a panic (callers.py), and what is
 by hand (additions.py). No function of the library has a name here. A form that is not known here is rejected by file and line,
 and then nothing is made. tools/tests has examples of both."""
+import shutil
 import subprocess
 import tempfile
 from collections.abc import Iterable, Mapping
@@ -74,7 +75,8 @@ class Eraser(documentation.Comments):
             self.drop(k, last)
             return self.write(k, 'use crate::errors::Error;')
         at_root = {path[0] for crate, path in self.library.modules if path and crate in AT_ROOT - {self.crate}}
-        exports = ''.join(f'\npub(crate) use crate::{"::".join(path)};' for name, path in private.items() if name not in at_root)
+        used = {path[1] for module in self.library.modules.values() for path in module.imported.values() if path[0] == self.crate and path[1:]}
+        exports = ''.join(f'\npub(crate) use crate::{"::".join(path)};' for name, path in private.items() if name in used - at_root)
         if all(name in gone for _, name in imports):
             self.drop_item(item.first, last)
             return self.write(last, exports)
@@ -87,9 +89,14 @@ class Eraser(documentation.Comments):
         return None
 
     def is_private(self, path: tuple[str, ...]) -> bool:
-        """Whether a path leads to a module that is private in Rust."""
+        """Whether a path leads to a module, or to an item of another crate, that is private in Rust."""
         found = self.library.find(self.module, path)
-        return found is not None and found[1] is None and not self.library.is_open(found[0])
+        if found is None:
+            return False
+        module, name = found
+        if name is None:
+            return not self.library.is_open(module)
+        return path[0] in CRATES and not self.library.shows(module, name)
 
     def struct(self, item: Item) -> None:
         """A struct without bounds, which its methods have. Where a public one has an invariant, no other crate may change its fields."""
@@ -187,6 +194,8 @@ def files(crate: str, made: Mapping[str, str]) -> dict[str, str | None]:
         out = Path(name)
         write(out / 'src', made)
         Callers(out).put()
+        if not shutil.which('rustfmt'):
+            raise Unknown('rustfmt is missing: install Debian\'s package rustfmt, or `rustup component add rustfmt`')
         found = subprocess.run(['rustfmt', '--edition', '2021', str(out / 'src' / 'lib.rs')], capture_output=True, text=True)
         if found.returncode or found.stderr:
             raise Unknown('what is left is no Rust:\n' + found.stderr.replace(f'{out}/', ''))

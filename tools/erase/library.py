@@ -7,7 +7,8 @@ from pathlib import Path
 from tools.erase.source import Item, Source, Unknown
 
 Place = tuple[str, ...]                         # the names of public modules
-Public = dict[tuple[str, tuple[str, ...], str], Place]     # of items, by crate, module and name
+Key = tuple[str, tuple[str, ...], str]          # of an item: its crate, its module and its name
+Public = dict[Key, Place]
 
 ROOT = 'num_integer'                            # its root becomes that of the Rust crate
 AT_ROOT = {ROOT, 'applied'}                     # the modules of these stand at the root of the Rust crate
@@ -15,8 +16,10 @@ AT_ROOT = {ROOT, 'applied'}                     # the modules of these stand at 
 CRATES = {'integer_core': 'mod', 'integer_roots': 'mod', 'num_integer': '',
           'modular': 'pub mod', 'ratio64': 'pub mod', 'calendar': 'pub mod', 'bounded_integers': 'pub mod', 'applied': ''}
 # The public modules that are private in the Rust crate: others export what they have, or no caller there needs it.
-WITHIN = {('integer_core', 'counted'), ('integer_core', 'guards'), ('integer_core', 'padded'), ('integer_core', 'fitting'), ('integer_core', 'narrowing'),
-          ('integer_roots', 'counted'), ('num_integer', 'sign_magnitude'), ('ratio64', 'integer_words'), ('applied', 'guards')}
+WITHIN = {('integer_core', 'counted'), ('integer_core', 'guards'), ('integer_core', 'padded'), ('integer_core', 'fitting'),
+          ('integer_roots', 'counted'), ('num_integer', 'sign_magnitude'), ('applied', 'guards')}
+# The public items that are private in the Rust crate, for the same reason.
+HIDDEN = {('integer_core', 'Magnitudes')}
 NOT_READ = {'tests', 'assertions'}               # modules that only tests have
 OUTSIDE = {'std', 'core', 'num_traits', 'crate', 'self', 'super'}
 
@@ -47,6 +50,8 @@ class Library:
 
     def __init__(self, folder: Path, crates: Iterable[str]) -> None:
         self.folder, self.crates = folder, set(crates)
+        self.names: dict[Key, str] = {}             # of the public items that are exported under another name
+        self.others: list[tuple[Place, Key]] = []   # the further places of public items, each with its name
         self.modules: dict[tuple[str, tuple[str, ...]], Module] = {}
         for crate in crates:
             roots = [(folder / crate / 'src' / name).with_suffix(self.SUFFIX) for name in ('lib', 'main')]
@@ -114,7 +119,8 @@ class Library:
                     raise Unknown(f'{module.source.path}: the export of `{"::".join(path)}`')
                 target, target_name = found
                 if target_name is not None:
-                    public.setdefault((target.crate, target.path, target_name), place)
+                    if self.shows(target, target_name):
+                        self.note(public, (target.crate, target.path, target_name), place, name)
                 elif self.is_open(target):
                     self.publish(public, target, place + (name,))
             if item.public and item.kind not in ('use', 'mod'):
@@ -125,8 +131,21 @@ class Library:
                 self.publish(public, below, place + (item.name,))
         return public
 
+    def note(self, public: Public, key: Key, place: Place, name: str) -> None:
+        """Notes an export of an item under a name."""
+        if key not in public:
+            public[key] = place
+            if name != key[2]:
+                self.names[key] = name
+        elif (public[key], self.names.get(key, key[2])) != (place, name):
+            self.others.append(((*place, name), key))
+
     def is_open(self, module: Module) -> bool:
         """Whether a module may be public."""
+        return True
+
+    def shows(self, module: Module, name: str) -> bool:
+        """Whether an item of a module may be exported."""
         return True
 
 
@@ -161,6 +180,9 @@ class RustLibrary(Library):
 
     def is_open(self, module: Module) -> bool:
         return (module.crate, '/'.join(module.path)) not in WITHIN
+
+    def shows(self, module: Module, name: str) -> bool:
+        return (module.crate, name) not in HIDDEN
 
     def place_of(self, module: Module, item: Item, owner: Item | None = None) -> Place | None:
         """The public place of an item, of a member of the trait or the type `owner`, or None."""

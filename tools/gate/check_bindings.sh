@@ -72,6 +72,7 @@ cpp_with() {
     has "$1" "C++ with $1" || return 0
     languages=$((languages + 1))
     check "C++ with $1" runs test.cpp "$1" -std=c++17 -Wconversion -O1 -x c++
+    check "C++20 with $1" runs test.cpp "$1" -std=c++20 -Wconversion -O1 -x c++
     check "what does not compile in C++ with $1" rejects_conversions "$1"
     check "an older C++ with $1" rejects_older_cpp "$1"
     check "the example of the page in C++ with $1" page_holds docs/C.md cpp "$1" -std=c++17
@@ -144,14 +145,41 @@ wheel_of() { rm -rf "$2" && CELLARCOVE_ARCHIVE=$1 "$builder" -m pip wheel "${off
 
 makes_a_wheel() { wheel_of "$archive" "$work/wheel" bindings/python; }
 
-# with_package SCRIPT WORD..: the script runs with the package of the wheel, in an empty folder, by the Python of the variable `python`.
-with_package() { (cd "$work/empty_folder" && PYTHONPATH=$work/site PYTHONDONTWRITEBYTECODE=1 "${python:-python3}" "$@"); }
+# with_package SCRIPT WORD..: the script runs with the package of the wheel, in an empty folder, by the Python of the variable `python`,
+# or else by the one that made the wheel, which has numpy.
+with_package() { (cd "$work/empty_folder" && PYTHONPATH=$work/site PYTHONDONTWRITEBYTECODE=1 "${python:-$builder}" "$@"); }
 
 # The wheel, unpacked, passes its tests.
 passes_its_tests() {
     rm -rf "$work/site" "$work/empty_folder"
     python3 -m zipfile -e "$work"/wheel/*.whl "$work/site" && mkdir "$work/empty_folder" &&
-        with_package "$tests/test_cellarcove.py"
+        with_package "$tests/test_cellarcove.py" && with_package "$tests/test_columns.py"
+}
+
+# other_pythons: the programs of the other Pythons from 3.9 on, one a line: those in the path, and those of pyenv.
+other_pythons() {
+    local name found=()
+    for name in python3{,.9,.1{0,1,2,3,4}} "${PYENV_ROOT:-$HOME/.pyenv}"/versions/3.*/bin/python3; do
+        found+=("$(command -v "$name" || true)")
+    done
+    for name in "${found[@]}"; do
+        [ -z "$name" ] || "$name" -c 'import os, sys; sys.version_info < (3, 9) or print(os.path.realpath(sys.executable))' 2>/dev/null
+    done | sort -u | grep -vxF "$("$builder" -c 'import os, sys; print(os.path.realpath(sys.executable))')"
+}
+
+# Each other Python calls the same wheel. It may have no numpy: then its calls of arrays say what to install.
+passes_on_other_pythons() {
+    local python
+    for python in $(other_pythons); do
+        with_package "$tests/test_cellarcove.py" || return 1
+        echo "passed by $("$python" --version)"
+    done
+    echo "$(other_pythons | wc -l) others"
+}
+
+# The names and the signatures of the stubs are those of the extension.
+has_stubs() {
+    "$builder" -c 'import mypy.stubtest' && (cd "$work/empty_folder" && PYTHONPATH=$work/site MYPYPATH=$work/site "$builder" -m mypy.stubtest cellarcove._calls)
 }
 
 # fuzz MINUTES [--small]: all exports return what Python computes, for random arguments and for all small ones.
@@ -181,7 +209,7 @@ passes_with_sanitizers() {
 makes_a_wheel_of_the_sources() {
     local there=$work/sources
     rm -rf "$there" && mkdir "$there" && (cd bindings/python && "$builder" -m hatchling build -t sdist -d "$there") &&
-        tar -xzf "$there"/*.tar.gz -C "$there" && rm "$there"/*.tar.gz && compgen -G "$there/*/vendor/registry/num-traits-*" &&
+        tools/cellarcove check packed "$there"/*.tar.gz && tar -xzf "$there"/*.tar.gz -C "$there" && rm "$there"/*.tar.gz && compgen -G "$there/*/vendor/registry/num-traits-*" &&
         wheel_of '' "$work/wheel" "$there"/* && tests=$(echo "$there"/*/tests) passes_its_tests
 }
 
@@ -199,6 +227,12 @@ checksums() {
 
 # Each call returns a status that its comment names, for all arguments that are tried.
 returns_its_statuses() { checksums "$archive" >"$work/sums" && [ "$(wc -l <"$work/sums")" -eq "$calls" ]; }
+
+# Each call returns what the examples in its comment say, which the headers have.
+returns_its_examples() {
+    tools/cellarcove make examples >"$work/examples.c" &&
+        cc -std=c11 -O2 -Wall -Wextra -Wpedantic -Werror -I bindings/c "$work/examples.c" "$archive" -o "$work/examples" && "$work/examples"
+}
 
 # An archive in which one call is another one returns something else.
 other_call_is_found() {
@@ -222,6 +256,7 @@ looks_at() {
     if has cc C; then
         check 'the hidden symbols' hides_its_calls
         check "the statuses of $calls calls" returns_its_statuses
+        counted 'the examples in the comments' returns_its_examples
     fi
 }
 
@@ -232,8 +267,9 @@ python_calls() {
     languages=$((languages + 1))
     check 'the wheel' makes_a_wheel
     check 'Python' passes_its_tests
-    # the Python that made it may have numpy and pandas
-    [ "$builder" = python3 ] || python=$builder check 'Python of the wheel' with_package "$tests/test_cellarcove.py"
+    "$builder" -c 'import pandas, distributed' 2>/dev/null || echo "columns of pandas and dask: skipped, since $builder has not both"
+    counted 'Python of other versions' passes_on_other_pythons
+    check 'the links of the page of the wheel' tools/cellarcove check packed "$work"/wheel/*.whl
     check 'the files and the tags of the wheel' with_package "$tests/test_wheel.py" "$work"/wheel/*.whl
     counted 'random calls' fuzz "$@"
 }
@@ -268,8 +304,11 @@ fi
 c_with clang
 cpp_with g++
 cpp_with clang++
+if has clang++-19 'std::format of C++20'; then
+    check 'std::format of C++20' runs test.cpp clang++-19 -std=c++20 -stdlib=libc++ -DNEEDS_FORMAT -x c++
+fi
 if has python3 Python && has cc Python && [ -d "$work/site" ]; then
-    counted "CPython's own tests" with_package "$tests/cpython_tests.py"
+    python=python3 counted "CPython's own tests" with_package "$tests/cpython_tests.py"
     check 'an editable install' installs_editable
 fi
 if [ -n "$builder" ] && sanitizes gcc; then
@@ -280,6 +319,7 @@ if [ -n "$builder" ] && builds_by_cargo; then
 fi
 if has mypy 'the types of Python'; then
     check 'the types of Python' has_types
+    [ ! -d "$work/site" ] || check 'the stubs of Python' has_stubs
 fi
 check 'a language ran' test "$languages" -gt 0
 finish

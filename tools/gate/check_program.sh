@@ -1,20 +1,33 @@
 #!/usr/bin/env bash
 # Runs the built program as a shell does: the sessions of the pages, odd arguments, nowhere to print, and each request for memory
-# refused. A program that is older than its sources is built again first. Prints a line for each check, and a count at the end.
+# refused. A program that is older than its sources is built again first. Does the same with the program that cargo installs from
+# rust/intcalc, and compares the two for the fixed cases of crates/tests and at random. Prints a line for each check, and a count at the end.
+#
+# usage: tools/gate/check_program.sh [--cargo | COUNT]
+#
+# It makes COUNT requests at random, 1000 if none is given. With --cargo it looks at cargo's program alone.
 set -uo pipefail
 cd "$(dirname "$0")/../.." || exit
 source tools/gate/lib.sh
 
-program=$PWD/crates/intcalc/out/intcalc
+proved=$PWD/crates/intcalc/out/intcalc
+plain=$work/installed/bin/intcalc
 mapfile -t words <crates/intcalc/args # the stored run, a word a line
 result=$(<crates/intcalc/stdout)
-requests=8                      # for memory, which the stored run makes
+count=${1:-1000}
 
 # build: `rt run` builds the program again, unless it is newer than its sources.
 build() {
-    is_current "$program" intcalc && return
-    rm -f "$program"
-    (cd crates/intcalc && rt run -- "${words[@]}") && is_current "$program" intcalc
+    is_current "$proved" intcalc && return
+    rm -f "$proved"
+    (cd crates/intcalc && rt run -- "${words[@]}") && is_current "$proved" intcalc
+}
+
+# by_cargo: cargo installs the program from a copy of the sources, with Debian's packages if they are there.
+by_cargo() {
+    cp -r rust "$work/rust" && cp -r docs LICENSE-* "$work" || return
+    [ ! -d /usr/share/cargo/registry ] || { takes_debian "$work" && rm -f "$work/rust/intcalc/Cargo.lock"; }
+    (cd "$work" && cargo install --quiet --path rust/intcalc --root "$work/installed" && cd rust/intcalc && cargo test --quiet)
 }
 
 # prints NAME STATUS LINE COMMAND..: the command prints the line alone, and ends with the status.
@@ -74,28 +87,40 @@ refuse_output() {
 # without_request NUMBER: runs the program with that request for memory refused.
 without_request() { REFUSED_REQUEST=$1 LD_PRELOAD=$work/refused_request.so "$program" "${words[@]}"; }
 
-# docs/TESTING.md gives this number of requests.
+# docs/TESTING.md gives this number of requests of the proved program.
 requests_are_documented() {
     local numbers=(no one two three four five six seven eight nine ten eleven twelve)
-    tr -s '\n ' ' ' <docs/TESTING.md | grep -q "each of its ${numbers[requests]} requests for memory is denied"
+    tr -s '\n ' ' ' <docs/TESTING.md | grep -q "each of its ${numbers[$1]} requests for memory is denied"
 }
 
-# `rt try --fail-alloc N` refuses one request too, and needs no built program.
+# refuse_memory COUNT: refuses each of so many requests for memory, which the stored run makes. `rt try --fail-alloc N` refuses one
+# request too, and needs no built program.
 refuse_memory() {
     local request
     check 'what refuses memory is built' "${CC:-cc}" -shared -fPIC -O1 -o "$work/refused_request.so" tools/gate/refused_request.c
-    for ((request = 1; request <= requests; request++)); do
+    for ((request = 1; request <= $1; request++)); do
         prints "request $request for memory refused" 3 'no memory' without_request "$request"
     done
-    prints "no request $((requests + 1)) for memory" 0 "$result" without_request "$((requests + 1))"
-    check 'as many requests as docs/TESTING.md says' requests_are_documented
+    prints "no request $(($1 + 1)) for memory" 0 "$result" without_request "$(($1 + 1))"
 }
 
-check 'the program is as new as its sources' build
-if [ "$failed" -eq 0 ]; then
+# run_all PROGRAM REQUESTS: all checks of a program, which makes so many requests for memory in the stored run.
+run_all() {
+    program=$1
     check 'the sessions of the pages' tools/cellarcove check sessions "$program"
     give_arguments
     refuse_output
-    refuse_memory
+    refuse_memory "$2"
+}
+
+if [ "$count" = --cargo ]; then
+    proved=$plain count=1000
+else
+    check 'the program is as new as its sources' build
+    [ "$failed" -eq 0 ] && run_all "$proved" 8 && check 'as many requests as docs/TESTING.md says' requests_are_documented 8
+fi
+if has cargo 'the program that cargo makes'; then
+    check 'cargo installs the program, and its tests pass' by_cargo
+    [ "$failed" -eq 0 ] && run_all "$plain" 1 && counted 'the same bytes and status by both' tools/cellarcove check programs "$proved" "$plain" "$count"
 fi
 finish

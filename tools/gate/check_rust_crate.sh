@@ -1,7 +1,7 @@
 #!/usr/bin/env bash
 # Checks the crate of plain Rust in rust/ and the package of exports in rust/c: they build without a warning, the examples and tests of
-# the crate and num-integer's own tests pass, a guard that is taken out is missed, its package is made, and the checksums of
-# compare/ are the same. Then the package num-integer of rust/ replaces the original below packages of other authors,
+# the crate and num-integer's own tests pass, a guard that is taken out or has a wrong condition is missed, its package is made, and
+# the checksums of compare/ are the same. Then the package num-integer of rust/ replaces the original below packages of other authors,
 # and their tests run. Works in a temporary folder, offline, with Debian's packages of these crates, which
 # tools/gate/install_packages.sh installs. Prints a line for each check, and a count at the end. `tools/cellarcove check` compares the
 # sources with what is made.
@@ -56,13 +56,13 @@ own_type() {
     at own cargo test --test boxed_type
 }
 
-# The package has the texts of both licences and the changelog, as the repository has them, and that of Python both licences.
+# The package has the texts of both licences, as the repository has them, and the changelog, and that of Python both licences.
 has_texts() {
     local name
     at rust cargo package --allow-dirty --list >"$work/list" || return 1
-    for name in LICENSE-*; do cmp "$name" "bindings/python/$name" || return 1; done
+    for name in LICENSE-*; do cmp "$name" "bindings/python/$name" && cmp "$name" "rust/$name" || return 1; done
     for name in LICENSE-* CHANGELOG; do
-        { cmp "$name"* "rust/$name" && grep -x "$name" "$work/list"; } || { echo "the package has no $name" && return 1; }
+        grep -x "$name" "$work/list" || { echo "the package has no $name" && return 1; }
     done
 }
 
@@ -131,27 +131,32 @@ if has_packages "${originals[@]}"; then
     takes_debian "$work"
     mkdir "$work/docs" && cp docs/ERRORS.md "$work/docs" # whose panics the tests see
     cp -r CHANGELOG.md rust compare "$work"
-    rm -rf "$work"/{rust,rust/num-integer,rust/c,compare}/{target,Cargo.lock}
+    rm -rf "$work"/{rust,rust/num-integer,rust/c,rust/intcalc,rust/benches,compare}/{target,Cargo.lock}
     check 'the crate is built' strictly rust cargo build --all-targets --all-features
     check_tests 'its tests' strictly rust cargo test --all-features --tests
     check_tests 'its tests in release' strictly rust cargo test --all-features --release --tests
+    check_tests 'those of the type of the example own_type, in release' strictly rust cargo test --release --example own_type
     check_tests 'the examples of its documentation and its page' documented_examples
     check 'the example programs print what their heads show' tools/cellarcove check sessions "$CARGO_TARGET_DIR/debug/examples"
-    # a few of each kind; tools/gate/release.sh takes out all
-    check 'a guard that is taken out is missed' tools/cellarcove check guards --sample
+    # a few of each kind; tools/gate/release.sh tries all
+    check 'a guard that is taken out or has a wrong condition is missed' tools/cellarcove check guards --sample
     check_tests 'a type that is not Copy, of a package that depends on this crate alone' own_type
     check 'the package has the texts of both licences and the changelog' has_texts
     check_tests 'the package is made, and some of its tests where it is unpacked' package
+    check 'the links of its pages' tools/cellarcove check packed "$CARGO_TARGET_DIR"/package/cellarcove-*.crate
     check 'the package num-integer without features' strictly rust/num-integer cargo build --no-default-features
     check 'the package num-integer with all features' strictly rust/num-integer cargo build --all-features
     # tools/gate/check_bindings.sh calls them
     check 'the exports for C' strictly rust/c cargo build --release
+    # tools/gate/check_program.sh runs it
+    check 'the program' strictly rust/intcalc cargo build
     check 'the shared library that cargo makes of them' is_shared_library
     check 'the documentation of the package' strictly unpacked cargo doc --no-deps --all-features
-    check 'its links to contracts and to their words' tools/cellarcove check rust_docs --links "$CARGO_TARGET_DIR/doc/cellarcove"
+    check 'its links' tools/cellarcove check rust_docs --links "$CARGO_TARGET_DIR/doc/cellarcove"
     if has cargo-clippy clippy; then
         check 'clippy' strictly rust cargo clippy --all-targets --all-features -- -D warnings
         check 'clippy on the exports' strictly rust/c cargo clippy -- -D warnings
+        check 'clippy on the program' strictly rust/intcalc cargo clippy --all-targets -- -D warnings
     fi
     upstream=$(compgen -G "$registry/num-integer-*" | tail -n 1)
     check "the tests of ${upstream##*/} are taken" \
@@ -170,6 +175,7 @@ if has_packages "${originals[@]}"; then
         check 'what rustc says of a missing trait' what_rustc_says renamed 'num-integer = { package = "cellarcove", path = "../rust" }'
         check 'what big integers lack' what_rustc_says patched \
             'num-integer = "0.1"\n[patch.crates-io]\nnum-integer = { path = "../rust/num-integer" }'
+        check 'the benches' strictly rust/benches cargo check
         check_dependents
     fi
 fi

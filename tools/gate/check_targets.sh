@@ -1,7 +1,8 @@
 #!/usr/bin/env bash
 # Compares other targets with this machine: what each call for C returns for 20,000 random arguments, by checksums of all that it returns.
-# The tests in C and those of the crate run there too. cargo makes the archives, and Rattle makes one for ARM64 if `rt ci` has left the proved
-# libraries. The crate is compiled without std for bare ARM and for WebAssembly.
+# The tests in C and those of the crate run there too. The archives are those that bindings/build makes and bindings/install installs, and
+# need no more than what stands below; Rattle makes one for ARM64 if `rt ci` has left the proved libraries. The crate is compiled without
+# std for bare ARM and for WebAssembly.
 #
 # usage: tools/gate/check_targets.sh [--all | TARGET..]
 #
@@ -25,11 +26,20 @@ is_wanted() { [[ " ${words[*]} " = *" $1 "* || " ${words[*]} " = *' --all '* ]];
 # for_target FOLDER TARGET LIBRARIES COMMAND [WORD..]: cargo runs in a folder of a copy of the sources.
 for_target() { (cd "$work/$1" && "$cargo" "${@:2}"); }
 
-# cargo's own archive has the multiplication and division of 128 bits, which C lacks on 32 bits.
+# What an archive may need: of the C library, and of the library of the C compiler.
+needed=(memcpy memmove memset _GLOBAL_OFFSET_TABLE_ __aeabi_{,u}idivmod __aeabi_{,u}ldivmod __aeabi_mem{cpy,move,set}{,4,8} __aeabi_memclr{,4,8})
+needed+=(__{,u}{div,mod}{d,t}i3 __multi3)
+
+# by_cargo TARGET [WORD..]: the archive that is installed.
 by_cargo() {
-    for_target rust/c "$1" core,compiler_builtins rustc --release --lib --crate-type staticlib &&
-        mv "$CARGO_TARGET_DIR/$1/release/libcellarcove_c.a" "$work/$1.a"
+    local archiver=ar
+    [ "$compiler" = cc ] || archiver=${compiler%gcc}ar
+    CC=$compiler AR=$archiver bindings/build --cargo ${2:+--target "$1"} "$work/built/$1" &&
+        CELLARCOVE_FOLDER=$work/built/$1 bindings/install "$work/prefix/$1" && cp "$work/prefix/$1/lib/libcellarcove_c.a" "$work/$1.a" &&
+        [ -e "$work/prefix/$1/lib/libcellarcove_c.so" ]
 }
+
+needs_no_more() { ! nm -u "$work/$1.a" | awk 'NF { print $NF }' | grep -v ':$' | grep -vxF "$(printf '%s\n' "${needed[@]}")"; }
 
 by_rattle() {
     calls_over_proved "$work/rattle.a" --target "$1" && "$compiler" -I bindings/c -c bindings/c/library.c -o "$work/library.o" &&
@@ -38,7 +48,7 @@ by_rattle() {
 
 # runs FILE NAME: links a program in C with the archive of this name, and runs it.
 runs() {
-    "$compiler" -std=c11 -O2 -Wall -Wextra -Werror -static -I bindings/c "$1" "$work/personality.c" "$work/$2.a" -o "$work/program" &&
+    "$compiler" -std=c11 -O2 -Wall -Wextra -Werror -static -I bindings/c "$1" "$work/$2.a" -o "$work/program" &&
         "$emulator" "$work/program"
 }
 
@@ -58,7 +68,8 @@ on() {
     local compiler=$2-gcc emulator=$3 before=$failed key=${1//-/_}
     is_wanted "$1" && has "$compiler" "$1" && has "$emulator" "$1" || return 0
     export "CARGO_TARGET_${key^^}_LINKER=$compiler" "CARGO_TARGET_${key^^}_RUNNER=$emulator" "CARGO_TARGET_${key^^}_RUSTFLAGS=-C target-feature=+crt-static"
-    check "the archive for $1" by_cargo "$1"
+    check "the archive for $1" by_cargo "$1" --target
+    check 'what it needs' needs_no_more "$1"
     returns_the_same "$1"
     check_tests 'the tests of the crate' for_target rust "$1" std,panic_unwind test --release --all-features --tests
     rm -rf "$CARGO_TARGET_DIR"
@@ -66,12 +77,11 @@ on() {
 }
 
 mkdir "$work/docs" && cp docs/ERRORS.md "$work/docs" && cp -r CHANGELOG.md rust "$work"
-echo 'void rust_eh_personality(void) {}' >"$work/personality.c"
 tools/cellarcove make checksums >"$work/checksums.c"
 check 'the crate for bare ARM, without std' for_target rust thumbv7em-none-eabihf core check --lib --no-default-features
 check 'the crate for WebAssembly, without std' for_target rust wasm32-unknown-unknown core check --lib --no-default-features
-check 'the archive for this machine' bindings/build --cargo "$work/here"
-mv "$work/here/libcellarcove_c.a" "$work/here.a"
+check 'the archive for this machine' by_cargo here
+check 'what it needs' needs_no_more here
 check 'its checksums' sums here
 on i686-unknown-linux-gnu i686-linux-gnu env
 on armv7-unknown-linux-gnueabihf arm-linux-gnueabihf qemu-arm-static

@@ -55,11 +55,11 @@ exports_its_calls() {
 # takes_debian FOLDER: below it cargo takes all packages from those of Debian.
 takes_debian() { mkdir -p "$1/.cargo" && cp tools/gate/debian.toml "$1/.cargo/config.toml"; }
 
-# builder: the Python that has hatchling, which makes wheels: the first one in the path, or Debian's.
+# builder: the Python that has hatchling and numpy, which makes wheels: the first one in the path, or Debian's.
 builder() {
     local name
     for name in python3 /usr/bin/python3; do
-        ! "$name" -c 'import hatchling, pip' 2>/dev/null || { echo "$name" && return; }
+        ! "$name" -c 'import hatchling, numpy, pip' 2>/dev/null || { echo "$name" && return; }
     done
     return 1
 }
@@ -75,9 +75,9 @@ crates_of() {
 
 # is_current FILE NAME: the file is there, and no source of the crate or of those below it is newer.
 is_current() {
-    local sources
-    mapfile -t sources < <(crates_of "$2" | sort -u | sed 's|.*|crates/&/src|')
-    [ -e "$1" ] && [ -z "$(find "${sources[@]}" -newer "$1" -print -quit)" ]
+    local crate sources=()
+    for crate in $(crates_of "$2" | sort -u); do sources+=("crates/$crate/src"); done
+    [ -e "$1" ] && [ -z "$(find "${sources[@]}" -newer "$1" | head -n 1)" ]
 }
 
 # packed TOP FILE: the folder TOP of $work/packed as an archive, the same for the same files.
@@ -90,8 +90,8 @@ packed() {
 package_num_integer() {
     local top
     top=num-integer-$(sed -nE 's/^version = "(.*)"$/\1/p' "$1/num-integer/Cargo.toml")
-    rm -rf "$work/packed" && mkdir -p "$work/packed/$top" && cp -r "$1"/num-integer/{Cargo.toml,README.md,src} "$1"/LICENSE-* "$work/packed/$top" &&
-        sed -i "s|path = \"..\"|path = \"../${2%.crate}\"|" "$work/packed/$top/Cargo.toml" && packed "$top" "$3/$top.crate"
+    rm -rf "$work/packed" && mkdir -p "$work/packed/$top" && cp -r "$1"/num-integer/{README.md,src} "$1"/LICENSE-* "$work/packed/$top" &&
+        sed "s|path = \"..\"|path = \"../${2%.crate}\"|" "$1/num-integer/Cargo.toml" >"$work/packed/$top/Cargo.toml" && packed "$top" "$3/$top.crate"
 }
 
 # block PAGE LANGUAGE: the first block of a page in this language.
@@ -125,7 +125,7 @@ calls_over_proved() {
         words+=(--extern "$name=$PWD/crates/$name/out/rlib/$name.rlib")
     done
     (cd "crates/$crate" && "$kit/bin/rattle" build --crate-name "$crate" src/lib.rt --crate-type staticlib \
-        --extern "std=$kit/rlibs/std.rlib" -L "dependency=$kit/rlibs" "${words[@]}" --links "$crate=" --jobs 1 \
+        --extern "std=$kit/rlibs/std.rlib" -L "dependency=$kit/rlibs" ${words[@]+"${words[@]}"} --links "$crate=" --jobs 1 \
         --antt-project "$kit/rattle/logic/antt-project.json" --logic-built "$kit/logic_built" \
         --toolchain "$kit/toolchain" --backend llvm "${@:2}" -o "$file")
 }

@@ -4,13 +4,15 @@
 # usage: tools/gate/release.sh [--quick | --slow] [FOLDER]
 #
 # FOLDER, `dist` if none is given, gets the packages for cargo, the wheel and the source distribution for pip, an archive for C
-# and C++, the package for npm, the WebAssembly that Rattle makes, the page on which a call is tried, an archive of the sources and
-# SHA256SUMS, as soon as they are tried, and NOTES.md once all else has passed. They are made of a clean clone of the commit that `.ci/run`
+# and C++, the proved program intcalc, the package for npm, the WebAssembly that Rattle makes, the page on which a call is tried, an
+# archive of the sources, the verdicts of the proofs, a bill of materials and SHA256SUMS, as soon as they are tried, and NOTES.md once all
+# else has passed. They are made of a clean clone of the commit that `.ci/run`
 # has passed in this checkout, and once more in another folder: both have the same sums. Rattle has made the static library in the gate,
 # or cargo makes it if there is no `rt`. Each file is tried without a net and without `rt`.
 #
-# Then it runs the slow checks side by side: all targets, the second suite of mutants, the first lines of both suites, and each guard of
-# plain Rust taken out. out/slow keeps what each printed, and one that has passed at this commit is not run again: --slow runs them before,
+# Then it runs the slow checks side by side: all targets, the second suite of mutants, the first lines of both suites, for plain Rust
+# each guard taken out and 20 small wrong bodies, both programs for 100,000 requests, and where mmdebstrap is there Debian's packages and
+# the oldest compiler. out/slow keeps what each printed, and one that has passed at this commit is not run again: --slow runs them before,
 # and makes no files. --quick leaves them out and calls less at random, and the notes say so.
 set -uo pipefail
 cd "$(dirname "$0")/../.." || exit
@@ -79,16 +81,29 @@ for_c() {
         cp "$1"/LICENSE-* "$1/bindings/out/made_by" "$work/packed/$top" && packed "$top" "$2/$top-$machine.tar.gz"
 }
 
+# without_other_pages PAGE: the page without its links to others of the folder and to those above, which the package lacks.
+without_other_pages() { sed -E 's/\[([^]]*)\]\((\.\.\/)?[A-Z]+\.md[^)]*\)/\1/g' "$1"; }
+
 # for_npm CLONE FOLDER: the package for Node and browsers, and the page with the package and the reference beside it.
 for_npm() {
     local top=cellarcove-try-$version
     rm -rf "$work/packed" && mkdir -p "$work/packed/package" "$work/packed/$top/try" && "$1/bindings/js/build" "$work/packed/package" &&
         cp "$1/docs/try/index.html" "$work"/packed/package/* "$work/packed/$top/try" &&
-        cp -r "$1"/docs/{reference,CONTRACTS.md} "$work/packed/$top" && packed package "$2/cellarcove-$version.tgz" && packed "$top" "$2/$top.tar.gz"
+        cp -r "$1/docs/reference" "$work/packed/$top" && without_other_pages "$1/docs/CONTRACTS.md" >"$work/packed/$top/CONTRACTS.md" && packed package "$2/cellarcove-$version.tgz" && packed "$top" "$2/$top.tar.gz"
 }
 
 # for_wasm FOLDER: the WebAssembly of the libraries that `rt ci` has proved in this checkout.
 for_wasm() { ! command -v rt >/dev/null || { bindings/js/build --rattle "$work/proved" && cp "$work/proved/cellarcove.wasm" "$1/cellarcove-$version-proved.wasm"; }; }
+
+# for_intcalc CLONE FOLDER: the program that the gate has proved and built in this checkout, its manual page, and what shells complete.
+for_intcalc() {
+    local top=intcalc-$version-$machine program=crates/intcalc/out/intcalc
+    command -v rt >/dev/null || return 0
+    is_current "$program" intcalc || { echo "$program is older than its sources" && return 1; }
+    rm -rf "$work/packed" && mkdir -p "$work/packed/$top/bin" && cp "$program" "$work/packed/$top/bin" &&
+        "$1/tools/cellarcove" make manual "$work/packed/$top/share" && cp "$1"/LICENSE-* "$work/packed/$top" &&
+        without_other_pages "$1/docs/INTCALC.md" >"$work/packed/$top/INTCALC.md" && packed "$top" "$2/$top.tar.gz"
+}
 
 sources() {
     git -C "$1" archive --format=tar --prefix="cellarcove-$version/" HEAD | gzip -9n >"$2/cellarcove-$version-source.tar.gz"
@@ -98,7 +113,7 @@ sources() {
 make_files() {
     local here=$work/$1/clone there=$work/$1/files
     mkdir -p "$there" && clone "$here" && for_cargo "$here" "$there" && for_pip "$here" "$there" && for_c "$here" "$there" &&
-        for_npm "$here" "$there" && for_wasm "$there" && sources "$here" "$there" && (cd "$there" && sha256sum -- *) >"$work/$1/SHA256SUMS"
+        for_intcalc "$here" "$there" && for_npm "$here" "$there" && for_wasm "$there" && sources "$here" "$there" && (cd "$there" && sha256sum -- *) >"$work/$1/SHA256SUMS"
 }
 
 # ---- each file, in an empty folder
@@ -116,6 +131,22 @@ enters() { mkdir -p "$work/tried/$1" && cp "$files"/* "$work/tried/$1" && takes_
 
 # lines NAME LANGUAGE: the first block of a language in a part of README.md. These lines are run word for word.
 lines() { block <(sed -n "/^\*\*$1\*\*/,\$p" "$root/README.md") "$2"; }
+
+# Each verdict of the gate, and of a crate whose proof was kept from an earlier run a new one.
+verdicts() {
+    local name
+    for name in $(sed -nE 's/^(\w+)( staticlib)?:.*/\1/p' crates.txt); do
+        echo "== $name" && { awk -v name="$name" '/^== /{ on = $2 == name } on && /^logic=proved / { print; found = 1; exit } END { exit !found }' out/passed ||
+            (cd "crates/$name" && rt verdict | grep '^logic=proved ') || return 1; }
+    done
+}
+
+# What is known of the files, whose sums it adds.
+records() {
+    { ! command -v rt >/dev/null || verdicts >"$files/cellarcove-$version-verdicts.txt"; } &&
+        tools/cellarcove make bill "$files" /usr/share/cargo/registry >"$work/bill" && mv "$work/bill" "$files/cellarcove-$version.spdx.json" &&
+        (cd "$files" && sha256sum -- *) >"$work/one/SHA256SUMS"
+}
 
 # A program over the crate, and then the tests of the crate.
 tries_rust() {
@@ -145,6 +176,12 @@ tries_c() {
         cc "$root/bindings/c/test.c" "${flags[@]}" -o static && ./static
 }
 
+# The sessions of the page, and the manual page without a warning.
+tries_intcalc() {
+    enters intcalc && tar -xzf intcalc-*.tar.gz && cd intcalc-* && "$root/tools/cellarcove" check sessions bin/intcalc && man --warnings -l share/man/man1/intcalc.1 2>error >page &&
+        [ ! -s error ] && grep -q NotFitting page
+}
+
 # tries_javascript [WASM WORD..]: the package passes its tests, with another WebAssembly and words for Node if they are given.
 tries_javascript() {
     enters "javascript-$#" && bash -e <(lines JavaScript sh) && { [ $# -eq 0 ] || cp "$1" node_modules/cellarcove/cellarcove.wasm; } && lines JavaScript js >mine.mjs &&
@@ -161,30 +198,48 @@ tries_the_sources() {
         diff <(find . -type f -o -type l | sort) <(git -C "$root" ls-files | sed 's|^|./|' | sort)
 }
 
+# The sources are the repository, whose links `tools/cellarcove check pages` follows.
+links_of_pages() {
+    find "$files" -type f \( -name '*.crate' -o -name '*.whl' -o -name '*gz' \) ! -name '*-source.tar.gz' -exec tools/cellarcove check packed {} +
+}
+
 # ---- the notes
 
 row() { echo "| \`$1\` | $(stat -c %s "$files/$1") | $2 |"; }
+
+# compilers: what the files were made and tested with, a row each.
+compilers() {
+    local name
+    for name in rustc /usr/bin/rustc cc python3 node; do
+        ! command -v "$name" >/dev/null || printf -- '- `%s`: %s\n' "$name" "$("$name" --version | sed -n 1p)"
+    done
+    printf -- '- `num-traits`: %s\n' "$(basename /usr/share/cargo/registry/num-traits-0.2.* | sed 's/.*-//')"
+}
 
 # notes: what is in the folder, what was tried, and the part of CHANGELOG.md on this version.
 notes() {
     echo "# Cellarcove $version"
     printf '\nOf commit %s. The static library in the archive for C and in the wheel was made by %s.\n\n' "$commit" "$(cat "$work/one/clone/bindings/out/made_by")"
+    printf 'Made and tested with:\n\n%s\n\n' "$(compilers)"
     printf '| file | bytes | what it is |\n|---|---|---|\n'
     row "cellarcove-$version.crate" 'the package for cargo'
     row "num-integer-$original.crate" 'the package of the name of the original, over the first one unpacked beside it, for `[patch.crates-io]`'
     row "$(cd "$files" && echo *.whl)" 'the wheel for pip'
     row "cellarcove-$version.tar.gz" 'the source distribution for pip, which cargo builds'
     row "cellarcove-c-$version-$machine.tar.gz" 'headers and libraries for C and C++, for pkg-config and CMake'
+    [ ! -e "$files/intcalc-$version-$machine.tar.gz" ] || row "intcalc-$version-$machine.tar.gz" 'the proved program for the command line, with a manual page'
     row "cellarcove-$version.tgz" 'the package for npm, of WebAssembly that cargo made'
     [ ! -e "$files/cellarcove-$version-proved.wasm" ] || row "cellarcove-$version-proved.wasm" 'the WebAssembly that Rattle made, for the same package'
     row "cellarcove-try-$version.tar.gz" 'a page on which a call is tried, for any web server'
     row "cellarcove-$version-source.tar.gz" 'all sources'
+    [ ! -e "$files/cellarcove-$version-verdicts.txt" ] || row "cellarcove-$version-verdicts.txt" 'what `rt verdict` says of each crate'
+    row "cellarcove-$version.spdx.json" 'a bill of materials'
     printf '\n`.ci/run` has passed:\n\n'
     grep -E '^(rt: ok|gate: |check_[a-z_]+\.sh: )' out/passed | sed 's/^/- /'
     printf '\nWhat was tried of these files:\n\n'
     sed 's/^/- /' "$work/said"
     [ "$mode" = whole ] || printf -- '- %s: left out\n' \
-        'the targets that need qemu, the second suite of mutants, the first lines of both suites, and each guard taken out'
+        'the targets that need qemu, the second suite of mutants, the first lines of both suites, each guard taken out, and small wrong bodies'
     printf '\n## Changes\n'
     sed -n "/^## $version (/,/^## /p" "$work/one/clone/CHANGELOG.md" | sed '/^## /d'
 }
@@ -205,12 +260,26 @@ slow_checks() {
     mkdir -p out/slow
     begins targets tools/gate/check_targets.sh --all
     begins guards tools/cellarcove check guards
+    begins known tools/cellarcove check known --changes
+    begins planted tools/cellarcove check planted --count 20
     begins wrong_lines tools/cellarcove check wrong_lines
     begins mutants tools/gate/check_must_fail_release.sh
+    begins programs tools/gate/check_program.sh 100000
+    if command -v mmdebstrap >/dev/null; then
+        begins debian packaging/try_debian.sh
+        begins oldest tools/gate/check_oldest.sh
+    fi
     wait
     tried 'the tests of the crate, and each call for C, on the targets of docs/PLATFORMS.md' has_passed targets
-    tried 'each guard of plain Rust that is taken out is missed by a test' has_passed guards
+    tried 'each guard of plain Rust that is taken out or has a wrong condition is missed by a test' has_passed guards
+    tried 'a test of plain Rust fails with each of 20 small wrong bodies, or it is listed as equivalent' has_passed planted
+    tried 'theorems in Coq say what the definitions are, and refuse a changed one' has_passed known
     tried 'the first line of each mutant of a crate that plain Rust has is true' has_passed wrong_lines
+    tried 'both programs print the same bytes, with the same status, for 100,000 random requests' has_passed programs
+    if command -v mmdebstrap >/dev/null; then
+        tried 'the packages of packaging/debian, in a clean root of Debian 13 with its Rust' has_passed debian
+        tried "the tests of the crate with the oldest compiler, $(grep -m 1 '^rustc ' out/slow/oldest)" has_passed oldest
+    fi
     tried "the second suite of $(ls crates/*/must-fail-release/*.edit | wc -l) mutants is rejected" has_passed mutants
 }
 
@@ -222,7 +291,7 @@ is_free() { [ -z "$(ls -A "$1" 2>/dev/null)" ] || { [ -e "$1/SHA256SUMS" ] && [ 
 # Copies the files to the folder, in the place of those of a run that failed later.
 copy_files() {
     mkdir -p "$folder" && { [ ! -e "$folder/SHA256SUMS" ] || (cd "$folder" && cut -d ' ' -f 3 SHA256SUMS | xargs rm -f SHA256SUMS); } &&
-        cp "$files"/* "$work/one/SHA256SUMS" "$folder"
+        install -m 644 "$files"/* "$work/one/SHA256SUMS" "$folder"
 }
 
 if [ "$mode" = slow ]; then
@@ -231,6 +300,7 @@ if [ "$mode" = slow ]; then
     exit
 fi
 grep -q "^gate: commit $commit," out/passed 2>/dev/null || stop "\`.ci/run\` has not passed at $commit in this checkout"
+[ -z "$(git tag --list "v$version")" ] || [ "$(git rev-parse "v$version^{commit}")" = "$commit" ] || stop "the tag v$version is that of another commit"
 [[ $(grep -m 1 "^## " CHANGELOG.md) = "## $version ("* ]] || stop "CHANGELOG.md does not begin with version $version, which rust/Cargo.toml has"
 is_free "$folder" || stop "$folder is not empty"
 files=$work/one/files
@@ -241,15 +311,18 @@ tried 'the package for cargo is added by the lines of README.md, and its tests p
 tried 'the two packages for cargo replace num-integer, by the lines of their pages' alone replaces_num_integer "$files"
 tried 'the wheel is installed by the line of README.md, tested and called at random' alone tries_the_wheel
 tried 'the source distribution is installed, and its tests pass' alone tries_the_source_distribution
+[ ! -e "$files/intcalc-$version-$machine.tar.gz" ] || tried 'the program prints what its page shows, and has a manual page' alone tries_intcalc
 tried 'programs in C and C++ are built by the lines of README.md and docs/C.md, and by pkg-config' alone tries_c
 tried 'the package for npm is installed by the line of README.md, tested, compared with C and called at random' alone tries_javascript
 [ ! -e "$files/cellarcove-$version-proved.wasm" ] || tried 'so is the package with the WebAssembly that Rattle made' alone \
     tries_javascript "cellarcove-$version-proved.wasm" --experimental-wasm-memory64
 tried 'the page is served, and calls are tried on it' alone tries_the_page
 tried 'the sources are those of the commit' alone tries_the_sources
+tried 'the links of the pages lead to files of the same package' links_of_pages
+check 'the verdicts and the bill of materials' records
 if [ "$failed" -ne 0 ] || ! copy_files; then
     stop "no files were copied to $folder"
 fi
 rm -rf "$work"/{target,tried,other} # which take most of the disk
 [ "$mode" != whole ] || slow_checks
-finish && notes >"$folder/NOTES.md" && ls -l "$folder"
+finish && notes >"$folder/NOTES.md" && chmod 644 "$folder/NOTES.md" && ls -l "$folder"

@@ -1,12 +1,14 @@
 """Makes rust/api.txt of rust/src: a line for each public item of the crate of plain Rust, so that a change of it is seen in each
 diff.
 
-A line has the path by which a caller names the item, and its declaration without the body. An implementation stands by its head,
+A line has the path by which a caller names the item, and its declaration without the body. A line `use PATH = PATH` has
+another or a further name of it. An implementation stands by its head,
 if its trait or its type is public or of another crate. What `#[doc(hidden)]` leaves out of the documentation is no line.
 
-Copies the changelog into the folder of the crate, whose package has it."""
+Copies the changelog, without its links, into the folder of the crate, whose package has it."""
 import re
 from collections.abc import Iterator
+from pathlib import Path
 
 from tools.erase.library import Made, Module, Place
 from tools.erase.source import Item, Source
@@ -20,8 +22,8 @@ class Shown(Made):
     """The made crate, as the documentation shows it."""
     LEFT_OUT = Made.LEFT_OUT | {('doc', 'hidden')}
 
-    def __init__(self) -> None:
-        super().__init__(ROOT / CRATE)
+    def __init__(self, folder: Path = ROOT / CRATE) -> None:
+        super().__init__(folder)
 
     def place(self, module: Module, item: Item) -> Place | None:
         """The public place of an item, or of the type of an implementation that is of no trait, or None."""
@@ -59,7 +61,7 @@ def shown(made: Shown) -> Iterator[tuple[Source, Item, str, Item | None]]:
             place = made.place(module, item)
             if place is None or is_hidden(module.source, item):
                 continue
-            path = '::'.join((*place, item.name))
+            path = '::'.join((*place, made.names.get((CRATE, module.path, item.name), item.name)))
             if item.kind != 'impl':
                 yield module.source, item, path, None
             for inner in item.items if item.kind in ('trait', 'impl') else ():
@@ -73,6 +75,10 @@ def lines_of(made: Shown) -> Iterator[str]:
         yield re.sub(rf'\b{item.name}\b', path, declaration(source, item), count=1) + provided
         derived = (range(first + 4, last) for first, last in item.attributes if source.at(first + 2) == 'derive')
         yield from (f'impl {source.at(k)} for {path}' for places in derived for k in places if source.kind(k) == 'word')
+    for key, renamed in made.names.items():
+        yield f'use {"::".join((*made.public[key], renamed))} = {"::".join((*key[1], key[2]))}'
+    for name, key in made.others:
+        yield f'use {"::".join(name)} = {"::".join((*made.public[key], made.names.get(key, key[2])))}'
     own = {item.name for module in made.modules.values() for item in module.items if item.kind in ('struct', 'enum', 'trait')}
     for source, item in ((module.source, item) for module in made.modules.values() for item in module.items):
         if item.kind == 'macro':
@@ -84,4 +90,4 @@ def lines_of(made: Shown) -> Iterator[str]:
 
 def made() -> dict[str, str]:
     return {'rust/api.txt': FIRST + ''.join(line + '\n' for line in sorted(set(lines_of(Shown())))),
-            'rust/CHANGELOG': (ROOT / 'CHANGELOG.md').read_text()}
+            'rust/CHANGELOG': re.sub(r'\[([^]\n]*)\]\([^()\s]+\)', r'\1', (ROOT / 'CHANGELOG.md').read_text())}

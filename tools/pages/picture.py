@@ -1,12 +1,15 @@
-"""Draws docs/trust.svg from the first table of docs/TRUST.md: how one knows that each step from a definition to what runs is right. In
-the table stands the number of lines of tools/checks/erased.py."""
+"""Draws docs/trust.svg from the first table of docs/TRUST.md: how one knows that each step from a
+definition to what runs is right. In the table stands the number of lines of tools/checks/erased.py, and
+below it how many mutants are run as Rust, and how many change a proof."""
 import re
 from collections.abc import Iterator
 
 from tools import ROOT, filled
+from tools.checks import edits
 
-PLACES = {'what you mean': (0, 0), 'definitions': (1, 0), 'contracts': (2, 0), 'Rattle source': (3, 0), 'C++, Python': (0, 1), 'C': (1, 1),
-          'compiled by Rattle': (2, 1), 'Rust source': (3, 1), 'compiled by rustc': (2, 2), 'JavaScript': (1, 2)}
+PLACES = {"Coq's library": (1, 0), 'what you mean': (0, 1), 'definitions': (1, 1), 'contracts': (2, 1), 'Rattle source': (3, 1),
+          'C++, Python': (0, 2), 'C': (1, 2), 'compiled by Rattle': (2, 2), 'Rust source': (3, 2), 'read by rustc': (3, 3),
+          'compiled by rustc': (2, 3), 'JavaScript': (1, 3)}
 COLOURS = {'proved': '#1a7f37', 'checked': '#0969da', 'tested': '#9a6700', 'trusted': '#cf222e'}
 ROW = re.compile(r'^\| ([^|]+) \| ([^|]+) \| \*\*(\w+)\*\*([^|]*) \|', re.M)
 WIDE, HIGH, ACROSS, DOWN = 144, 40, 224, 92         # of a box, and from one to the next
@@ -46,7 +49,15 @@ def picture(page: str) -> str:
     return filled(ROOT / 'tools/pages/templates/trust.svg', **size, parts='\n'.join(parts))
 
 
-def made() -> dict[str, str]:
+def with_counts(page: str) -> str:
+    """The page with the lines of erased.py, and the counts of mutants."""
     lines = (ROOT / 'tools/checks/erased.py').read_text().count('\n')
-    page = re.sub(r'(?<=\*\*checked\*\* by )\d+', str(lines), (ROOT / 'docs/TRUST.md').read_text())
+    page = re.sub(r'(?<=\*\*checked\*\* by )\d+', str(lines), page)
+    mutants = edits.counts()
+    page = re.sub(r'Of \d+ mutants \d+ are run', f'Of {mutants.all} mutants {mutants.run} are run', page)
+    return re.sub(r'\d+(?= change a proof)', str(mutants.of_proofs), page)
+
+
+def made() -> dict[str, str]:
+    page = with_counts((ROOT / 'docs/TRUST.md').read_text())
     return {'docs/TRUST.md': page, 'docs/trust.svg': picture(page)}

@@ -2,19 +2,15 @@
 import contextlib
 import re
 import shutil
-from collections import Counter
 from pathlib import Path
 
 import pytest
 
 from tools import ROOT, as_made, write
-from tools.bindings import exports, files, python
-from tools.pages import picture, reference
+from tools.bindings import examples, exports, files, orders, python
+from tools.erase.source import Unknown
+from tools.pages import api, picture, reference
 from tools.tests import samples
-
-
-# Calls whose comment has the numbers of an example in another order than Python.
-OTHER_ORDER = {'is_power', 'iso_week'}
 
 
 @pytest.mark.parametrize('name, slip', samples.cases('exports'))
@@ -31,25 +27,42 @@ def test_exports(tmp_path: Path, monkeypatch: pytest.MonkeyPatch, name: str, sli
     assert before != after
 
 
-def numbers(text: str) -> list[int]:
-    """The numbers of a text, of which those of a date have no sign."""
-    return [int(number) for number in re.findall(r'(?<![\w.])-?\d+', re.sub(r'(?<=\d)-', ' ', text))]
-
-
-def is_within(some: list[int], all_of_them: list[int]) -> bool:
-    """Whether these numbers are among those, in the same order."""
-    others = iter(all_of_them)
-    return all(number in others for number in some)
-
-
 @pytest.mark.parametrize('name, forms', python.public_calls())
 def test_examples_of_python(name: str, forms: list[exports.Call]) -> None:
     """Each example of a comment is one that the tests of the package run."""
-    prose, sentences = python.split(forms[0].doc)
-    assert not re.search(r'\b(?:[Tt]hat|Those) (?:of|for) [-\d]|\b(?:For|From) [-\d]', prose)
-    said = numbers(' '.join(sentences))
-    shown = numbers(' '.join(part for row in python.examples(name) for part in row))
-    assert is_within(said, shown) or name in OTHER_ORDER and not Counter(said) - Counter(shown)
+    words = {'Date': lambda *parts: parts, name: lambda *given: [*given]}
+    shown = [eval(given, words) for given, _ in python.examples(name)]
+    assert all(example.arguments in shown for example in examples.of_call(forms[0]))
+
+
+@pytest.mark.parametrize('name, doc', [
+    ('gcd', 'Returns the greatest common divisor.'), ('gcd', 'That of 56 is 14.'),
+    ('gcd', 'That of 56, 42 and 7 is 7.'), ('gcd', 'That of 56 and 42 is 14 and 7.'),
+    ('gcd', 'For most of 56 and 42 it is 14.'), ('gcd', 'That of 56 and 42 is large.'),
+    ('gcd', 'For 56 and 42 it is 14, which divides 7.'), ('is_square', 'For 144 it is 12 and 12.'),
+    ('plus_days', 'That of 2000 and -1 is 1999-12-31.'),
+    ('fraction_to_decimal', 'That of 1/20 and 2 is 5.'),
+    ('fraction_to_decimal', 'That of 1/20 and 2 is 0.5.')])
+def test_no_example(name: str, doc: str) -> None:
+    call = exports.EXPORTS().forms()[name][0]._replace(doc=doc)
+    with pytest.raises(examples.Unclear):
+        examples.of_call(call)
+
+
+@pytest.mark.parametrize('name, doc, result', [
+    ('gcd', 'That of 56 and 42 is 7.', [7]), ('gcd_of', 'That of no numbers is 1.', [1]),
+    ('shares', 'For 1002 and the weights 1, 1, 1 and 1 they are 251, 251, 250 and 250.',
+     [251, 251, 250, 250]),
+    ('iso_week', 'That of 2005-01-01 is week 52 of 2004.', [52, 2004]),
+    ('fraction_to_decimal', 'That of 1/20 and 2 is 0.50.', [0, 0, 50]),
+    ('is_leap_year', 'For 1900 it is `true`.', [1]),
+    ('extended_gcd', 'For 240 and 46 they are 2, 9 and 47.', [2, 9, 47]),
+    ('lcm', 'That of 2^62 + 1 and 0 is 2^62 - 1.', [2**62 - 1])])
+def test_wrong_example(name: str, doc: str, result: list[int]) -> None:
+    """An example that is read, with a wrong result."""
+    call = exports.EXPORTS().forms()[name][-1]._replace(name=name, doc=doc)
+    shown = examples.of_call(call)[0]
+    assert shown.result == result and not examples.holds(shown)
 
 
 def test_call_without_an_example() -> None:
@@ -70,6 +83,26 @@ def test_reference(tmp_path: Path, monkeypatch: pytest.MonkeyPatch) -> None:
     assert changed >= {page for page, *_ in slips}
 
 
+@pytest.fixture(name='crates', scope='module')
+def copy_of_crates(tmp_path_factory: pytest.TempPathFactory) -> Path:
+    """A copy of the crates."""
+    crates = tmp_path_factory.mktemp('reference') / 'crates'
+    shutil.copytree(ROOT / 'crates', crates, ignore=shutil.ignore_patterns('out'))
+    return crates
+
+
+@pytest.mark.parametrize('head, slip', samples.cases('reference_slips'))
+def test_words_without_a_definition(crates: Path, monkeypatch: pytest.MonkeyPatch, head: str,
+                                    slip: str) -> None:
+    name, _, said = head.partition(', ')
+    monkeypatch.setattr(reference, 'CRATES', crates)
+    before = (crates / name).read_text()
+    samples.change(crates / name, slip)
+    with pytest.raises(Unknown, match=re.escape(said)):
+        reference.Reference().made()
+    (crates / name).write_text(before)
+
+
 def test_as_made(tmp_path: Path) -> None:
     made = {'a/b': 'text\n'}
     assert not as_made(tmp_path, made)
@@ -79,6 +112,20 @@ def test_as_made(tmp_path: Path) -> None:
     assert write(tmp_path, {'a/b': None}) and as_made(tmp_path, {'a/b': None})
 
 
+@pytest.mark.parametrize('old, new, line', [
+    ('div_ceil, div_floor,', 'div_ceil as div_floor, div_floor as div_ceil,',
+     'use div_floor = integer_core::div_ceil'),
+    ('div_ceil,', 'div_ceil, div_ceil as above,', 'use above = div_ceil')])
+def test_exported_names(tmp_path: Path, old: str, new: str, line: str) -> None:
+    """The list of public items has the names of exports."""
+    shutil.copytree(ROOT / api.CRATE / 'src', tmp_path / api.CRATE / 'src')
+    root = tmp_path / api.CRATE / 'src' / 'lib.rs'
+    before = [*api.lines_of(api.Shown(tmp_path / api.CRATE))]
+    root.write_text(root.read_text().replace(old, new, 1))
+    after = [*api.lines_of(api.Shown(tmp_path / api.CRATE))]
+    assert line in after and line not in before
+
+
 def test_picture() -> None:
     page = (ROOT / 'docs/TRUST.md').read_text()
     drawn = picture.picture(page)
@@ -86,3 +133,14 @@ def test_picture() -> None:
     assert drawn != picture.picture(page.replace('**proved**', '**tested**'))
     with pytest.raises(KeyError):
         picture.picture(page.replace('| contracts | Rattle source', '| contract | Rattle source'))
+
+
+@pytest.mark.parametrize('name', ['fraction_times', 'fraction_limit_denominator', 'date_from_iso_week', 'fraction_to_decimal'])
+def test_orders_of_statuses(name: str) -> None:
+    """The words of a call say what it returns, and those in another order do not."""
+    call = next(call for call in exports.EXPORTS().calls if call.name == name)
+    assert not orders.wrong(call)
+    others = call.statuses[::-1]
+    if name == 'fraction_times':    # the words before
+        others = [sentence.replace(' and the argument, reduced, fits', '') for sentence in call.statuses]
+    assert 'the comment says' in orders.wrong(call._replace(statuses=others))

@@ -1,4 +1,5 @@
 """What the pages quote, link, name and show."""
+from fractions import Fraction
 from pathlib import Path
 
 import pytest
@@ -35,6 +36,30 @@ def test_links(tmp_path: Path, link: str, leads: bool) -> None:
     page = tmp_path / 'sample.md'
     page.write_text(f'# One\n\n## A, b\n\n## A, b\n\n```sh\n# Two\n```\n\n{link}\n')
     assert bool(list(pages.broken_links(page))) != leads
+
+
+def test_fractions_of_python() -> None:
+    """What docs/DIFFERENCES.md says of the class `Fraction` of Python."""
+    assert round(Fraction(5, 2)) == 2
+    assert Fraction('+1') == 1 and Fraction(' 1/2 ') == Fraction(1, 2) and Fraction('1.5') == Fraction(3, 2)
+    with pytest.raises(ValueError):
+        Fraction('6/-4')
+
+
+@pytest.mark.parametrize('link, dead', [
+    ('#one', False), ('https://example.org/', False), ('../docs/ERRORS.md', True), ('b.md', True)])
+def test_pages_alone(tmp_path: Path, link: str, dead: bool) -> None:
+    page = tmp_path / 'README.md'
+    page.write_text(f'# One\n\n[it]({link}) `[code](x.md)`\n')
+    assert pages.links_to_others(page) == [link] * dead
+
+
+@pytest.mark.parametrize('copied, lines, lacking', [
+    ('a,b', 'a: b std\nb: std\n', []), ('a,b', 'a: b std\n', ['no line of b']),
+    ('a', 'a: b std\n', ['b is not copied']), ('a,b', '', ['no line of a', 'no line of b'])])
+def test_crates_to_copy(copied: str, lines: str, lacking: list[str]) -> None:
+    text = f'```sh\ncp -r cellarcove/crates/{{{copied}}} crates/\n```\n\n```crates\n{lines}```\n'
+    assert list(pages.lacking_lines(text, {'a', 'b'})) == lacking
 
 
 @pytest.mark.parametrize('text, absent', [

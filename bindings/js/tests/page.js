@@ -13,10 +13,27 @@ const folder = resolve(process.env.CELLARCOVE ?? fileURLToPath(new URL('..', imp
 const docs = existsSync(join(folder, 'index.html')) ? join(folder, '..') : fileURLToPath(new URL('../../../docs', import.meta.url));
 const TYPES = {html: 'text/html', js: 'text/javascript', wasm: 'application/wasm', md: 'text/plain'};
 const missing = [];
+// What the server has besides: workers, and pages under a policy, whose title says what became of a call.
+const OWN = {
+  '/worker.js': ['js', "import {gcd} from '/try/cellarcove.js'; self.onmessage = ({data}) => self.postMessage(String(gcd(...data)));"],
+  '/inline-worker.js': ['js', "import {gcd} from '/try/inline.js'; self.onmessage = ({data}) => self.postMessage(String(gcd(...data)));"],
+  '/called.js': ['js', "import {gcd, ready} from '/try/cellarcove.js'; ready.then(() => gcd(12, 18), (error) => error.cause?.name ?? error.name).then((it) => { document.title = it; });"],
+  '/inlined.js': ['js', "import {gcd, ready} from '/try/inline.js'; ready.then(() => { document.title = gcd(12, 18); });"],
+  '/early.js': ['js', "import {gcd} from '/try/cellarcove.js'; try { document.title = gcd(12, 18); } catch (error) { document.title = error.message; }"],
+  '/open.html': ['html', '<!doctype html><script type="module" src="/called.js"></script>', "script-src 'self' 'wasm-unsafe-eval'"],
+  '/shut.html': ['html', '<!doctype html><script type="module" src="/called.js"></script>', "script-src 'self'"],
+  '/inline.html': ['html', '<!doctype html><script type="module" src="/inlined.js"></script>'],
+  '/early.html': ['html', '<!doctype html><script type="module" src="/early.js"></script>'],
+};
 
 /** The page with the package beside it, and the reference. */
 const server = createServer(({url}, response) => {
   const path = new URL(url, 'http://localhost').pathname, file = path.endsWith('/') ? `${path}index.html` : path;
+  if (file in OWN) {
+    const [type, text, policy] = OWN[file];
+    response.writeHead(200, {'content-type': TYPES[type], ...policy && {'content-security-policy': policy}}).end(text);
+    return;
+  }
   try {
     const found = readFileSync(file === '/sums.js' ? new URL('sums.js', import.meta.url)
       : file.startsWith('/try/') && !file.endsWith('.html') ? join(folder, file.slice(5)) : join(docs, file));
@@ -101,12 +118,54 @@ test('numbers are typed by keyboard alone', async () => {
   assert.equal(await textOf('result'), '“18x” is no integer');
 });
 
+test('numbers are not joined at spaces', async () => {
+  for (const [fragment, said] of [['gcdOf&12 18', '“12 18” is no integer'], ['shares&100&1 1 1', '“1 1 1” is no integer'], ['gcdOf&12, 18 ', 'gcdOf([12, 18 ]) = 6'],
+    ['lcm&2^63 - 1& 1', 'lcm(2^63 - 1,  1) = 9223372036854775807'], ['lcm&1_000&1', 'lcm(1_000, 1) = 1000'], ['lcm&- 4&6', 'lcm(- 4, 6) = 12']]) {
+    await evaluate(`location.hash = '#${fragment.split('&').map(encodeURIComponent).join('&')}'`);
+    await until(`document.getElementById('result').textContent === '${said}'`);
+  }
+});
+
+test('an address that names nothing says so', async () => {
+  for (const [fragment, name] of [['toString', 'toString'], ['%', '%'], ['lcmm&1&2', 'lcmm'], ['__proto__', '__proto__']]) {
+    await evaluate(`location.hash = '#${fragment}'`);
+    await until(`document.getElementById('result').textContent === 'There is no call “${name}”, which the address names. Choose one above.'`);
+  }
+});
+
+test('a worker gets a message that is posted at once', async () => {
+  for (const file of ['/worker.js', '/inline-worker.js']) {
+    const found = await evaluate(`Promise.all(Array.from({length: 4}, () => new Promise((done) => {
+      const worker = new Worker('${file}', {type: 'module'});
+      worker.onmessage = ({data}) => done(data);
+      worker.onerror = ({message}) => done(message);
+      worker.postMessage([12, 18]);
+      setTimeout(done, 60_000, 'lost');
+    })))`);
+    assert.deepEqual(found, ['6', '6', '6', '6'], file);
+  }
+});
+
+test('a page awaits ready, and its policy needs wasm-unsafe-eval', async () => {
+  for (const [file, said] of [['/open.html', '6'], ['/shut.html', 'CompileError'], ['/inline.html', '6'], ['/early.html', 'cellarcove.wasm is not loaded yet: await ready before the first call']]) {
+    const found = await evaluate(`(async () => {
+      const frame = document.body.appendChild(Object.assign(document.createElement('iframe'), {src: '${file}'}));
+      for (let tries = 0; tries < 400 && !frame.contentDocument?.title; tries++) await new Promise((done) => setTimeout(done, 50));
+      return frame.contentDocument?.title;
+    })()`);
+    assert.equal(found, said, file);
+  }
+});
+
 test('the examples show the result or the reason', async () => {
   const results = [];
   for (let place = 0; place < 8; place++) {
-    await evaluate(`document.querySelectorAll('#examples a')[${place}].click()`);
-    await until(`location.hash === document.querySelectorAll('#examples a')[${place}].hash`);
-    await evaluate('new Promise((done) => setTimeout(done, 20))');
+    await evaluate(`new Promise((done) => {
+      const link = document.querySelectorAll('#examples a')[${place}];
+      if (link.hash === location.hash) return done();
+      addEventListener('hashchange', () => done(), {once: true}); // after the page's own listener
+      link.click();
+    })`);
     results.push(await textOf('result'));
   }
   const notFitting = 'no result: NOT_FITTING: the result does not fit its type, or a part of a fraction, once reduced, does not';

@@ -1,14 +1,22 @@
 // Tests of the package for JavaScript.   node --test bindings/js/tests/
 import assert from 'node:assert/strict';
-import {readFileSync} from 'node:fs';
+import {readdirSync, readFileSync, statSync} from 'node:fs';
+import {createRequire} from 'node:module';
 import {test} from 'node:test';
+import {fileURLToPath} from 'node:url';
 import {inspect} from 'node:util';
-import {CALLS, camel, cellarcove, judge, rows} from './rows.js';
+import {CALLS, camel, cellarcove, folder, judge, rows, STRUCTS} from './rows.js';
 
-const {BUILT_BY, Fraction, PlainDate, Refused, Status, VERSION, attempt: _, ...calls} = cellarcove;
+const {BUILT_BY, Decimal, Fraction, fractionFromDecimal, PlainDate, ready, Refused, Status, tryFractionFromDecimal, VERSION, ...calls} = cellarcove;
 const {checkedDifference, divModFloor, easter, fractionAdd, gcd, gcdOf, inverseModulo, isLeapYear, isoWeek, lcm, nthRoot, plusMonths, shares, tryLcm} = calls;
-const {choiceOfRank, daysBetween, daysInMonth, fractionCmp, isPerfectPower, powerModulo, tryFractionAdd, tryPlusMonths, weekday} = calls;
+const {choiceOfRank, daysBetween, daysInMonth, fractionCmp, fractionToDecimal, isPerfectPower, powerModulo} = calls;
+const {sharesByLargestRemainder, tryFractionAdd, tryFractionToDecimal, tryPlusMonths, weekday} = calls;
 const found = [];
+const ofTry = (name) => `try${name[0].toUpperCase()}${name.slice(1)}`;
+const argument = (it) => Array.isArray(it) ? it.map(argument) : /^-?\d+$/.test(it) ? BigInt(it) : it;
+const LARGE = [['gcdOf', [[2n ** 60n]]], ['multinomial', [[30, 34]]], ['rank', [Array.from({length: 32}, (_, k) => k + 32), 64]], ['choiceOfRank', [2n ** 60n, 2n ** 61n, 1]],
+  ...['daysBetween', 'monthsBetween', 'yearsBetween'].map((name) => [name, [[-(2n ** 53n), 1, 1], [2n ** 53n, 1, 1]]]),
+  ['factorial', [20]], ['fractionToDecimal', [[1, 3], 18]], ['dayFromDate', [[2n ** 53n, 1, 1]]], ['fractionFromText', [`1/${2n ** 63n - 1n}`]]]; // calls with a large result
 for await (const row of rows(1, 8)) found.push(row);
 
 test('each export returns what Python computes, of numbers and of arrays', () => {
@@ -29,7 +37,7 @@ test('a call in the place of another is found', () => {
 
 test('a refusal has its status and its words, and the forms without exceptions have the same', () => {
   assert.throws(() => inverseModulo(4, 6), (error) => error instanceof Refused && error instanceof RangeError && error.name === 'Refused'
-    && error.status === Status.NO_SOLUTION && error.message === 'inverseModulo: NO_SOLUTION: no number solves the congruences');
+    && error.code === 'NO_SOLUTION' && error.status === Status.NO_SOLUTION && error.message === 'inverseModulo: NO_SOLUTION: no number solves the congruences');
   assert.deepEqual(tryLcm(2n ** 63n, 3), {status: Status.NOT_FITTING, value: undefined});
   assert.deepEqual(tryLcm(4, 6), {status: Status.ANSWER, value: 12n});
   assert.deepEqual(tryFractionAdd('x/y', 1), {status: Status.OUTSIDE, value: undefined});
@@ -56,13 +64,16 @@ test('a number out of range is refused', () => {
 });
 
 test('what is no integer is a TypeError', () => {
-  for (const given of [[1.5, 2], ['1', 2], [2 ** 53, 2], [NaN, 2], [undefined, 2], [1], [1, 2, 3], [true, 2], [null, 1], [{}, 1]]) {
+  for (const given of [[1.5, 2], ['1', 2], [2 ** 53, 2], [NaN, 2], [undefined, 2], ['1'], [1, 2, '3'], [true, 2], [null, 1], [{}, 1]]) {
     assert.throws(() => gcd(...given), TypeError);
     assert.throws(() => tryLcm(...given), TypeError);
   }
-  for (const given of [1, [1, 'x'], [[1]], undefined]) assert.throws(() => gcdOf(given), TypeError);
+  for (const given of ['1', [1, 'x'], [[1]], undefined]) assert.throws(() => gcdOf(given), TypeError);
   for (const given of [{num: 1}, [1], [1, 2, 3], null, 'x/y']) assert.throws(() => fractionAdd(given, '1/2'), given === 'x/y' ? {status: Status.OUTSIDE} : TypeError);
-  for (const given of [{year: 2024}, 5, '2024-2-09', '02024-02-09', '+2024-02-09', '10000-01-01', '']) assert.throws(() => plusMonths(given, 1), TypeError);
+  for (const given of [{year: 2024}, 5, null, [2024, 2], undefined]) {
+    assert.throws(() => plusMonths(given, 1), TypeError);
+    assert.throws(() => tryPlusMonths(given, 1), TypeError);
+  }
 });
 
 test('fractions and dates are objects with a text', () => {
@@ -74,13 +85,195 @@ test('fractions and dates are objects with a text', () => {
     assert.equal(`${PlainDate.from(text)}`, text);
   }
   assert.throws(() => PlainDate.from('2023-02-29'), {status: Status.NO_DATE});
-  assert.throws(() => PlainDate.from('+9223372036854775808-01-01'), {status: Status.NOT_FITTING});
+  assert.throws(() => PlainDate.from('+9223372036854775808-01-01'), {status: Status.NO_DATE});
   assert.equal(JSON.stringify([easter(12000), Fraction.from('1/3')]), '["+12000-04-02","1/3"]');
   assert.throws(() => Fraction.from(1) < Fraction.from(2), TypeError);
   assert.throws(() => easter(2024) < easter(2025), TypeError);
   const temporal = new class { get year() { return 2004; } get month() { return 12; } get day() { return 31; } }(); // has no own fields
   assert.deepEqual(isoWeek(temporal), {weekOfYear: 53, yearOfWeek: 2004n});
   assert.equal(daysBetween(PlainDate.from(temporal), '2005-01-01'), 1n);
+});
+
+test('a decimal number has a text, with its zeros', () => {
+  const texts = [['1/20', 2, '0.05'], ['-1/20', 2, '-0.05'], ['1234/5', 2, '246.80'], ['1/8', 2, '0.12'], ['-1/8', 0, '0'], ['7/2', 0, '4'], ['-7/2', 0, '-4'],
+    ['1/1000', 3, '0.001'], ['-1/1000', 2, '0.00'], ['-41/20', 2, '-2.05'], [3, 18n, '3.000000000000000000'], [2n ** 63n - 1n, 1, '9223372036854775807.0'],
+    ['-9223372036854775808', 2, '-9223372036854775808.00'], ['1/1000000000000000000', 18, '0.000000000000000001'], ['-1/1000000000000000000', 18, '-0.000000000000000001']];
+  for (const [fraction, places, text] of texts) {
+    const found = fractionToDecimal(fraction, places);
+    assert.equal(`${found}`, text);
+    assert.equal(`${tryFractionToDecimal(fraction, places).value}`, text);
+    assert.equal(found.places, Number(places));
+    assert.ok(found instanceof Decimal);
+  }
+  for (let cents = -250; cents <= 250; cents++) assert.equal(`${fractionToDecimal([cents, 100], 2)}`, (cents / 100).toFixed(2));
+  assert.deepEqual({...fractionToDecimal('-1/20', 2)}, {isNegative: true, whole: 0n, part: 5n});
+  assert.equal(JSON.stringify({price: fractionToDecimal('1/20', 2)}), '{"price":"0.05"}');
+  assert.throws(() => fractionToDecimal('1/20', 2) + 1, TypeError);
+  assert.throws(() => fractionToDecimal('1/20', 2) < fractionToDecimal('1/10', 2), TypeError);
+  assert.throws(() => fractionToDecimal('1/20', 19), {status: Status.OUTSIDE});
+  const columns = fractionToDecimal({num: BigInt64Array.of(-1n, 1234n), den: BigInt64Array.of(20n, 5n)}, 2);
+  assert.deepEqual(columns, {isNegative: Uint8Array.of(1, 0), whole: BigUint64Array.of(0n, 246n), part: BigUint64Array.of(5n, 80n), status: Uint8Array.of(0, 0)});
+});
+
+test('a text that is no date is refused with NO_DATE by every call', () => {
+  const names = Object.keys(CALLS).filter((name) => CALLS[name][0][1].includes(':Date')), texts = ['31.01.2024', '2024-02-30', '2024-2-09', '02024-02-09', '+2024-02-09',
+    '10000-01-01', '', 'hello', '+9223372036854775808-01-01'];
+  assert.ok(names.length > 6);
+  for (const name of names) for (const text of texts) {
+    const given = CALLS[name][0][1].split(' ').map((it) => it.endsWith(':Date') ? text : 1);
+    assert.throws(() => calls[name](...given), {name: 'Refused', status: Status.NO_DATE, code: 'NO_DATE'});
+    assert.deepEqual(calls[ofTry(name)](...given), {status: Status.NO_DATE, value: undefined});
+  }
+  for (const text of texts) for (const made of [() => PlainDate.from(text), () => calls.dateFromText(text)]) assert.throws(made, {code: 'NO_DATE'});
+});
+
+test('a date exists, is frozen, and is compared', () => {
+  for (const given of [[2024n, 13, 99], [2023, 2, 29], [2024, 0, 1], [2024, 1, 300]]) assert.throws(() => new PlainDate(...given), {status: Status.NO_DATE});
+  assert.throws(() => new PlainDate(2024, 1.5, 1), TypeError);
+  const date = new PlainDate(2024, 2n, 29);
+  assert.deepEqual({...date}, {year: 2024n, month: 2, day: 29});
+  for (const each of [date, plusMonths(date, 1), Fraction.from('1/2'), new Fraction(2, 4), fractionToDecimal('1/2', 1)]) {
+    assert.ok(Object.isFrozen(each));
+    assert.throws(() => { each.year = each.num = each.whole = 5n; }, TypeError);
+  }
+  assert.throws(() => new Fraction(1n, 0n), {status: Status.ZERO_DENOMINATOR});
+  assert.throws(() => new Decimal(false, 1n, 5n, 1), TypeError);
+  assert.equal(`${new Fraction(2, 4)}`, '1/2');
+  const dates = ['2024-03-01', '-0001-12-31', '+12000-01-01', '2024-02-29', '2023-12-31'].map(PlainDate.from);
+  assert.equal(String(dates.sort(PlainDate.compare)), '-0001-12-31,2023-12-31,2024-02-29,2024-03-01,+12000-01-01');
+  assert.equal(PlainDate.compare('2024-02-29', date), 0);
+  assert.ok(date.equals('2024-02-29') && date.equals([2024, 2, 29]) && !date.equals('2024-03-01'));
+  assert.throws(() => date.equals('hello'), {code: 'NO_DATE'});
+  assert.equal(JSON.stringify({date}), '{"date":"2024-02-29"}');
+});
+
+test('an operator says what to write, and that works', () => {
+  const date = PlainDate.from('2024-02-29'), half = Fraction.from('1/2'), price = fractionToDecimal('1/20', 2);
+  assert.throws(() => 'due ' + date, {name: 'TypeError', message: 'a date has no + and no ==: write plusDays(date, days) or date.equals(other), or `${date}` for its text'});
+  assert.equal(`due ${date}, ${calls.plusDays(date, 1)}, ${date.equals(date)}`, 'due 2024-02-29, 2024-03-01, true');
+  assert.throws(() => date < date, {name: 'TypeError', message: 'a date has no < and no -: write PlainDate.compare(a, b) or daysBetween(a, b)'});
+  assert.throws(() => date - date, /daysBetween/);
+  for (const made of [() => half + half, () => half == 1]) assert.throws(made, /fractionAdd\(a, b\) or fractionCmp/);
+  for (const made of [() => half < half, () => +half, () => half - half]) assert.throws(made, /fractionCmp\(a, b\) or fractionSub/);
+  for (const made of [() => price + 1, () => price < price, () => price.valueOf(), () => half.valueOf(), () => date.valueOf()]) assert.throws(made, TypeError);
+  assert.equal(`${half} ${price} ${[half, date]}`, '1/2 0.05 1/2,2024-02-29');
+});
+
+test('a date of Temporal is one of its calendar iso8601', () => {
+  const temporal = (calendarId, year) => new class { get calendarId() { return calendarId; } get year() { return year; } get month() { return 1; } get day() { return 31; } }();
+  assert.equal(`${plusMonths(temporal('iso8601', 2024), 1)} ${PlainDate.from(temporal('iso8601', 2024))}`, '2024-02-29 2024-01-31');
+  for (const [calendar, year] of [['buddhist', 2567], ['hebrew', 5784], ['islamic-umalqura', 1445], ['roc', 113], ['gregory', 2024]]) {
+    const date = temporal(calendar, year), columns = {calendarId: calendar, year: BigInt64Array.of(2567n), month: 1, day: 31};
+    for (const made of [() => plusMonths(date, 1), () => tryPlusMonths(date, 1), () => daysBetween('2024-03-01', date), () => PlainDate.from(date), () => plusMonths(columns, 1)]) {
+      assert.throws(made, (error) => error instanceof TypeError && error.message.includes(`"${calendar}"`) && error.message.includes("withCalendar('iso8601')"));
+    }
+  }
+});
+
+test('an error has the name of the call, the parameter and the value in quotes', () => {
+  for (const [made, message] of [
+    [() => plusMonths('2024-02-30', 1), 'plusMonths: NO_DATE: date is "2024-02-30", which is no date such as 2024-02-29'],
+    [() => daysBetween('2024-01-01', 'x'), 'daysBetween: NO_DATE: to is "x", which is no date such as 2024-02-29'],
+    [() => plusMonths([2024, 2, 30], 1), 'plusMonths: NO_DATE: there is no such date'],
+    [() => PlainDate.from('x'), 'PlainDate.from: NO_DATE: value is "x", which is no date such as 2024-02-29'],
+    [() => new PlainDate(2024, 13, 99), 'PlainDate: NO_DATE: there is no such date'],
+    [() => fractionAdd('1/2', 'x/y'), 'fractionAdd: OUTSIDE: b is "x/y", which is no fraction such as -3/4 or -0.75'],
+    [() => fractionAdd('1/0', 1), 'fractionAdd: ZERO_DENOMINATOR: a is "1/0": the denominator of a fraction is 0, or a divisor of fractions is'],
+    [() => gcd('12', 18), 'gcd: x is "12", which is neither a BigInt nor a safe integer'],
+    [() => gcd(12, 1.5), 'gcd: y is 1.5, which is no safe integer'],
+    [() => calls.tryGcd(12, null), 'tryGcd: y is null, which is neither a BigInt nor a safe integer'],
+    [() => gcd(2n ** 64n, 1), 'gcd: NOT_FITTING: x is 18446744073709551616, which is out of range'],
+    [() => gcd(-1, 2n ** 63n), 'gcd: NOT_FITTING: one number is negative, and another is 2^63 or more'],
+    [() => powerModulo(2, -1, 7), 'powerModulo: OUTSIDE: exponent is -1, which is out of range'],
+    [() => lcm(-(2n ** 62n), 3), 'lcm: NOT_FITTING: the result does not fit its type, or a part of a fraction, once reduced, does not'],
+    [() => gcdOf([4, 6, '8']), 'gcdOf: numbers[2] is "8", which is neither a BigInt nor a safe integer'],
+    [() => shares(100, 3), 'shares: weights is 3, which is no list'],
+    [() => divModFloor(1), 'divModFloor takes x, y'],
+    [() => calls.nextCommonSolutionOf(10, [[1, 4], [3]]), 'nextCommonSolutionOf: congruences[1] is [3], which has not the parts residue, modulus'],
+    [() => gcd(BigInt64Array.of(1n), new Int32Array(1)), 'gcd: the items of the arrays have different types, or are no integers of 64 bits'],
+  ]) assert.throws(made, {message});
+});
+
+test('a row of a table is an object like any other', () => {
+  const row = {year: 2024, month: 1, day: 31, num: 1, den: 2, blob: Buffer.from('x')};
+  assert.equal(`${plusMonths(row, 1)} ${fractionAdd(row, row)} ${daysBetween(row, [2024, 2, 1])}`, '2024-02-29 1 1');
+  assert.throws(() => gcd(row, 1), TypeError);
+});
+
+test('a decimal text is read exactly', () => {
+  for (const [text, fraction] of [['19.99', '1999/100'], ['-0.05', '-1/20'], ['12', '12'], ['0', '0'], ['-0.0', '0'], ['1.5000', '3/2'], [`1.${'0'.repeat(500)}`, '1'],
+    ['007.250', '29/4'], ['9223372036854775807', '9223372036854775807'], ['-9223372036854775808.000', '-9223372036854775808'], ['0.000000000000000001', '1/1000000000000000000'],
+    ['0.0000019073486328125', '1/524288'], [`0.${String(5n ** 62n).padStart(62, '0')}`, `1/${2n ** 62n}`]]) {
+    assert.equal(`${fractionFromDecimal(text)}`, fraction, text);
+    assert.equal(`${tryFractionFromDecimal(text).value}`, fraction);
+    assert.equal(`${Fraction.from(text)}`, fraction);
+  }
+  for (let cents = -250; cents <= 250; cents++) assert.equal(fractionCmp(fractionFromDecimal((cents / 100).toFixed(2)), [cents, 100]), 0);
+  for (const text of ['9223372036854775808', '0.0000000000000000001', `0.${'3'.repeat(2000)}`, '9'.repeat(5000), '-9223372036854775808.5', `0.${String(5n ** 63n).padStart(63, '0')}`]) {
+    assert.throws(() => fractionFromDecimal(text), {status: Status.NOT_FITTING}, text);
+    assert.deepEqual(tryFractionFromDecimal(text), {status: Status.NOT_FITTING, value: undefined});
+  }
+  for (const [text, reason] of [['1,999.00', 'a group separator or a decimal comma'], ['19,99', 'a group separator or a decimal comma'], ["1'000.5", 'a group separator or a decimal comma'],
+    ['1 000', 'a group separator or a decimal comma'], ['1e3', 'an exponent'], ['1.5E-3', 'an exponent'], ['$19.99', 'a currency or another word'], ['19.99 EUR', 'a currency or another word'],
+    ['', ''], ['.5', ''], ['5.', ''], ['--1', ''], ['+12', ''], ['1/2', ''], ['1.2.3', ''], ['Infinity', 'a currency or another word'], ['٣', '']]) {
+    const message = `fractionFromDecimal: OUTSIDE: text is ${JSON.stringify(text)}, which is no decimal number such as -19.99${reason && `: it has ${reason}`}`;
+    assert.throws(() => fractionFromDecimal(text), {code: 'OUTSIDE', message});
+    assert.deepEqual(tryFractionFromDecimal(text), {status: Status.OUTSIDE, value: undefined});
+  }
+  for (const given of [[19.99], [], ['1', '2'], [null]]) assert.throws(() => fractionFromDecimal(...given), TypeError);
+  assert.equal(`${fractionAdd('19.99', '0.01')} ${fractionToDecimal('19.99', 2)}`, '20 19.99');
+  assert.throws(() => fractionAdd('1,999.00', 1), {message: 'fractionAdd: OUTSIDE: a is "1,999.00", which is no decimal number such as -19.99: it has a group separator or a decimal comma'});
+});
+
+test('a list, or any count of numbers', () => {
+  assert.deepEqual([gcd(12, 18, 27n), gcd([12, 18]), gcd(12), gcd(), gcd(-12), gcd(BigInt64Array.of(12n, 18n)), gcd(new Set([8, 12]))], [3n, 6n, 12n, 0n, 12n, 6n, 4n]);
+  assert.deepEqual([lcm(4, 6, 10), lcm([4, 6, 10]), lcm(), gcdOf(12, 18), gcdOf(5), gcdOf(), calls.lcmOf(4, 6), calls.sumOf(1, 2, 3), calls.sumOf([1, 2, 3]), calls.sumOf()],
+    [60n, 60n, 1n, 6n, 5n, 0n, 12n, 6n, 6n, 0n]);
+  assert.deepEqual([calls.tryGcd(12, 18, 27), calls.tryLcm([4, 6]), calls.trySumOf(2n ** 63n, 2n ** 63n).status], [{status: 0, value: 3n}, {status: 0, value: 12n}, Status.NOT_FITTING]);
+  assert.throws(() => calls.sumOf(2n ** 64n - 1n, 1), {status: Status.NOT_FITTING});
+});
+
+test('a result that is always below 2^53 is a number, and another is a BigInt', () => {
+  const large = new Map(), kinds = new Map(); // of each number of a result: whether one is beyond 2^53, and its types
+  const look = (place, x) => {
+    large.set(place, large.get(place) || BigInt(x) > 2n ** 53n || BigInt(x) < -(2n ** 53n));
+    kinds.set(place, new Set([...kinds.get(place) ?? [], typeof x]));
+  };
+  const leaves = (place, value) => typeof value === 'boolean' ? undefined : typeof value !== 'object' ? look(place, value)
+    : Array.isArray(value) ? value.forEach((it) => leaves(`${place}[]`, it)) : Object.entries(value).forEach(([name, it]) => leaves(`${place}.${name}`, it));
+  for (const [name, given] of [...found.filter((row) => row[1] === '').map(([name, , given]) => [camel(name), given]), ...LARGE]) {
+    const {status, value} = calls[ofTry(name)](...CALLS[name][0][1].includes('[u8]') ? given : given.map(argument));
+    if (status === 0) leaves(name, value);
+  }
+  assert.deepEqual([...kinds].filter(([, types]) => types.size !== 1), []);
+  assert.deepEqual([...kinds].filter(([place, [type]]) => (type === 'bigint') !== large.get(place)), []);
+  const seen = new Set([...kinds.keys()].map((place) => place.split(/[.[]/)[0]));
+  assert.deepEqual(Object.keys(CALLS).filter((name) => !seen.has(name) && CALLS[name][0][2] !== 'bool'), []);
+  const types = readFileSync(`${folder}/cellarcove.d.ts`, 'utf8');
+  for (const [place, [type]] of kinds) {
+    const [, name, leaf] = /^(\w+)(?:\[\])?(?:\.(\w+))?$/.exec(place), said = new RegExp(`^export function ${name}\\(.*\\): (.*);$`, 'm').exec(types)[1];
+    if (!/^(Fraction|PlainDate|Decimal)$/.test(said)) assert.match(said, leaf ? new RegExp(`\\b${leaf}: ${type}\\b`) : new RegExp(`^${type}\\b`), place);
+  }
+  assert.deepEqual([calls.daysInMonth(2024, 2), calls.weekdayOfDate('2024-03-02'), calls.dayOfYear('2024-12-31'), calls.ilog(1000, 10), calls.sqrt(144), calls.cbrt(-27), calls.sqrtRem(150)],
+    [29, 6, 366, 3, 12, -3, {root: 12, rest: 6}]);
+  assert.deepEqual([calls.sqrt(2n ** 64n - 1n), calls.cbrt(2n ** 64n - 1n), calls.cbrt(-(2n ** 63n)), calls.sqrtRem(2n ** 64n - 1n), calls.ilog(2n ** 64n - 1n, 2)],
+    [4294967295, 2642245, -2097152, {root: 4294967295, rest: 8589934590}, 63]);
+  assert.deepEqual(calls.sqrtRem(BigUint64Array.of(2n ** 64n - 1n, 150n)), {root: Uint32Array.of(4294967295, 12), rest: Float64Array.of(8589934590, 6), status: Uint8Array.of(0, 0)});
+  assert.deepEqual(calls.cbrt(BigInt64Array.of(-27n, -(2n ** 63n))), Int32Array.of(-3, -2097152));
+  assert.deepEqual(calls.dayOfYear({year: BigInt64Array.of(2024n), month: 12, day: 31}).value, Uint16Array.of(366));
+});
+
+test('odd cents', () => {
+  assert.deepEqual(shares(1002, [1, 1, 1, 1]), [251n, 250n, 251n, 250n]);
+  assert.deepEqual(sharesByLargestRemainder(1002, [1, 1, 1, 1]), [251n, 251n, 250n, 250n]);
+});
+
+test('an array decides by its type, and a number by what fits', () => {
+  assert.deepEqual(lcm(BigInt64Array.of(2n ** 62n), 3), {value: BigInt64Array.of(0n), status: Uint8Array.of(Status.NOT_FITTING)});
+  assert.deepEqual(lcm(BigUint64Array.of(2n ** 62n), 3), {value: BigUint64Array.of(3n * 2n ** 62n), status: Uint8Array.of(0)});
+  assert.equal(lcm(2n ** 62n, 3), 3n * 2n ** 62n);
+  assert.equal(lcm(-(2n ** 62n), 1), 2n ** 62n);
+  assert.throws(() => lcm(-(2n ** 62n), 3), {status: Status.NOT_FITTING});
 });
 
 test('arrays', () => {
@@ -96,7 +289,7 @@ test('arrays', () => {
   assert.deepEqual(gcdOf(BigUint64Array.of(12n, 18n)), 6n);
   assert.deepEqual(shares(-100, Uint8Array.of(1, 1, 1)), [-34n, -33n, -33n]);
   assert.equal(gcdOf((function* numbers() { yield tryLcm(2n ** 64n, 1).status; yield 4; })()), 2n); // a call within a call
-  for (const given of [[x, BigUint64Array.of(1n, 1n, 1n)], [x, BigInt64Array.of(1n)], [new Int32Array(3), 1], [new Float64Array(3), 1], [x, 1.5], [x], [x, [1]]]) {
+  for (const given of [[x, BigUint64Array.of(1n, 1n, 1n)], [x, BigInt64Array.of(1n)], [new Int32Array(3), 1], [new Float64Array(3), 1], [x, 1.5], [x, x, x], [x, [1]]]) {
     assert.throws(() => gcd(...given), TypeError);
   }
   assert.throws(() => gcd(x, 2n ** 63n), {status: Status.NOT_FITTING});
@@ -114,6 +307,22 @@ for (const name of ['README.md', 'docs/JAVASCRIPT.md', 'docs/COOKBOOK.md', 'bind
       value = String(error);
     }
     assert.equal(value, said);
+  }
+});
+
+test('a module is loaded at once, by require too, and with the bytes inside', async () => {
+  const require = createRequire(import.meta.url), loaded = process.features.require_module ? require(`${folder}/cellarcove.js`) : cellarcove;
+  assert.equal(loaded.gcd, gcd);
+  assert.equal(await ready, undefined);
+  if (BUILT_BY === 'cargo') assert.equal((await import(`${folder}/inline.js?alone`)).gcd(12, 18), 6n);
+  const runtime = await import(`${folder}/runtime.js?alone`);
+  assert.throws(() => runtime.call('gcd', CALLS.gcd)(12, 18), {message: 'cellarcove.wasm is not loaded yet: await ready before the first call'});
+  const {start} = await import(`${folder}/runtime.js?other`), memory = new WebAssembly.Memory({initial: 2});
+  assert.throws(() => start({exports: {memory, cellarcove_gcd_i64: () => 0, cellarcove_built_by: {}}}), /cellarcove\.wasm/);
+  const names = JSON.parse(readFileSync(`${folder}/package.json`, 'utf8')).exports;
+  for (const {default: file} of [names['.'], names['./inline'], names['./proved']]) assert.ok(statSync(`${folder}/${file}`).isFile());
+  if (folder !== fileURLToPath(new URL('..', import.meta.url)).slice(0, -1)) for (const file of readdirSync(folder)) {
+    if (statSync(`${folder}/${file}`).isFile()) assert.equal(statSync(`${folder}/${file}`).mode & 0o777, 0o644, file);
   }
 });
 

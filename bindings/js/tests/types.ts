@@ -1,5 +1,5 @@
 // What compiles, and what does not: each line below `@ts-expect-error` has an error.
-import {easter, fractionAdd, gcd, gcdOf, isLeapYear, isoWeek, nextCommonSolutionOf, nthRoot, PlainDate, plusMonths, Refused, shares, Status, tryLcm, weekday} from 'cellarcove';
+import {cbrt, dayOfYear, daysInMonth, Decimal, easter, Fraction, fractionFromDecimal, ilog, lcm, ready, sqrtRem, sumOf, tryFractionFromDecimal, tryGcd, weekdayOfDate, fractionAdd, fractionToDecimal, gcd, gcdOf, isLeapYear, isoWeek, nextCommonSolutionOf, nthRoot, PlainDate, plusMonths, Refused, shares, Status, tryLcm, weekday} from 'cellarcove';
 
 const attempt = tryLcm(1, 2);
 const a: bigint = gcd(12n, 18);
@@ -40,7 +40,33 @@ const l: bigint = nextCommonSolutionOf(10, [[1, 4], {residue: 3, modulus: 6}]);
 nextCommonSolutionOf(10, [1, 4]);
 const m: number = weekday(4) + easter(2024).day;
 // @ts-expect-error
-new PlainDate(2024, 1, 1);
+new PlainDate('2024-01-01');
 const n: 1 | 2 | 3 | 4 | 5 | 6 = new Refused(Status.NO_DATE).status;
 // @ts-expect-error
 new Refused(0);
+const o: Decimal = fractionToDecimal('1/20', 2);
+// @ts-expect-error
+const x15: string = fractionToDecimal('1/20', 2);
+const q: BigUint64Array = fractionToDecimal({num: BigInt64Array.of(1n), den: 20}, 2).part;
+// @ts-expect-error
+new Decimal(true, 0n, 5n, 2);
+const r: number = daysInMonth(2024, 2) + weekdayOfDate(d) + ilog(1000, 10) + dayOfYear(d) + sqrtRem(150).rest + cbrt(27);
+// @ts-expect-error
+const x17: bigint = daysInMonth(2024, 2);
+const s: Uint8Array = daysInMonth(BigInt64Array.of(2024n), 2).value;
+const t: -1 | 0 | 1 = PlainDate.compare(d, new PlainDate(2024, 1n, 31));
+// @ts-expect-error
+PlainDate.compare(d);
+const u: PlainDate[] = [d, easter(2024)].sort(PlainDate.compare);
+const v: bigint = gcd(1, 2, 3) + gcd([1, 2n]) + lcm() + sumOf(1, 2) + gcdOf(1, 2);
+// @ts-expect-error
+gcd(1, 2, '3');
+const w: Fraction = fractionFromDecimal('19.99');
+// @ts-expect-error
+fractionFromDecimal(19.99);
+const y: boolean = d.equals('2024-01-31') && tryFractionFromDecimal('1').status === 0 && tryGcd(1, 2, 3).status === 0;
+const z: Promise<void> = ready, code: string = new Refused(Status.NO_DATE).code;
+// @ts-expect-error
+new Refused(Status.NO_DATE).code === 'ANSWER';
+// @ts-expect-error
+d.month = 5;

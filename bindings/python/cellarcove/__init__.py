@@ -20,23 +20,22 @@ result. What is true or false is a `memoryview` of bools, which numpy takes for 
 the results are arrays of numpy. The GIL is free meanwhile.
 """
 
-import array
+from __future__ import annotations
+
 import datetime
 import enum
 import operator
-import re
-from collections.abc import Iterable
 from decimal import Decimal
 from fractions import Fraction
-from typing import NamedTuple, Protocol, SupportsIndex
+from typing import Any, NamedTuple, NoReturn, Protocol, SupportsIndex, Union, overload
 
-from . import _calls
+from . import _calls, _columns
 from ._calls import *
 
 __version__ = _calls.VERSION
 __all__ = [
     'BUILT_BY', 'Date', 'DivisionByZero', 'ExtendedGcd', 'IsoWeek', 'NotFitting', 'Refused', 'Solutions', 'Status',
-    'SupportsDate', 'SupportsFraction', 'Weekday',
+    'SupportsColumn', 'SupportsDate', 'SupportsFraction', 'Weekday',
 ]
 __all__ += _calls.__all__
 
@@ -48,6 +47,7 @@ _RANGES = {
     'H': 'from 0 to 2**16 - 1', 'B': 'from 0 to 255',
 }
 _SHOWN = 10**40  # a number in a message is below this
+_Index = Union[int, tuple[int, ...]]
 
 
 class Status(enum.IntEnum):
@@ -75,9 +75,9 @@ class Refused(ValueError):
         Status.NO_DATE: 'there is no such date',
     }
 
-    def __init__(self, status: int) -> None:
+    def __init__(self, status: int, index: _Index | None = None, count: int | None = None) -> None:
         # the arguments of an exception are what `pickle` and `copy` make it of again
-        super().__init__(Status(status))
+        super().__init__(Status(status), *(() if index is None else (index, count)))
 
     @property
     def status(self) -> Status:
@@ -85,8 +85,19 @@ class Refused(ValueError):
         status: Status = self.args[0]
         return status
 
+    @property
+    def index(self) -> _Index | None:
+        """The first element of a column that has no result."""
+        return self.args[1] if len(self.args) > 1 else None
+
+    @property
+    def count(self) -> int | None:
+        """How many elements of a column have no result."""
+        return self.args[2] if len(self.args) > 1 else None
+
     def __str__(self) -> str:
-        return f'{self.status.name}: {self._reasons[self.status]}'
+        others = '' if self.index is None else f', in the element {self.index}; {self.count} in all have no result'
+        return f'{self.status.name}: {self._reasons[self.status]}{others}'
 
 
 class DivisionByZero(Refused, ZeroDivisionError):
@@ -119,6 +130,14 @@ class SupportsDate(Protocol):
     def day(self) -> int: ...
 
 
+class SupportsColumn(Protocol):
+    """A column: an array of numpy or of dask, or a `Series` of pandas. An `array.array` and a `memoryview` are columns too."""
+
+    @property
+    def dtype(self) -> Any: ...
+    def __len__(self) -> int: ...
+
+
 class ExtendedGcd(NamedTuple):
     """The greatest common divisor, and coefficients with which the two numbers add up to it."""
 
@@ -142,6 +161,8 @@ class IsoWeek(NamedTuple):
 
     def __str__(self) -> str:
         """The week as `2026-W05`. The year has a sign if it is not from 0 to 9999."""
+        if not isinstance(self.year, int):
+            return repr(self)  # of columns
         year = f'{self.year:04}' if 0 <= self.year <= 9999 else f'{self.year:+05}'
         return f'{year}-W{self.week:02}'
 
@@ -175,34 +196,142 @@ class _Tuple(tuple[int, ...]):
     __slots__ = ()
 
 
-class Date(_calls.Dates):
+class Date:
     """A date of the proleptic Gregorian calendar, of any year from -2**63 to 2**63 - 1. The year before year 1 is year 0.
 
     Raises `Refused` with `NO_DATE` if there is no such date. Dates are in the order of their days. `date + days` is a date, and
     `date - other` the number of days between two.
     """
 
-    __slots__ = ()
+    __slots__ = __match_args__ = ('year', 'month', 'day')
+    __array_ufunc__ = None  # an operator with an array of numpy is an error, or that of this class
 
-    @classmethod
-    def _make(cls, iterable: Iterable[SupportsIndex]) -> 'Date':  # type: ignore[override]
-        """A date of its year, month and day. `_replace` and `copy.replace` call it."""
-        parts = tuple(iterable)
-        if len(parts) != len(cls._fields):
-            raise TypeError(f'a date has {len(cls._fields)} parts, and not {len(parts)}')
-        return cls(*parts)
+    year: int
+    month: int
+    day: int
 
-    @classmethod
-    def _read(cls, text: str) -> 'Date':
-        """The date of a text: `fromisoformat` calls it if the year has not four digits, or something is wrong."""
-        parts = re.fullmatch('([+-]?[0-9]+)-([0-9]{2})-([0-9]{2})', text)
-        date = cls(*map(int, parts.groups())) if parts else None
-        if date is None or date.isoformat() != text:
-            raise ValueError(f'no date as `isoformat` writes it: {text[:40]!r}')
+    def __new__(cls, year: SupportsIndex, month: SupportsIndex, day: SupportsIndex) -> Date:
+        if not type(year) is type(month) is type(day) is int:
+            year, month, day = map(operator.index, (year, month, day))
+        try:
+            made = _calls.plus_days((year, month, day), 0)
+        except OverflowError:
+            if not -2**63 <= year < 2**63:
+                raise
+            raise Refused(Status.NO_DATE) from None
+        if cls is Date:
+            return made
+        date = object.__new__(cls)
+        for part in cls.__match_args__:
+            object.__setattr__(date, part, getattr(made, part))
         return date
 
+    def __setattr__(self, name: str, value: object) -> NoReturn:
+        raise AttributeError(f'a date does not change: {name} is set by `replace`')
+
+    def __delattr__(self, name: str) -> NoReturn:
+        raise AttributeError('a date does not change')
+
+    def __reduce__(self) -> tuple[type, tuple[int, int, int]]:
+        return type(self), (self.year, self.month, self.day)
+
+    def __repr__(self) -> str:
+        return f'{type(self).__qualname__}(year={self.year}, month={self.month}, day={self.day})'
+
+    def __hash__(self) -> int:
+        return hash((self.year, self.month, self.day))
+
+    def __eq__(self, other: object) -> bool:
+        if not isinstance(other, Date):
+            return NotImplemented
+        return self.day == other.day and self.month == other.month and self.year == other.year
+
+    def __lt__(self, other: Date) -> bool:
+        if not isinstance(other, Date):
+            return NotImplemented
+        return (self.year, self.month, self.day) < (other.year, other.month, other.day)
+
+    def __le__(self, other: Date) -> bool:
+        if not isinstance(other, Date):
+            return NotImplemented
+        return (self.year, self.month, self.day) <= (other.year, other.month, other.day)
+
+    def __gt__(self, other: Date) -> bool:
+        if not isinstance(other, Date):
+            return NotImplemented
+        return (self.year, self.month, self.day) > (other.year, other.month, other.day)
+
+    def __ge__(self, other: Date) -> bool:
+        if not isinstance(other, Date):
+            return NotImplemented
+        return (self.year, self.month, self.day) >= (other.year, other.month, other.day)
+
+    def __add__(self, days: SupportsIndex) -> Date:
+        if type(days) is int:
+            return _calls.plus_days(self, days)
+        count = _count_of_days(days)
+        if count is None:
+            return NotImplemented
+        return _calls.plus_days(self, count)
+
+    __radd__ = __add__
+
+    @overload
+    def __sub__(self, other: SupportsIndex) -> Date: ...
+    @overload
+    def __sub__(self, other: SupportsDate) -> int: ...
+    def __sub__(self, other: Any) -> Date | int:
+        if _is_date(other):
+            days: int = _calls.days_between(other, self)
+            return days
+        count = _count_of_days(other)
+        if count is None:
+            return NotImplemented
+        return _calls.plus_days(self, -count)
+
+    def __rsub__(self, other: SupportsDate) -> int:
+        if not _is_date(other):
+            return NotImplemented
+        return _calls.days_between(self, other)
+
+    def __str__(self) -> str:
+        year = f'{self.year:04}' if 0 <= self.year <= 9999 else f'{self.year:+05}'
+        return f'{year}-{self.month:02}-{self.day:02}'
+
+    def __format__(self, spec: str) -> str:
+        """The date as `isoformat` writes it, padded, or as `strftime` if the text has a `%`."""
+        return self.strftime(spec) if '%' in spec else format(str(self), spec)
+
+    def isoformat(self) -> str:
+        """The date as `2000-02-29`; the year has a sign if it is not from 0 to 9999."""
+        return str(self)
+
     @classmethod
-    def from_date(cls, date: datetime.date) -> 'Date':
+    def fromisoformat(cls, text: str) -> Date:
+        """The date that `isoformat` writes so. Raises `Refused` with `NO_DATE`, a `ValueError`, if there is none."""
+        date = _calls.date_from_text(text)
+        return date if cls is Date else cls(date.year, date.month, date.day)
+
+    def strftime(self, format: str) -> str:
+        """What `datetime.date.strftime` writes. Raises `OverflowError` if the year is not from 1 to 9999."""
+        return self.to_date().strftime(format)
+
+    def replace(self, year: SupportsIndex | None = None, month: SupportsIndex | None = None, day: SupportsIndex | None = None) -> Date:
+        """The date with another year, month or day."""
+        return type(self)(self.year if year is None else year, self.month if month is None else month, self.day if day is None else day)
+
+    __replace__ = replace
+
+    def weekday(self) -> Weekday:
+        """The day of the week. That of `datetime.date` is a number from 0 for Monday to 6 for Sunday."""
+        return _WEEKDAYS[_calls.weekday_of_date(self) - 1]
+
+    def isoweekday(self) -> int:
+        """The day of the week, from 1 for Monday to 7 for Sunday, as that of `datetime.date`."""
+        return _calls.weekday_of_date(self)
+
+    @classmethod
+    def from_date(cls, date: datetime.date) -> Date:
         """The same date as one of `datetime`."""
         return cls(date.year, date.month, date.day)
 
@@ -213,21 +342,40 @@ class Date(_calls.Dates):
         return datetime.date(self.year, self.month, self.day)
 
 
-def _refusal(status: int, by_zero: bool) -> Refused:
-    if status == Status.NOT_FITTING:
-        return NotFitting(status)
-    if status == Status.ZERO_DENOMINATOR or by_zero:
-        return DivisionByZero(status)
-    return Refused(status)
+def _count_of_days(value: Any) -> int | None:
+    """The number of days that an operator has beside a date: an integer, or a `timedelta64[D]` of numpy."""
+    if _columns.is_column(value):
+        return None
+    try:
+        count: int = _columns.cell('Date', 'days', value).value
+        return count
+    except TypeError:
+        return None
 
 
-def _out_of_range(number: SupportsIndex, kind: str) -> OverflowError:
+def _is_date(value: object) -> bool:
+    """Whether what an operator has beside a date is a date too."""
+    return isinstance(value, (Date, datetime.date)) or _columns.unit(value) == 'M8[D]' and not _columns.is_column(value)
+
+
+_WEEKDAYS = tuple(Weekday)
+
+
+def _refusal(status: int, by_zero: bool, index: _Index | None = None, count: int | None = None) -> Refused:
+    kind = NotFitting if status == Status.NOT_FITTING else DivisionByZero if status == Status.ZERO_DENOMINATOR or by_zero else Refused
+    return kind(status, index, count)
+
+
+def _out_of_range(number: SupportsIndex, kind: str, place: int | None = None) -> OverflowError:
     number = operator.index(number)
     shown = str(number) if abs(number) < _SHOWN else f'a number of {number.bit_length()} bits'
-    return OverflowError(f'{shown} is not {_RANGES[kind]}')
+    return OverflowError(f'{shown} is not {_RANGES[kind]}' + ('' if place is None else f', in the element {place}'))
 
 
+_columns.refusal, _columns.out_of_range = _refusal, _out_of_range
+_columns.classes = {'Weekday': Weekday, 'ExtendedGcd': ExtendedGcd, 'Solutions': Solutions, 'IsoWeek': IsoWeek}
 _calls._install({
-    'refusal': _refusal, 'out_of_range': _out_of_range, 'Fraction': Fraction, 'Decimal': Decimal, 'Tuple': _Tuple, 'array': array.array,
-    'Date': Date, 'ExtendedGcd': ExtendedGcd, 'Solutions': Solutions, 'IsoWeek': IsoWeek, 'Weekday': Weekday, 'weekdays': tuple(Weekday),
+    'refusal': _refusal, 'out_of_range': _out_of_range, 'call': _columns.call, 'items': _columns.items, 'Fraction': Fraction,
+    'Decimal': Decimal, 'Tuple': _Tuple, 'Date': Date, 'ExtendedGcd': ExtendedGcd, 'Solutions': Solutions, 'IsoWeek': IsoWeek,
+    'Weekday': Weekday,
 })

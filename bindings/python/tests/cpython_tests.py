@@ -78,7 +78,7 @@ class Day(datetime.date):
 
     @classmethod
     def fromordinal(cls, ordinal):
-        return cls(*cellarcove.date_from_day(ordinal - DAY_0))
+        return cls.of(cellarcove.date_from_day(ordinal - DAY_0))
 
     def weekday(self):
         return self.isoweekday() - 1
@@ -91,7 +91,7 @@ class Day(datetime.date):
 
     @classmethod
     def fromisocalendar(cls, year, week, day):
-        return cls(*cellarcove.date_from_iso_week(year, week, day))
+        return cls.of(cellarcove.date_from_iso_week(year, week, day))
 
     def isoformat(self):
         return cellarcove.Date.from_date(self).isoformat()
@@ -104,7 +104,7 @@ class Day(datetime.date):
 
     @classmethod
     def of(cls, date):
-        return cls(date.year, date.month, date.day)
+        return date if date is BEYOND else cls(date.year, date.month, date.day)
 
     def __add__(self, other):
         return self.later(other.days) if isinstance(other, datetime.timedelta) else NotImplemented

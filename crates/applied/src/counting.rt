@@ -36,7 +36,7 @@ pub fn factorial<T: Integer + Copy>(n: T) -> T
 ///
 /// # Panics
 ///
-/// In plain Rust, if `n` or `k` is negative, or if the factorial does not fit.
+/// In plain Rust, if `n` or `k` is negative, or if the falling factorial does not fit.
 #[tactic(auto, using(num_integer::proofs::ForCallers::linear, crate::proofs::FallingFactorials::falling_is, crate::proofs::FallingFactorials::falling_of_none, crate::proofs::FallingFactorials::others_fit))]
 pub fn falling<T: Integer + Copy>(n: T, k: T) -> T
     requires in_range { T.fits (T.value n) × T.fits (T.value k) }

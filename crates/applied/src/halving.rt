@@ -7,8 +7,8 @@ ghost use Rattle.std.specs.Ordering.{int_cmp};
 use num_integer::operators::is_below;
 use num_integer::{Average, Integer, average_floor};
 
-/// Returns the midpoint of two numbers in either order, rounded down. It never overflows.
-/// `midpoint(2, 5)` is `3`, and `midpoint(-2, -5)` is `-4`.
+/// Returns the midpoint of two numbers in either order, rounded down. Their sum need not fit.
+/// `midpoint(2, 5)` is `3`, `midpoint(-2, -5)` is `-4`, and `midpoint(100i8, 120)` is `110`.
 pub fn midpoint<T: Average>(a: T, b: T) -> T
     requires in_range { T.fits (T.value a) × T.fits (T.value b) }
     ensures in_range { T.fits (T.value result) }

@@ -15,7 +15,7 @@ use num_integer::guards::some;
 /// `gcd_of(&[12, 18, 8])` is `2`, `gcd_of(&[-4, 0])` is `4`, and `gcd_of::<i64>(&[])` is `0`.
 ///
 /// [`checked::gcd_of`](crate::lists::checked::gcd_of) returns `None` if the result does not fit. In an unsigned
-/// type it always fits.
+/// type it fits: `gcd_of(&[u8::MAX, 0])` is `255`.
 ///
 /// # Panics
 ///

@@ -84,8 +84,8 @@ pub fn item_at<T: Fits>(page: T, place: T, page_size: T) -> Option<T>
 }
 
 /// Returns the first item of a page and the end, which is one past its last item. Items and pages are counted
-/// from 0. Both results are `items` if no item is on the page. `range_of_page(2, 4, 10)` is `(8, 10)`, and
-/// `range_of_page(3, 4, 10)` is `(10, 10)`.
+/// from 0. Both results are `items` if no item is on the page. `range_of_page(2, 4, 10)` is `(8, 10)`,
+/// `range_of_page(3, 4, 10)` is `(10, 10)`, and `range_of_page(-1, 4, 10)` is `(10, 10)`.
 ///
 /// # Panics
 ///
@@ -118,8 +118,8 @@ pub fn range_of_page<T: Integer + Copy>(page: T, page_size: T, items: T) -> (T, 
 
 /// Returns the first item of a part and the end, which is one past its last item, if `items` items are split
 /// into `parts` parts. Items and parts are counted from 0. Each part is as large as the part before it, or
-/// smaller by 1. `range_of_part(0, 3, 10)` is `(0, 4)`, `range_of_part(1, 3, 10)` is `(4, 7)`, and
-/// `range_of_part(2, 3, 10)` is `(7, 10)`.
+/// smaller by 1. `range_of_part(0, 3, 10)` is `(0, 4)`, `range_of_part(1, 3, 10)` is `(4, 7)`,
+/// `range_of_part(2, 3, 10)` is `(7, 10)`, and `range_of_part(2, 3, 2)` is `(2, 2)`.
 ///
 /// # Panics
 ///

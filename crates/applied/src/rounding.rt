@@ -31,7 +31,7 @@ pub fn div_round<T: Integer + Copy>(x: T, y: T) -> T
 }
 
 /// Returns the quotient rounded to the nearest integer, and a half to the even one. `div_round_even(8, 3)` is
-/// `3`, `div_round_even(5, 2)` is `2`, and `div_round_even(7, 2)` is `4`.
+/// `3`, `div_round_even(5, 2)` is `2`, `div_round_even(7, 2)` is `4`, and `div_round_even(-5, 2)` is `-2`.
 ///
 /// [`Fits::quotient_fits`] tests the precondition, and [`checked::div_round_even`] returns `None`
 /// if it does not hold.

@@ -17,7 +17,8 @@ use num_integer::{Fits, Integer};
 pub type Schedule<T> = (T, T);
 
 /// Returns the first time, not before `now`, that is in both schedules. `next_meeting(10, (1, 4), (3, 6))` is
-/// `CommonSolution::At(21)`, and `next_meeting(0, (0, 2), (1, 2))` is `CommonSolution::Never`.
+/// `CommonSolution::At(21)`, and `next_meeting(0, (0, 2), (1, 2))` is `CommonSolution::Never`. Before its first time
+/// a schedule has no times: `next_meeting(0, (13, 4), (3, 6))` is `CommonSolution::At(21)`.
 ///
 /// # Panics
 ///
@@ -37,8 +38,9 @@ pub fn next_meeting<T: Modular + Fits>(now: T, a: Schedule<T>, b: Schedule<T>) -
     next_common_solution(from, a.0, a.1, b.0, b.1)
 }
 
-/// Returns the first time, not before `now`, that is in all schedules. The product of the periods may not fit.
-/// `next_meeting_of(10, &[(1, 4), (3, 6), (0, 7)])` is `CommonSolution::At(21)`.
+/// Returns the first time, not before `now`, that is in all schedules.
+/// `next_meeting_of(10, &[(1, 4), (3, 6), (0, 7)])` is `CommonSolution::At(21)`. The product of the periods need not
+/// fit: `next_meeting_of(0u8, &[(1, 16), (1, 17)])` is `CommonSolution::At(1)`.
 ///
 /// In Rattle, a function that passes on a slice of its own parameters asks its callers for `in_range` too.
 ///
@@ -55,9 +57,9 @@ pub fn next_meeting_of<T: Modular + Fits>(now: T, schedules: &[Schedule<T>]) -> 
     next_common_solution_of(latest(now, schedules), schedules)
 }
 
-/// Returns how many times of the schedule are in `from..=to`, or `None` if the type cannot hold that count. No time is
-/// before the first time of the schedule. `count(4, 15, (3, 6))` is `Some(2)`, `count(-9, 15, (3, 6))` is `Some(3)`,
-/// and `count(-128i8, 127, (-128, 1))` is `None`.
+/// Returns how many times of the schedule are in `from..=to`, or `None` if the type cannot hold that count.
+/// `count(4, 15, (3, 6))` is `Some(2)`, and `count(-128i8, 127, (-128, 1))` is `None`. Before its first time a
+/// schedule has no times: `count(-9, 15, (3, 6))` is `Some(3)`.
 ///
 /// # Panics
 ///

@@ -98,7 +98,8 @@ impl Date {
     }
 
     /// Returns the number of days from 1970-01-01 to the date, which is negative for an earlier date,
-    /// or `None` if it does not fit an `i64`. `Date::new(1969, 12, 31).unwrap().day_number()` is `Some(-1)`.
+    /// or `None` if it does not fit an `i64`. `Date::new(1969, 12, 31).unwrap().day_number()` is `Some(-1)`, and
+    /// `Date::new(i64::MAX, 1, 1).unwrap().day_number()` is `None`.
     #[inline]
     pub fn day_number(&self) -> Option<i64>
         ensures { SomeIff result (FitsSigned w64 (number_of self.now)) (number_of self.now) }
@@ -122,7 +123,8 @@ impl Date {
     }
 
     /// Returns the next date, or `None` if it is in the year after `i64::MAX`.
-    /// `Date::new(2000, 2, 28).unwrap().next()` is `Date::new(2000, 2, 29)`.
+    /// `Date::new(2000, 2, 28).unwrap().next()` is `Date::new(2000, 2, 29)`, and
+    /// `Date::new(i64::MAX, 12, 31).unwrap().next()` is `None`.
     #[tactic(auto, using(crate::proofs::DateOrder::month_ends))]
     #[inline]
     pub fn next(&self) -> Option<Self>
@@ -162,7 +164,8 @@ impl Date {
     }
 
     /// Returns the previous date, or `None` if it is in the year before `i64::MIN`.
-    /// `Date::new(1900, 3, 1).unwrap().previous()` is `Date::new(1900, 2, 28)`.
+    /// `Date::new(1900, 3, 1).unwrap().previous()` is `Date::new(1900, 2, 28)`, and
+    /// `Date::new(i64::MIN, 1, 1).unwrap().previous()` is `None`.
     #[inline]
     pub fn previous(&self) -> Option<Self>
         ensures { MatchOption result
@@ -220,7 +223,7 @@ impl Date {
 
     /// Returns the date `days` days after this one, or before it if `days` is negative, or `None` if its
     /// year does not fit an `i64`. `Date::new(2000, 3, 1).unwrap().plus_days(-1)` is
-    /// `Date::new(2000, 2, 29)`.
+    /// `Date::new(2000, 2, 29)`, and `Date::new(i64::MAX, 12, 31).unwrap().plus_days(1)` is `None`.
     #[tactic(auto, using(crate::proofs::YearLengths::year_steps))]
     #[inline]
     pub fn plus_days(&self, days: i64) -> Option<Self>
@@ -257,7 +260,7 @@ impl Date {
 
     /// Returns the date `days` days before this one, or after it if `days` is negative, or `None` if its
     /// year does not fit an `i64`. `Date::new(2000, 3, 1).unwrap().minus_days(1)` is
-    /// `Date::new(2000, 2, 29)`.
+    /// `Date::new(2000, 2, 29)`, and `Date::new(i64::MIN, 1, 1).unwrap().minus_days(1)` is `None`.
     pub fn minus_days(&self, days: i64) -> Option<Self>
         ensures { MatchOption result
             ((date : Date) → number_of date ≡ number_of self.now -ℤ days → ¬ (FitsSigned w64 date.year))

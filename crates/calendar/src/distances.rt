@@ -16,7 +16,8 @@ use integer_core::{div_floor, div_mod_floor};
 impl Date {
     /// Returns the date `months` months after this one, or before it if `months` is negative, or `None` if
     /// its year does not fit an `i64`. The day of the month stays, or becomes the last day if the month is
-    /// shorter. `Date::new(2000, 1, 31).unwrap().plus_months(1)` is `Date::new(2000, 2, 29)`.
+    /// shorter. `Date::new(2000, 1, 31).unwrap().plus_months(1)` is `Date::new(2000, 2, 29)`, and
+    /// `Date::new(2000, 2, 29).unwrap().plus_months(1)` is `Date::new(2000, 3, 29)`.
     #[tactic(auto, using(crate::proofs::YearLengths::year_steps))]
     pub fn plus_months(&self, months: i64) -> Option<Self>
         ensures { MatchOption result
@@ -46,7 +47,8 @@ impl Date {
     /// Returns the number of whole months from this date to `to`, which is negative if `to` is earlier, or
     /// `None` if it does not fit. It is the largest number of months after which this date has become one that
     /// is not later than `to`.
-    /// `Date::new(2000, 1, 31).unwrap().months_between(&Date::new(2000, 2, 29).unwrap())` is `Some(1)`.
+    /// `Date::new(2000, 1, 31).unwrap().months_between(&Date::new(2000, 2, 29).unwrap())` is `Some(1)`, and
+    /// `Date::new(2000, 3, 31).unwrap().months_between(&Date::new(2000, 3, 30).unwrap())` is `Some(-1)`.
     pub fn months_between(&self, to: &Self) -> Option<i64>
         ensures { MatchOption result
             ((months : ℤ) × IsMonthsBetween self.now to.now months × ¬ (FitsSigned w64 months))
@@ -58,7 +60,8 @@ impl Date {
     /// Returns the number of whole years from this date to `to`, which is negative if `to` is earlier, or
     /// `None` if it does not fit. It is the largest number of years after which this date has become one that
     /// is not later than `to`. In a common year 29 February becomes 28 February.
-    /// `Date::new(2000, 2, 29).unwrap().years_between(&Date::new(2025, 2, 28).unwrap())` is `Some(25)`.
+    /// `Date::new(2000, 2, 29).unwrap().years_between(&Date::new(2025, 2, 28).unwrap())` is `Some(25)`, and
+    /// `Date::new(2000, 3, 31).unwrap().years_between(&Date::new(2000, 3, 30).unwrap())` is `Some(-1)`.
     pub fn years_between(&self, to: &Self) -> Option<i64>
         ensures { MatchOption result
             ((years : ℤ) × IsYearsBetween self.now to.now years × ¬ (FitsSigned w64 years))
@@ -88,7 +91,8 @@ pub fn days_between(from: &Date, to: &Date) -> Option<i64>
 /// Returns the number of whole months from `from` to `to`, which is negative if `to` is earlier, or `None`
 /// if it does not fit. It is the largest number of months after which `from` has become a date not later
 /// than `to`.
-/// `months_between(&Date::new(2000, 1, 31).unwrap(), &Date::new(2000, 2, 29).unwrap())` is `Some(1)`.
+/// `months_between(&Date::new(2000, 1, 31).unwrap(), &Date::new(2000, 2, 29).unwrap())` is `Some(1)`, and
+/// `months_between(&Date::new(2000, 3, 31).unwrap(), &Date::new(2000, 3, 30).unwrap())` is `Some(-1)`.
 pub fn months_between(from: &Date, to: &Date) -> Option<i64>
     ensures { MatchOption result
         ((months : ℤ) × IsMonthsBetween from.now to.now months × ¬ (FitsSigned w64 months))
@@ -100,7 +104,8 @@ pub fn months_between(from: &Date, to: &Date) -> Option<i64>
 /// Returns the number of whole years from `from` to `to`, which is negative if `to` is earlier, or `None`
 /// if it does not fit. It is the largest number of years after which `from` has become a date not later
 /// than `to`. In a common year 29 February becomes 28 February.
-/// `years_between(&Date::new(2000, 2, 29).unwrap(), &Date::new(2025, 2, 28).unwrap())` is `Some(25)`.
+/// `years_between(&Date::new(2000, 2, 29).unwrap(), &Date::new(2025, 2, 28).unwrap())` is `Some(25)`, and
+/// `years_between(&Date::new(2000, 3, 31).unwrap(), &Date::new(2000, 3, 30).unwrap())` is `Some(-1)`.
 pub fn years_between(from: &Date, to: &Date) -> Option<i64>
     ensures { MatchOption result
         ((years : ℤ) × IsYearsBetween from.now to.now years × ¬ (FitsSigned w64 years))

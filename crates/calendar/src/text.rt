@@ -31,8 +31,9 @@ impl fmt::Display for DateError {
 impl Error for DateError {}
 
 /// Prints the date in the format of ISO 8601. A year outside 0 to 9999 has a sign.
-/// `Date::new(2026, 11, 23).unwrap().to_string()` is `"2026-11-23"`, and
-/// `Date::new(10000, 1, 1).unwrap().to_string()` is `"+10000-01-01"`.
+/// `Date::new(2026, 11, 23).unwrap().to_string()` is `"2026-11-23"`,
+/// `Date::new(10000, 1, 1).unwrap().to_string()` is `"+10000-01-01"`, and
+/// `Date::new(-1, 1, 1).unwrap().to_string()` is `"-0001-01-01"`.
 impl fmt::Display for Date {
     ghost output = { λ date. Some (text_of date) };
 

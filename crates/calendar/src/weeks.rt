@@ -32,8 +32,9 @@ pub fn last_weekday_on_or_before(day: i64, weekday: Weekday) -> Option<i64>
 }
 
 /// Returns the date of the `n`-th `weekday` of the month, counted from 1, or `None` if there is no such
-/// day. Each month has the first four. `nth_weekday_of_month(2026, 11, Weekday::Thursday, 4)` is
-/// `Date::new(2026, 11, 26)`, and `nth_weekday_of_month(2026, 11, Weekday::Thursday, 5)` is `None`.
+/// day. Each month has four, and some have five. `nth_weekday_of_month(2026, 11, Weekday::Thursday, 4)` is
+/// `Date::new(2026, 11, 26)`, `nth_weekday_of_month(2026, 11, Weekday::Thursday, 5)` is `None`, and
+/// `nth_weekday_of_month(2026, 11, Weekday::Monday, 5)` is `Date::new(2026, 11, 30)`.
 pub fn nth_weekday_of_month(year: i64, month: u8, weekday: Weekday, n: u8) -> Option<Date>
     ensures answer { MatchOption result
         ((date : Date) → ¬ (IsNthWeekday year month weekday n date))

@@ -237,7 +237,8 @@ pub extern "C" fn cellarcove_count_congruent_u64(
 }
 
 /// Returns the smallest number from `from` on that is `a` modulo `m` and `b` modulo `n`. The least
-/// common multiple of `m` and `n` need not fit. For 10, 1, 4, 3 and 6 it is 21.
+/// common multiple of `m` and `n` need not fit. For 10, 1, 4, 3 and 6 it is 21, and for 0, 1, 2^62 + 1, 1 and
+/// 2^62 it is 1.
 ///
 /// `BAD_MODULUS` if `m` or `n` is not positive. `NO_SOLUTION` if there is no such number. `NOT_FITTING`
 /// if it does not fit.
@@ -265,7 +266,8 @@ pub extern "C" fn cellarcove_next_common_solution_i64(
 }
 
 /// Returns the smallest number from `from` on that is `a` modulo `m` and `b` modulo `n`. The least
-/// common multiple of `m` and `n` need not fit. For 10, 1, 4, 3 and 6 it is 21.
+/// common multiple of `m` and `n` need not fit. For 10, 1, 4, 3 and 6 it is 21, and for 0, 1, 2^62 + 1, 1 and
+/// 2^62 it is 1.
 ///
 /// `BAD_MODULUS` if `m` or `n` is 0. `NO_SOLUTION` if there is no such number. `NOT_FITTING` if it does
 /// not fit.

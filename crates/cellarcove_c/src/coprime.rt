@@ -22,8 +22,8 @@ pub struct U64Pair {
     pub second: u64,
 }
 
-/// Returns `true` if the greatest common divisor of the numbers is 1. 8 and 15 are coprime, and 8 and 6
-/// are not.
+/// Returns `true` if the greatest common divisor of the numbers is 1. For 8 and 15 it is `true`, and for 8
+/// and 6 it is `false`.
 #[unsafe(no_mangle)]
 pub extern "C" fn cellarcove_is_coprime_i64(x: i64, y: i64) -> bool
     ensures { IsTrue result ↔ IsGreatestCommonDivisor x y (pos 1) }
@@ -31,8 +31,8 @@ pub extern "C" fn cellarcove_is_coprime_i64(x: i64, y: i64) -> bool
     is_coprime(x, y)
 }
 
-/// Returns `true` if the greatest common divisor of the numbers is 1. 8 and 15 are coprime, and 8 and 6
-/// are not.
+/// Returns `true` if the greatest common divisor of the numbers is 1. For 8 and 15 it is `true`, and for 8
+/// and 6 it is `false`.
 #[unsafe(no_mangle)]
 pub extern "C" fn cellarcove_is_coprime_u64(x: u64, y: u64) -> bool
     ensures { IsTrue result ↔ IsGreatestCommonDivisor (pos x) (pos y) (pos 1) }

@@ -7,8 +7,8 @@ use crate::dates::DateAnswer;
 use std::str;
 
 /// Returns the date of a text of ISO 8601: a year of at least four digits, a month and a day of two digits,
-/// with hyphens between them. A year below 0 has a minus, and one above 9999 has a plus. The text
-/// `2026-11-28` gives 28 November 2026.
+/// with hyphens between them. A year below 0 has a minus, and one above 9999 has a plus. That of `2026-11-28`
+/// is 2026-11-28, and that of `+12000-04-02` is 12000-04-02.
 ///
 /// `NO_DATE` if it is the text of no date whose year fits.
 #[unsafe(no_mangle)]

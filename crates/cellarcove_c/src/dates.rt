@@ -92,8 +92,8 @@ pub extern "C" fn cellarcove_plus_days(date: Date, days: i64) -> DateAnswer
     }
 }
 
-/// Returns the number of days from one date to another, negative if the other is earlier. From
-/// 2000-03-01 to 2000-02-28 it is -2.
+/// Returns the number of days from one date to another, negative if the other is earlier. For 2000-03-01 and
+/// 2000-02-28 it is -2.
 ///
 /// `NO_DATE` if there is no such date. `NOT_FITTING` if the number does not fit.
 #[unsafe(no_mangle)]
@@ -140,7 +140,7 @@ pub extern "C" fn cellarcove_plus_months(date: Date, months: i64) -> DateAnswer
 }
 
 /// Returns the largest number of months that leads from one date to a date not after another, negative
-/// if the other is earlier. From 2000-01-31 to 2000-02-29 it is 1.
+/// if the other is earlier. For 2000-01-31 and 2000-02-29 it is 1, and for 2000-03-31 and 2000-03-30 it is -1.
 ///
 /// `NO_DATE` if a date does not exist. `NOT_FITTING` if the number does not fit.
 #[unsafe(no_mangle)]
@@ -161,7 +161,7 @@ pub extern "C" fn cellarcove_months_between(from: Date, to: Date) -> I64Answer
 }
 
 /// Returns the largest number of years that leads from one date to a date not after another, negative if
-/// the other is earlier. From 2000-02-29 to 2025-02-28 it is 25.
+/// the other is earlier. For 2000-02-29 and 2025-02-28 it is 25, and for 2000-03-31 and 2000-03-30 it is -1.
 ///
 /// `NO_DATE` if a date does not exist. `NOT_FITTING` if the number does not fit.
 #[unsafe(no_mangle)]

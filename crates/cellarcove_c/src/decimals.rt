@@ -12,7 +12,7 @@ use crate::fractions::{Fraction, FractionAnswer};
 use ratio64::{Decimal, Ratio, RatioError};
 
 /// A status, and a decimal number: its sign, its integer part, and the number that its digits after the
-/// point write. Those of -2.05 are `true`, 2 and 5.
+/// point write. Those of -2.05 are `true`, 2 and 5: a text of it needs a zero before the 5.
 #[repr(C)]
 #[derive(Clone, Copy)]
 pub struct DecimalAnswer {
@@ -55,8 +55,9 @@ pub extern "C" fn cellarcove_fraction_round_even_to(a: Fraction, parts: i64) -> 
 }
 
 /// Returns the nearest decimal number with so many digits after the point, and of two that are equally
-/// near the one whose last digit is even. Its text is a minus if `is_negative`, then `whole`, and, if there
-/// are places, a point and `part` with zeros in front. That of 1234/5 and 2 is 246.80.
+/// near the one whose last digit is even. That of 1234/5 and 2 is 246.80, and that of 1/8 and 2 is 0.12. Its
+/// text is a minus if `is_negative`, then `whole`, and, if there are places, a point and `part` with zeros in
+/// front, as many digits as places. That of -1/20 and 2 is -0.05, so `part` needs a zero in front.
 ///
 /// `ZERO_DENOMINATOR` if the denominator is 0. `NOT_FITTING` if a part of the reduced fraction does not
 /// fit. `OUTSIDE` if there are more than 18 places and neither holds.

@@ -138,7 +138,7 @@ pub extern "C" fn cellarcove_div_round_even_u64(x: u64, y: u64) -> U64Answer
 }
 
 /// Returns the remainder of the quotient rounded down, which is 0 or has the sign of `y`. That of -8 by
-/// 3 is 1. It always fits.
+/// 3 is 1, and that of -2^63 by -1 is 0.
 ///
 /// `OUTSIDE` if `y` is 0.
 #[unsafe(no_mangle)]
@@ -181,7 +181,7 @@ pub extern "C" fn cellarcove_div_mod_floor_u64(x: u64, y: u64) -> U64Division
 }
 
 /// Returns the quotient of `a * b` by `d`, rounded down, and its remainder. The product need not fit.
-/// Those for -7, 3 and 2 are -11 and 1.
+/// For -7, 3 and 2 they are -11 and 1.
 ///
 /// `OUTSIDE` if `d` is 0. `NOT_FITTING` if the quotient does not fit.
 #[unsafe(no_mangle)]
@@ -195,7 +195,7 @@ pub extern "C" fn cellarcove_product_div_mod_floor_i64(a: i64, b: i64, d: i64) -
 }
 
 /// Returns the quotient of `a * b` by `d`, rounded down, and its remainder. The product need not fit.
-/// Those for 7, 3 and 2 are 10 and 1.
+/// For 7, 3 and 2 they are 10 and 1.
 ///
 /// `OUTSIDE` if `d` is 0. `NOT_FITTING` if the quotient does not fit.
 #[unsafe(no_mangle)]
@@ -252,7 +252,8 @@ pub extern "C" fn cellarcove_prev_multiple_of_u64(x: u64, y: u64) -> U64Answer
     U64Answer::of(checked::prev_multiple_of(x, y), OUTSIDE)
 }
 
-/// Returns `true` if `x` is a multiple of `y`. Only 0 is a multiple of 0.
+/// Returns `true` if `x` is a multiple of `y`. For 6 and 3 it is `true`, for 0 and 0 it is `true`, and for 6
+/// and 0 it is `false`.
 #[unsafe(no_mangle)]
 pub extern "C" fn cellarcove_is_multiple_of_i64(x: i64, y: i64) -> bool
     ensures { IsTrue result ↔ Divides y x }
@@ -260,7 +261,8 @@ pub extern "C" fn cellarcove_is_multiple_of_i64(x: i64, y: i64) -> bool
     Integer::is_multiple_of(&x, &y)
 }
 
-/// Returns `true` if `x` is a multiple of `y`. Only 0 is a multiple of 0.
+/// Returns `true` if `x` is a multiple of `y`. For 6 and 3 it is `true`, for 0 and 0 it is `true`, and for 6
+/// and 0 it is `false`.
 #[unsafe(no_mangle)]
 pub extern "C" fn cellarcove_is_multiple_of_u64(x: u64, y: u64) -> bool
     ensures { IsTrue result ↔ Divides (pos y) (pos x) }

@@ -39,7 +39,8 @@ pub struct U64GcdLcm {
     pub lcm: u64,
 }
 
-/// Returns the greatest common divisor, which is not negative. That of -56 and 42 is 14.
+/// Returns the greatest common divisor, which is not negative. That of -56 and 42 is 14, and that of 0 and 0
+/// is 0.
 ///
 /// `NOT_FITTING` if it is 2^63.
 #[unsafe(no_mangle)]
@@ -51,7 +52,7 @@ pub extern "C" fn cellarcove_gcd_i64(x: i64, y: i64) -> I64Answer
     I64Answer::of(checked::gcd(x, y), NOT_FITTING)
 }
 
-/// Returns the greatest common divisor, which always fits. That of 56 and 42 is 14.
+/// Returns the greatest common divisor. That of 56 and 42 is 14, and that of 2^64 - 1 and 0 is 2^64 - 1.
 #[unsafe(no_mangle)]
 #[tactic(auto, using(crate::proofs::NumbersReadBack::read_back))]
 pub extern "C" fn cellarcove_gcd_u64(x: u64, y: u64) -> U64Answer
@@ -62,7 +63,8 @@ pub extern "C" fn cellarcove_gcd_u64(x: u64, y: u64) -> U64Answer
     U64Answer::of(checked::gcd(x, y), NOT_FITTING)
 }
 
-/// Returns the least common multiple, which is not negative. That of -4 and 6 is 12.
+/// Returns the least common multiple, which is not negative. That of -4 and 6 is 12, and that of -2^63 and 0
+/// is 0.
 ///
 /// `NOT_FITTING` if the multiple does not fit.
 #[unsafe(no_mangle)]

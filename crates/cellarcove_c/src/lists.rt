@@ -9,8 +9,8 @@ ghost use Rattle.cellarcove_c.specs.Answers.{I64Fitting, U64Fitting};
 use crate::answers::{I64Answer, NOT_FITTING, U64Answer};
 use applied::lists::{checked, gcd_of};
 
-/// Returns the greatest common divisor of the numbers, which is not negative. That of -12, 18 and 8 is
-/// 2, and that of no numbers is 0.
+/// Returns the greatest common divisor of the numbers, which is not negative. That of -12, 18 and 8 is 2,
+/// that of -2^63, 0 and 6 is 2, and that of no numbers is 0.
 ///
 /// `NOT_FITTING` if the result is 2^63, as for -2^63 and 0.
 #[unsafe(no_mangle)]
@@ -21,8 +21,8 @@ pub extern "C" fn cellarcove_gcd_of_i64(numbers: &[i64]) -> I64Answer
     I64Answer::of(checked::gcd_of(numbers), NOT_FITTING)
 }
 
-/// Returns the greatest common divisor of the numbers, which always fits. That of 12, 18 and 8 is 2, and
-/// that of no numbers is 0.
+/// Returns the greatest common divisor of the numbers. That of 12, 18 and 8 is 2, and that of no numbers
+/// is 0.
 #[unsafe(no_mangle)]
 pub extern "C" fn cellarcove_gcd_of_u64(numbers: &[u64]) -> U64Answer
     ensures status { result.status ≡ 0 }
@@ -31,8 +31,8 @@ pub extern "C" fn cellarcove_gcd_of_u64(numbers: &[u64]) -> U64Answer
     U64Answer::some(gcd_of(numbers))
 }
 
-/// Returns the least common multiple of the numbers, which is not negative. That of -4, 6 and 10 is 60.
-/// It is 0 if one of the numbers is 0, and 1 for no numbers.
+/// Returns the least common multiple of the numbers, which is not negative. That of -4, 6 and 10 is 60,
+/// that of -4, 6 and 0 is 0, and that of no numbers is 1.
 ///
 /// `NOT_FITTING` if the multiple does not fit.
 #[unsafe(no_mangle)]
@@ -43,8 +43,8 @@ pub extern "C" fn cellarcove_lcm_of_i64(numbers: &[i64]) -> I64Answer
     I64Answer::of(checked::lcm_of(numbers), NOT_FITTING)
 }
 
-/// Returns the least common multiple of the numbers. That of 4, 6 and 10 is 60. It is 0 if one of the
-/// numbers is 0, and 1 for no numbers.
+/// Returns the least common multiple of the numbers. That of 4, 6 and 10 is 60, that of 4, 6 and 0 is 0,
+/// and that of no numbers is 1.
 ///
 /// `NOT_FITTING` if the multiple does not fit.
 #[unsafe(no_mangle)]

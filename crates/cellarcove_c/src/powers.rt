@@ -28,7 +28,7 @@ pub struct U64Root {
     pub rest: u64,
 }
 
-/// Returns `true` if `x` is the square of an integer. 144 is one, and -144 is not.
+/// Returns `true` if `x` is the square of an integer. For 144 it is `true`, and for -144 it is `false`.
 #[unsafe(no_mangle)]
 pub extern "C" fn cellarcove_is_square_i64(x: i64) -> bool
     ensures { IsTrue result ↔ ((k : ℤ) × (k *ℤ k ≡ x)) }
@@ -36,7 +36,7 @@ pub extern "C" fn cellarcove_is_square_i64(x: i64) -> bool
     is_square(x)
 }
 
-/// Returns `true` if `x` is the square of an integer. 144 is one, and 145 is not.
+/// Returns `true` if `x` is the square of an integer. For 144 it is `true`, and for 145 it is `false`.
 #[unsafe(no_mangle)]
 pub extern "C" fn cellarcove_is_square_u64(x: u64) -> bool
     ensures { IsTrue result ↔ ((k : ℤ) × (k *ℤ k ≡ pos x)) }
@@ -44,8 +44,8 @@ pub extern "C" fn cellarcove_is_square_u64(x: u64) -> bool
     is_square(x)
 }
 
-/// Returns `true` if `x` is an integer to the power `degree`. For -243 and 5 it is `true`, and for 244
-/// and 5 it is `false`; for the degree 0 it is `true` at 1 alone.
+/// Returns `true` if `x` is an integer to the power `degree`. For -243 and 5 it is `true`, for 244 and 5 it is
+/// `false`, for 1 and 0 it is `true`, and for 2 and 0 it is `false`.
 #[unsafe(no_mangle)]
 pub extern "C" fn cellarcove_is_power_i64(x: i64, degree: u32) -> bool
     ensures { IsTrue result ↔ ((k : ℤ) × (int_pow k degree ≡ x)) }
@@ -57,8 +57,8 @@ pub extern "C" fn cellarcove_is_power_i64(x: i64, degree: u32) -> bool
     }
 }
 
-/// Returns `true` if `x` is an integer to the power `degree`. For 243 and 5 it is `true`, and for 244
-/// and 5 it is `false`; for the degree 0 it is `true` at 1 alone.
+/// Returns `true` if `x` is an integer to the power `degree`. For 243 and 5 it is `true`, for 244 and 5 it is
+/// `false`, for 1 and 0 it is `true`, and for 2 and 0 it is `false`.
 #[unsafe(no_mangle)]
 pub extern "C" fn cellarcove_is_power_u64(x: u64, degree: u32) -> bool
     ensures { IsTrue result ↔ ((k : ℤ) × (int_pow k degree ≡ pos x)) }
@@ -70,7 +70,8 @@ pub extern "C" fn cellarcove_is_power_u64(x: u64, degree: u32) -> bool
     }
 }
 
-/// Returns `true` if `x` is a square, a cube or a higher power of an integer. 128 is one, and 72 is not.
+/// Returns `true` if `x` is a square, a cube or a higher power of an integer. For 128 it is `true`, and for 72
+/// it is `false`.
 #[unsafe(no_mangle)]
 pub extern "C" fn cellarcove_is_perfect_power_u64(x: u64) -> bool
     ensures { IsTrue result
@@ -91,8 +92,8 @@ pub extern "C" fn cellarcove_sqrt_rem_i64(x: i64) -> I64Root
     I64Root::of(checked::sqrt_rem(x))
 }
 
-/// Returns the square root rounded down, and what is left: `x` minus the square of the root. Both always
-/// fit. Those of 99 are 9 and 18.
+/// Returns the square root rounded down, and what is left: `x` minus the square of the root. Those of 99 are 9
+/// and 18, and those of 2^64 - 1 are 4294967295 and 8589934590.
 #[unsafe(no_mangle)]
 pub extern "C" fn cellarcove_sqrt_rem_u64(x: u64) -> U64Root
     ensures answer { Answers {A = ℕ × ℕ} (pos 0 ≤ℤ pos x)

@@ -9,7 +9,7 @@ ghost use Rattle.cellarcove_c.specs.Statuses.{StatusIs, outside};
 use crate::answers::{I64Answer, OUTSIDE, U64Answer};
 use num_integer::{average_ceil, average_floor, cbrt, checked};
 
-/// Returns the average rounded down. That of 3 and 10 is 6.
+/// Returns the average rounded down. That of 3 and 10 is 6, and that of 2^63 - 1 and 2^63 - 1 is 2^63 - 1.
 #[unsafe(no_mangle)]
 pub extern "C" fn cellarcove_average_floor_i64(x: i64, y: i64) -> i64
     ensures { IsAverageFloor x y result }
@@ -17,7 +17,7 @@ pub extern "C" fn cellarcove_average_floor_i64(x: i64, y: i64) -> i64
     average_floor(x, y)
 }
 
-/// Returns the average rounded down. That of 3 and 10 is 6.
+/// Returns the average rounded down. That of 3 and 10 is 6, and that of 2^63 - 1 and 2^63 - 1 is 2^63 - 1.
 #[unsafe(no_mangle)]
 pub extern "C" fn cellarcove_average_floor_u64(x: u64, y: u64) -> u64
     ensures { IsAverageFloor (pos x) (pos y) (pos result) }
@@ -25,7 +25,7 @@ pub extern "C" fn cellarcove_average_floor_u64(x: u64, y: u64) -> u64
     average_floor(x, y)
 }
 
-/// Returns the average rounded up. That of 3 and 10 is 7.
+/// Returns the average rounded up. That of 3 and 10 is 7, and that of 2^63 - 1 and 2^63 - 1 is 2^63 - 1.
 #[unsafe(no_mangle)]
 pub extern "C" fn cellarcove_average_ceil_i64(x: i64, y: i64) -> i64
     ensures { IsAverageCeil x y result }
@@ -33,7 +33,7 @@ pub extern "C" fn cellarcove_average_ceil_i64(x: i64, y: i64) -> i64
     average_ceil(x, y)
 }
 
-/// Returns the average rounded up. That of 3 and 10 is 7.
+/// Returns the average rounded up. That of 3 and 10 is 7, and that of 2^63 - 1 and 2^63 - 1 is 2^63 - 1.
 #[unsafe(no_mangle)]
 pub extern "C" fn cellarcove_average_ceil_u64(x: u64, y: u64) -> u64
     ensures { IsAverageCeil (pos x) (pos y) (pos result) }
@@ -51,7 +51,7 @@ pub extern "C" fn cellarcove_sqrt_i64(x: i64) -> I64Answer
     I64Answer::of(checked::sqrt(x), OUTSIDE)
 }
 
-/// Returns the square root rounded down, which always fits. That of 99 is 9.
+/// Returns the square root rounded down. That of 99 is 9, and that of 2^64 - 1 is 4294967295.
 #[unsafe(no_mangle)]
 #[tactic(auto, using(crate::proofs::NumbersReadBack::read_integers))]
 pub extern "C" fn cellarcove_sqrt_u64(x: u64) -> U64Answer

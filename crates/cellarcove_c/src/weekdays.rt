@@ -82,7 +82,7 @@ pub extern "C" fn cellarcove_last_weekday_on_or_before(day: i64, weekday: u8) ->
 }
 
 /// Returns the date of the `n`-th day of a month that is this day of the week, from 1 for Monday to 7
-/// for Sunday. The first one has `n` 1. The date for 2026, 11, 4 and 4 is 2026-11-26.
+/// for Sunday. The first one has `n` 1. That of 2026, 11, 4 and 4 is 2026-11-26.
 ///
 /// `OUTSIDE` if `weekday` is not from 1 to 7, whatever the month. `NO_DATE` if there is no such date.
 #[unsafe(no_mangle)]
@@ -109,7 +109,7 @@ pub extern "C" fn cellarcove_nth_weekday_of_month(
 }
 
 /// Returns the date of the last day of a month that is this day of the week, from 1 for Monday to 7 for
-/// Sunday. The date for 2026, 10 and 5 is 2026-10-30.
+/// Sunday. That of 2026, 10 and 5 is 2026-10-30.
 ///
 /// `OUTSIDE` if `weekday` is not from 1 to 7, whatever the month. `NO_DATE` if `month` is not from 1 to
 /// 12.

@@ -13,7 +13,8 @@ use crate::answers::{NO_DATE, U64Answer};
 use crate::dates::Date;
 use calendar::{days_in_month, days_in_year, is_leap_year, weeks_in_year};
 
-/// Returns `true` if the year has a 29 February. 2000 and 0 have one, and 1900 and -1 do not.
+/// Returns `true` if the year has a 29 February. For 2000 it is `true`, for 1900 it is `false`, for 0 it is
+/// `true`, and for -1 it is `false`.
 #[unsafe(no_mangle)]
 pub extern "C" fn cellarcove_is_leap_year(year: i64) -> bool
     ensures { result ≡ is_leap_year year }
@@ -21,7 +22,7 @@ pub extern "C" fn cellarcove_is_leap_year(year: i64) -> bool
     is_leap_year(year)
 }
 
-/// Returns how many days the year has: 365 or 366. 1900 has 365.
+/// Returns how many days the year has: 365 or 366. For 1900 it is 365, and for 2000 it is 366.
 #[unsafe(no_mangle)]
 pub extern "C" fn cellarcove_days_in_year(year: i64) -> u16
     ensures { result ≡ days_in_year year }
@@ -29,7 +30,7 @@ pub extern "C" fn cellarcove_days_in_year(year: i64) -> u16
     days_in_year(year)
 }
 
-/// Returns how many weeks of ISO 8601 the year has: 52 or 53. 2020 has 53.
+/// Returns how many weeks of ISO 8601 the year has: 52 or 53. For 2020 it is 53, and for 2021 it is 52.
 #[unsafe(no_mangle)]
 pub extern "C" fn cellarcove_weeks_in_year(year: i64) -> u8
     ensures { HasIsoWeeks year result }
@@ -37,7 +38,7 @@ pub extern "C" fn cellarcove_weeks_in_year(year: i64) -> u8
     weeks_in_year(year)
 }
 
-/// Returns how many days the month has; January is 1. February 1900 has 28.
+/// Returns how many days the month has; January is 1. For 1900 and 2 it is 28, and for 2000 and 2 it is 29.
 ///
 /// `NO_DATE` if `month` is not from 1 to 12.
 #[unsafe(no_mangle)]

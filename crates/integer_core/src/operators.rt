@@ -1,6 +1,6 @@
 //! Zero, one, the operators and six tests, specified on integers. Every integer type is `exact`, so
 //! callers never have to prove it. In plain Rust the operators that add, subtract and multiply are written by hand: they panic if the
-//! result does not fit. Those of `plain` do not test.
+//! result does not fit. Those of `fitting` do not test.
 
 ghost use Rattle.std.specs.Prelude.{◌≡◌, ◌≢◌, ◌↔◌, ◌<ℤ◌, ◌+ℤ◌, ◌-ℤ◌, ◌*ℤ◌, pos, negsuc, neg_ℤ, int_rem, int_div, IsTrue};
 

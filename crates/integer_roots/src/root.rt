@@ -73,11 +73,6 @@ pub fn nth_root<T: Roots>(x: T, n: u32) -> T
     ensures in_range { T.fits (T.value result) }
     ensures root { IsRoot (T.value x) n (T.value result) }
 {
-    check(n != 0, "attempt to take a root of degree 0");
-    check(
-        n % 2 != 0 || x >= zero(),
-        "attempt to take an even root of a negative number",
-    );
     x.nth_root(n)
 }
 
@@ -94,10 +89,6 @@ pub fn sqrt<T: Roots>(x: T) -> T
     ensures in_range { T.fits (T.value result) }
     ensures root { IsRoot (T.value x) 2 (T.value result) }
 {
-    check(
-        x >= zero(),
-        "attempt to take the square root of a negative number",
-    );
     x.sqrt()
 }
 

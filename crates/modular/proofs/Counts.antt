@@ -69,6 +69,6 @@ counted_by_times {from} {to} {first} {start} {step} {j} {k} up at_start ordered 
           counted_steps up own (record { from_there = by_lt_z to (start +ℤ step *ℤ k) (λ less. omega (arith, linear)) (λ fine. absurd (apart_from (omega (arith, linear)))); holds = last.holds; least = λ x beyond near. last.least x (omega (arith, linear)) near }) (omega (arith, linear)) apart;
     }
 
-pub count_from_zero : {X : Type 0} (fits : ℤ → Type 0) (value : X → ℤ) (N : Type 0) (from : ℤ) (FitsWith : ℤ → Type 0) (r : Option X) → MatchOption r N (λ n. fits (value n) × IsCountFrom from FitsWith (value n)) → IfSome r (λ n. pos 0 ≤ℤ value n)
-count_from_zero fits value N from FitsWith (Some n) h = omega (arith, ints, h.1.counted)
-count_from_zero fits value N from FitsWith None h = tt
+pub count_from_zero : {X : Type 0} (fits : ℤ → Type 0) (value : X → ℤ) (N : Type 0) (from : ℤ) (Has : ℤ → Type 0) (r : Option X) → MatchOption r N (λ n. fits (value n) × IsCountFrom from Has (value n)) → IfSome r (λ n. pos 0 ≤ℤ value n)
+count_from_zero fits value N from Has (Some n) h = omega (arith, ints, h.1.counted)
+count_from_zero fits value N from Has None h = tt

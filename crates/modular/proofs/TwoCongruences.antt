@@ -59,8 +59,8 @@ both_found {m = m} {n = n} {times = times} {l = l} m_up n_up at_start at_gap sol
     }
 
 -- What solves the class of the solutions and one more congruence solves all.
-pub next_of_class_and : {FitsWith : ℤ → Type 0} {first step from a m t : ℤ} → IsResidueClass FitsWith first step → IsNextCommonSolution from first step a m t → IsLeastFrom from (λ x. FitsWith x × AreCongruent m x a) t
+pub next_of_class_and : {Has : ℤ → Type 0} {first step from a m t : ℤ} → IsResidueClass Has first step → IsNextCommonSolution from first step a m t → IsLeastFrom from (λ x. Has x × AreCongruent m x a) t
 next_of_class_and {t = t} class next = grind arith
 
-pub none_of_class_and : {FitsWith : ℤ → Type 0} {first step a m : ℤ} → IsResidueClass FitsWith first step → ((x : ℤ) → ¬ (SolvesBothCongruences first step a m x)) → (x : ℤ) → ¬ (FitsWith x × AreCongruent m x a)
+pub none_of_class_and : {Has : ℤ → Type 0} {first step a m : ℤ} → IsResidueClass Has first step → ((x : ℤ) → ¬ (SolvesBothCongruences first step a m x)) → (x : ℤ) → ¬ (Has x × AreCongruent m x a)
 none_of_class_and class none x h = none x (record { first = class.every x h.0; second = h.1 })

@@ -82,12 +82,11 @@ pub fn product_modulo<T: Modular>(a: T, b: T, m: T) -> T
     ensures in_range { T.fits (T.value result) }
     ensures residue { IsResidue (T.value m) (T.value a *ℤ T.value b) (T.value result) }
 {
-    check(is_below(zero(), m), "the modulus is not positive");
     a.product_modulo(&b, &m)
 }
 
-/// Returns `a` to the power `exponent` modulo `m`, by squaring. `power_modulo(3, 4, 7)` is `4`, and
-/// `power_modulo(3, 0, 7)` is `1`.
+/// Returns `a` to the power `exponent` modulo `m`, by squaring. `power_modulo(3, 4, 7)` is `4`,
+/// `power_modulo(3, 0, 7)` is `1`, and `power_modulo(3, 0, 1)` is `0`.
 ///
 /// [`checked::power_modulo`] returns `None` if the precondition does not hold.
 ///

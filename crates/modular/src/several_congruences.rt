@@ -17,8 +17,8 @@ use num_integer::operators::{one, zero};
 use num_integer::{Fits, Integer, checked};
 
 /// Returns the smallest number from `from` on that is congruent to the first number of each pair, modulo the second.
-/// No product of the moduli has to fit. `next_common_solution_of(10, &[(1, 4), (3, 6), (0, 7)])` is
-/// `CommonSolution::At(21)`.
+/// `next_common_solution_of(10, &[(1, 4), (3, 6), (0, 7)])` is `CommonSolution::At(21)`. No product of the moduli has
+/// to fit: `next_common_solution_of(0u8, &[(1, 16), (1, 17)])` is `CommonSolution::At(1)`.
 ///
 /// [`checked::next_common_solution_of`] returns `None` if the precondition does not hold.
 ///

@@ -12,8 +12,8 @@ pub mod sign_magnitude;
 pub use coefficients::{binomial, multinomial};
 pub use fits_trait::Fits;
 pub use integer_core::{
-    ExtendedGcd, Integer, NativeInteger, div_ceil, div_floor, div_mod_floor, div_rem, gcd, gcd_lcm,
-    guards, lcm, mod_floor, narrowing, operators, padded,
+    ExtendedGcd, Integer, Magnitudes, NativeInteger, div_ceil, div_floor, div_mod_floor, div_rem,
+    fitting, gcd, gcd_lcm, guards, lcm, mod_floor, narrowing, operators, padded,
 };
 pub use integer_roots::{Average, Roots, average_ceil, average_floor, cbrt, nth_root, sqrt};
 pub use rows::IterBinomial;

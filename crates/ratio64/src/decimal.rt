@@ -8,8 +8,9 @@ use num_integer::padded::Text;
 use std::fmt;
 
 /// A decimal number with at most 18 places, as [`Ratio::to_decimal`] returns it: an amount of money, say.
-/// Two are equal if they have the same digits, so 0.5 is not 0.50.
-/// `Ratio::new(1234, 5).unwrap().to_decimal(2).unwrap().to_string()` is `"246.80"`.
+/// `Ratio::new(1234, 5).unwrap().to_decimal(2).unwrap().to_string()` is `"246.80"`. Two are equal if they print the
+/// same, and 0.5 is not 0.50: `Ratio::new(1, 2).unwrap().to_decimal(1) == Ratio::new(1, 2).unwrap().to_decimal(2)`
+/// is `false`.
 #[derive(Debug, Clone, Copy, PartialEq, Eq, Hash)]
 pub struct Decimal {
     units: i128,
@@ -44,7 +45,8 @@ impl Ratio {
 
     /// Returns the nearest decimal number with so many places, and of two equally near the one whose last
     /// digit is even, or `None` if there are more than 18 places.
-    /// `Ratio::new(1234, 5).unwrap().to_decimal(2).unwrap().to_string()` is `"246.80"`, and
+    /// `Ratio::new(1234, 5).unwrap().to_decimal(2).unwrap().to_string()` is `"246.80"`,
+    /// `Ratio::new(1, 8).unwrap().to_decimal(2).unwrap().to_string()` is `"0.12"`, and
     /// `Ratio::new(1, 2).unwrap().to_decimal(19)` is `None`.
     pub fn to_decimal(&self, places: u32) -> Option<Decimal>
         ensures { AnswersWhere (places ≤ 18) (IsDecimalOf (num_of self.now) (den_of self.now) places)

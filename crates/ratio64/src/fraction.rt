@@ -30,9 +30,10 @@ pub struct Ratio {
 impl Ratio {
     ghost use Rattle.ratio64.specs.Ratio.{AnswersFraction, num_of, den_of};
 
-    /// Returns `num / den` in lowest terms. `Ratio::new(6, -4)` is `Ratio::new(-3, 2)`, and
-    /// `Ratio::new(1, 0)` is `Err(RatioError::ZeroDenominator)`. A positive denominator never gives an
-    /// error.
+    /// Returns `num / den` in lowest terms. With a positive denominator there is no error.
+    /// `Ratio::new(6, -4)` is `Ratio::new(-3, 2)`, `Ratio::new(i64::MIN, 1).is_ok()` is `true`,
+    /// `Ratio::new(i64::MIN, -1)` is `Err(RatioError::NotFitting)`, and `Ratio::new(1, 0)` is
+    /// `Err(RatioError::ZeroDenominator)`.
     ///
     /// # Errors
     ///
@@ -231,8 +232,11 @@ impl Default for Ratio {
 /// `Ratio::new(6, -4).unwrap().to_string()` is `"-3/2"`.
 ///
 /// In plain Rust, a precision prints the decimals that [`Ratio::to_decimal`] returns, `+` and `0` do what
-/// they do for integers, and a width puts the number on the right:
-/// `format!("{:.2}", Ratio::new(1234, 5).unwrap())` is `"246.80"`. A precision above 18 is a
+/// they do for integers, and a width puts the number on the right.
+/// `format!("{:.2}", Ratio::new(1234, 5).unwrap())` is `"246.80"`,
+/// `format!("{:+}", Ratio::new(1, 2).unwrap())` is `"+1/2"`,
+/// `format!("{:05}", Ratio::new(1, 2).unwrap())` is `"001/2"`, and
+/// `format!("{:5}", Ratio::new(1, 2).unwrap())` is `"  1/2"`. A precision above 18 is a
 /// `fmt::Error`, with which `format!` panics.
 impl fmt::Display for Ratio {
     ghost use Rattle.std.specs.Prelude.{Some};

@@ -3,8 +3,11 @@
 //!
 //! | theorem | function |
 //! |---|---|
+//! | safe and total: a proof means that the call returns, with no overflow, no panic and no allocation | each function, such as [`averages`] |
+//! | each of the twelve native types is lawful | [`ends_of_types_with_roots`], [`ends_of_types_without_roots`] |
 //! | a root is exact, at every degree | [`root`], [`square_root`], [`cube_root`] |
 //! | the two loops of a square root make at most five iterations | [`square_root_in_five_iterations`] |
+//! | a step of Newton's iteration is never below the root, and it is below a guess that is above the root | [`newton_steps`] |
 //! | a gcd divides both numbers, and every number that divides both divides it | [`greatest_common_divisor`] |
 //! | a pair certifies the gcd, and no other small pair does | [`bezout_pair`] |
 //! | the call that counts its iterations returns the same pair | [`bezout_pair_by_two_calls`] |
@@ -21,8 +24,8 @@
 //! | each test of a precondition is true exactly if it holds | [`domain_of_quotients`], [`domains_of_multiples`], [`domains_of_divisors`], [`domain_of_bezout_pair`], [`domains_of_operators`], [`domain_of_binomial`], [`domain_of_multinomial`] |
 //! | `parts` returns the sign and the magnitude, and `ends` the ends of the type | [`parts_of_number`], [`ends_of_type`] |
 //! | the loop of a gcd makes at most as many iterations as the two bit lengths added | [`iterations_for_gcd`] |
-//! | the loop of a pair makes at most as many iterations as Lamé's theorem says | [`iterations_for_bezout_pair`] |
-//! | 2 to the power of the number of iterations for a coefficient is at most the coefficient | [`iterations_for_binomial`] |
+//! | the loop of a pair makes at most as many iterations as Lamé's theorem says, if the second number is not 0 | [`iterations_for_bezout_pair`] |
+//! | 2 to the power of the number of iterations for a coefficient is at most the coefficient, unless `k` is greater than `n` | [`iterations_for_binomial`] |
 //! | a fraction is reduced | [`parts_of_fraction`] |
 //! | a call returns an error only if the reduced fraction does not fit, or its denominator is 0 | [`fraction`], [`sum_of_fractions`], [`difference_of_fractions`], [`product_of_fractions`], [`quotient_of_fractions`] |
 //! | the rounding and the order of fractions are those of the definitions | [`floor_and_ceil_of_fraction`], [`order_of_fractions`] |
@@ -48,7 +51,7 @@
 //! `u64`. `T.fits z` says that the type has the integer `z`. A lawful type implements `Integer`, and its laws
 //! are proved. The twelve native types are lawful, but `Roots` and `SqrtCounted` have only ten of them: `i128` and
 //! `u128` have no roots. Clauses speak of integers without limit, so nothing in them overflows. A clause
-//! `in_range` says that an argument is in the range of its type. The prover knows this of an argument that is an
+//! `in_range` of `requires` says that an argument is in the range of its type, and one of `ensures` that a result is. The prover knows this of an argument that is an
 //! `i64` or a `u64`, and of the items of a `&[u64]`, but not of those of a `&[i64]`. The other `requires` are the
 //! precondition of the call. [`divisions`] and [`quotients`] require that the quotients of all three kinds fit, and each
 //! call only that its own does. By [`domain_of_quotients`] this is the same. The `specs/` of each crate define the
@@ -64,7 +67,9 @@
 //! - `HasPair fits a b` says that one of the numbers divides the other, if the type has no -1. Otherwise one of
 //!   Bezout's coefficients is negative, so such a type has no pair.
 //! - `AreGcdIterations low a b n` says that `n` is 0 if `a` or `b` is 0 or `low`, the smallest number of the type, since
-//!   the call then returns before its loop. Otherwise `n` is the number of iterations of Stein's loop.
+//!   the call then returns before its loop. Otherwise `n` is the number of iterations of Stein's loop. If `low` is `-high`, as in -7..=7,
+//!   the call could run its loop at `low`. The clause asks for 0 there too. No type in this repository that implements `GcdCounted`
+//!   has such a range.
 //! - `Appends old new line` says that the bytes `new` are the bytes `old` and then `line`. It says nothing of a sink
 //!   that shows no bytes. `S.contents` is the bytes that a sink shows.
 
@@ -84,8 +89,9 @@ ghost use Rattle.num_integer.specs.GcdRuns.{AreGcdIterations, IsBitLength};
 ghost use Rattle.num_integer.specs.Multinomial.{IsMultinomial};
 ghost use Rattle.num_integer.specs.Only.{IsOnly};
 ghost use Rattle.num_integer.specs.Range.{EachFits};
-ghost use Rattle.num_integer.specs.RootOf.{IsRoot};
+ghost use Rattle.num_integer.specs.RootOf.{IsFloorRoot, IsRoot};
 ghost use Rattle.num_integer.specs.Row.{RowFits, row_of};
+ghost use Rattle.integer_roots.specs.NewtonRuns.{newton_step};
 ghost use Rattle.num_integer.specs.SquareRuns.{AreSquareRootIterations};
 ghost use Rattle.ratio64.specs.Fraction.{AreEqual, IsExact, IsOutsideI64, IsReduced, fraction_cmp};
 ghost use Rattle.ratio64.specs.Ratio.{AnswersFraction, den_of, num_of};
@@ -122,6 +128,7 @@ pub fn root<T: Roots>(x: T, n: u32) -> T
     requires in_range { T.fits (T.value x) }
     requires degree { n ≢ 0 }
     requires from_zero_where_even { n % 2 ≡ 0 → pos 0 ≤ℤ T.value x }
+    ensures in_range { T.fits (T.value result) }
     ensures exact { IsRoot (T.value x) n (T.value result) }
 {
     nth_root(x, n)
@@ -131,6 +138,7 @@ pub fn root<T: Roots>(x: T, n: u32) -> T
 pub fn square_root<T: Roots>(x: T) -> T
     requires in_range { T.fits (T.value x) }
     requires from_zero { pos 0 ≤ℤ T.value x }
+    ensures in_range { T.fits (T.value result) }
     ensures exact { IsRoot (T.value x) 2 (T.value result) }
 {
     sqrt(x)
@@ -139,6 +147,7 @@ pub fn square_root<T: Roots>(x: T) -> T
 /// Returns the cube root, which is exact.
 pub fn cube_root<T: Roots>(x: T) -> T
     requires in_range { T.fits (T.value x) }
+    ensures in_range { T.fits (T.value result) }
     ensures exact { IsRoot (T.value x) 3 (T.value result) }
 {
     cbrt(x)
@@ -174,6 +183,7 @@ pub fn cube_root_of_i64(x: i64) -> i64
 pub fn square_root_in_five_iterations<T: SqrtCounted>(x: T) -> (T, u32)
     requires in_range { T.fits (T.value x) }
     requires from_zero { pos 0 ≤ℤ T.value x }
+    ensures in_range { T.fits (T.value result.0) }
     ensures exact { IsRoot (T.value x) 2 (T.value result.0) }
     ensures iterations { AreSquareRootIterations (T.value x) result.1 }
     ensures five { result.1 ≤ 5 }
@@ -202,11 +212,21 @@ pub fn square_root_in_five_iterations_of_u64(x: u64) -> (u64, u32)
     SqrtCounted::sqrt_counted(&x)
 }
 
+/// States where a step of Newton's iteration for a root leads, and makes no call. From each guess it leads to the root or
+/// above it, and from a guess above the root to a smaller one.
+pub fn newton_steps()
+    ensures never_below_root { (a n x r : ℕ) → 0 < n → 0 < x → IsFloorRoot (pos a) n (pos r)
+        → r ≤ newton_step a n x }
+    ensures below_guess_above_root { (a n x r : ℕ) → 0 < n → r < x
+        → IsFloorRoot (pos a) n (pos r) → newton_step a n x < x }
+{}
+
 /// Returns the greatest common divisor. It is at least 0, divides both numbers, and is divided by every number that
 /// divides both.
 pub fn greatest_common_divisor<T: Integer>(a: T, b: T) -> T
     requires in_range { T.fits (T.value a) × T.fits (T.value b) }
     requires gcd_fits { GcdFits T.fits (T.value a) (T.value b) }
+    ensures in_range { T.fits (T.value result) }
     ensures greatest { IsGreatestCommonDivisor (T.value a) (T.value b) (T.value result) }
 {
     gcd(a, b)
@@ -227,6 +247,8 @@ pub fn bezout_pair<T: Integer>(a: T, b: T) -> ExtendedGcd<T>
     requires in_range { T.fits (T.value a) × T.fits (T.value b) }
     requires gcd_fits { GcdFits T.fits (T.value a) (T.value b) }
     requires has_pair { HasPair T.fits (T.value a) (T.value b) }
+    ensures in_range { T.fits (T.value result.gcd) × T.fits (T.value result.x)
+        × T.fits (T.value result.y) }
     ensures greatest { IsGreatestCommonDivisor (T.value a) (T.value b) (T.value result.gcd) }
     ensures certified { T.value result.x *ℤ T.value a +ℤ T.value result.y *ℤ T.value b
         ≡ T.value result.gcd }
@@ -256,6 +278,10 @@ pub fn bezout_pair_by_two_calls<T: Integer>(a: T, b: T) -> (ExtendedGcd<T>, Exte
     requires in_range { T.fits (T.value a) × T.fits (T.value b) }
     requires gcd_fits { GcdFits T.fits (T.value a) (T.value b) }
     requires has_pair { HasPair T.fits (T.value a) (T.value b) }
+    ensures in_range { T.fits (T.value result.0.gcd) × T.fits (T.value result.0.x)
+        × T.fits (T.value result.0.y) }
+    ensures second_in_range { T.fits (T.value result.1.gcd) × T.fits (T.value result.1.x)
+        × T.fits (T.value result.1.y) }
     ensures named { IsBezoutAnswer (T.value a) (T.value b)
         (T.value result.0.gcd) (T.value result.0.x) (T.value result.0.y) }
     ensures same_gcd { T.value result.1.gcd ≡ T.value result.0.gcd }
@@ -270,6 +296,7 @@ pub fn binomial_coefficient<T: Integer>(n: T, k: T) -> T
     requires in_range { T.fits (T.value n) × T.fits (T.value k) }
     requires from_zero { (pos 0 ≤ℤ T.value n) × (pos 0 ≤ℤ T.value k) }
     requires coefficient_fits { T.fits (coefficient_of (T.value n) (T.value k)) }
+    ensures in_range { T.fits (T.value result) }
     ensures exact { T.value result ≡ coefficient_of (T.value n) (T.value k) }
 {
     binomial(n, k)
@@ -289,6 +316,7 @@ pub fn multinomial_coefficient<T: Integer>(counts: &[T]) -> T
     requires in_range { All (λ count. T.fits (T.value count)) counts.now }
     requires from_zero { All (λ count. pos 0 ≤ℤ T.value count) counts.now }
     requires multinomial_fits { EachFits T.fits (IsMultinomial (map T.value counts.now)) }
+    ensures in_range { T.fits (T.value result) }
     ensures exact { IsMultinomial (map T.value counts.now) (T.value result) }
 {
     multinomial(counts)
@@ -308,6 +336,7 @@ pub fn multinomial_coefficient_of_u64(counts: &[u64]) -> u64
 pub fn row_iterator<T: Integer>(n: T) -> IterBinomial<T>
     requires in_range { T.fits (T.value n) }
     requires row_fits { RowFits T.fits (T.value n) }
+    ensures in_range { All T.fits result }
     ensures items { result ≡ row_of (T.value n) }
 {
     IterBinomial::new(n)
@@ -336,6 +365,8 @@ pub fn divisions<T: Integer>(n: T, d: T) -> ((T, T), (T, T))
     requires nonzero { T.value d ≢ pos 0 }
     requires quotients_fit { EachKind (λ Kind. EachFits T.fits
         (IsQuotient Kind (T.value n) (T.value d))) }
+    ensures truncated_in_range { T.fits (T.value result.0.0) × T.fits (T.value result.0.1) }
+    ensures floored_in_range { T.fits (T.value result.1.0) × T.fits (T.value result.1.1) }
     ensures truncated { IsTruncated (T.value n) (T.value d)
         (T.value result.0.0) (T.value result.0.1) }
     ensures floored { IsFloored (T.value n) (T.value d)
@@ -351,6 +382,7 @@ pub fn quotients<T: Integer>(n: T, d: T) -> (T, T)
     requires nonzero { T.value d ≢ pos 0 }
     requires quotients_fit { EachKind (λ Kind. EachFits T.fits
         (IsQuotient Kind (T.value n) (T.value d))) }
+    ensures in_range { T.fits (T.value result.0) × T.fits (T.value result.1) }
     ensures floored { IsQuotient IsFloored (T.value n) (T.value d) (T.value result.0) }
     ensures ceiled { IsQuotient IsCeiled (T.value n) (T.value d) (T.value result.1) }
 {
@@ -372,6 +404,7 @@ pub fn quotients_of_i64(n: i64, d: i64) -> (i64, i64)
 pub fn residue<T: Integer>(n: T, d: T) -> T
     requires in_range { T.fits (T.value n) × T.fits (T.value d) }
     requires nonzero { T.value d ≢ pos 0 }
+    ensures in_range { T.fits (T.value result) }
     ensures floored { IsRemainder IsFloored (T.value n) (T.value d) (T.value result) }
 {
     mod_floor(n, d)
@@ -392,6 +425,7 @@ pub fn multiples<T: Integer>(n: T, d: T) -> (T, T)
     requires nonzero { T.value d ≢ pos 0 }
     requires previous_fits { EachFits T.fits (IsMultiple IsFloored (T.value n) (T.value d)) }
     requires next_fits { EachFits T.fits (IsMultiple IsCeiled (T.value n) (T.value d)) }
+    ensures in_range { T.fits (T.value result.0) × T.fits (T.value result.1) }
     ensures previous { IsMultiple IsFloored (T.value n) (T.value d) (T.value result.0) }
     ensures next { IsMultiple IsCeiled (T.value n) (T.value d) (T.value result.1) }
 {
@@ -452,6 +486,7 @@ pub fn parity_of_i64(n: i64) -> (bool, bool)
 pub fn one_more<T: Integer>(n: &mut T)
     requires in_range { T.fits (T.value n.old) }
     requires sum_fits { T.fits (T.value n.old +ℤ pos 1) }
+    ensures in_range { T.fits (T.value n.new) }
     ensures more { T.value n.new ≡ T.value n.old +ℤ pos 1 }
 {
     n.inc();
@@ -469,6 +504,7 @@ pub fn one_more_of_u64(n: &mut u64)
 pub fn one_less<T: Integer>(n: &mut T)
     requires in_range { T.fits (T.value n.old) }
     requires difference_fits { T.fits (T.value n.old -ℤ pos 1) }
+    ensures in_range { T.fits (T.value n.new) }
     ensures less { T.value n.new ≡ T.value n.old -ℤ pos 1 }
 {
     n.dec();
@@ -479,6 +515,7 @@ pub fn one_less<T: Integer>(n: &mut T)
 pub fn least_common_multiple<T: Integer>(a: T, b: T) -> T
     requires in_range { T.fits (T.value a) × T.fits (T.value b) }
     requires lcm_fits { EachFits T.fits (IsLeastCommonMultiple (T.value a) (T.value b)) }
+    ensures in_range { T.fits (T.value result) }
     ensures least { IsLeastCommonMultiple (T.value a) (T.value b) (T.value result) }
 {
     lcm(a, b)
@@ -497,6 +534,7 @@ pub fn gcd_and_lcm<T: Integer>(a: T, b: T) -> (T, T)
     requires in_range { T.fits (T.value a) × T.fits (T.value b) }
     requires gcd_fits { GcdFits T.fits (T.value a) (T.value b) }
     requires lcm_fits { EachFits T.fits (IsLeastCommonMultiple (T.value a) (T.value b)) }
+    ensures in_range { T.fits (T.value result.0) × T.fits (T.value result.1) }
     ensures greatest { IsGreatestCommonDivisor (T.value a) (T.value b) (T.value result.0) }
     ensures least { IsLeastCommonMultiple (T.value a) (T.value b) (T.value result.1) }
 {
@@ -509,6 +547,8 @@ pub fn bezout_pair_and_lcm<T: Integer + Signed>(a: T, b: T) -> (ExtendedGcd<T>, 
     requires gcd_fits { GcdFits T.fits (T.value a) (T.value b) }
     requires has_pair { HasPair T.fits (T.value a) (T.value b) }
     requires lcm_fits { EachFits T.fits (IsLeastCommonMultiple (T.value a) (T.value b)) }
+    ensures in_range { T.fits (T.value result.0.gcd) × T.fits (T.value result.0.x)
+        × T.fits (T.value result.0.y) × T.fits (T.value result.1) }
     ensures named { IsBezoutAnswer (T.value a) (T.value b)
         (T.value result.0.gcd) (T.value result.0.x) (T.value result.0.y) }
     ensures least { IsLeastCommonMultiple (T.value a) (T.value b) (T.value result.1) }
@@ -519,6 +559,7 @@ pub fn bezout_pair_and_lcm<T: Integer + Signed>(a: T, b: T) -> (ExtendedGcd<T>, 
 /// Returns half of the sum rounded down and half of it rounded up, for any two numbers of the type.
 pub fn averages<T: Average>(a: T, b: T) -> (T, T)
     requires in_range { T.fits (T.value a) × T.fits (T.value b) }
+    ensures in_range { T.fits (T.value result.0) × T.fits (T.value result.1) }
     ensures floor { IsAverageFloor (T.value a) (T.value b) (T.value result.0) }
     ensures ceil { IsAverageCeil (T.value a) (T.value b) (T.value result.1) }
 {
@@ -623,11 +664,62 @@ pub fn ends_of_type<T: Fits>() -> (u128, u128)
     T::ends()
 }
 
+/// Returns the ends of a type, which meets the bounds of the theorems at any type, but for those on roots.
+fn ends_of_lawful_type<T: Fits + Average + GcdCounted>() -> (u128, u128)
+    ensures low { result.0 ≡ unsigned_abs T.low }
+    ensures high { pos result.1 ≡ T.high }
+{
+    ends_of_type::<T>()
+}
+
+/// Returns the ends of a type, which meets the bounds of the theorems on roots too.
+fn ends_of_type_with_roots<T: Fits + Average + GcdCounted + SqrtCounted>() -> (u128, u128)
+    ensures low { result.0 ≡ unsigned_abs T.low }
+    ensures high { pos result.1 ≡ T.high }
+{
+    ends_of_lawful_type::<T>()
+}
+
+/// Returns, for each of the ten native types that have roots, the magnitude of its smallest number, and its largest number.
+/// Each of these types is lawful: it meets the bounds of all theorems here.
+pub fn ends_of_types_with_roots() -> ([(u128, u128); 5], [(u128, u128); 5])
+    ensures signed { result.0 ≡ (2 ^ 7, 2 ^ 7 - 1) ∷ (2 ^ 15, 2 ^ 15 - 1) ∷ (2 ^ 31, 2 ^ 31 - 1)
+        ∷ (2 ^ 63, 2 ^ 63 - 1) ∷ (2 ^ 63, 2 ^ 63 - 1) ∷ [] }
+    ensures unsigned { result.1 ≡ (0, 2 ^ 8 - 1) ∷ (0, 2 ^ 16 - 1) ∷ (0, 2 ^ 32 - 1)
+        ∷ (0, 2 ^ 64 - 1) ∷ (0, 2 ^ 64 - 1) ∷ [] }
+{
+    (
+        [
+            ends_of_type_with_roots::<i8>(),
+            ends_of_type_with_roots::<i16>(),
+            ends_of_type_with_roots::<i32>(),
+            ends_of_type_with_roots::<i64>(),
+            ends_of_type_with_roots::<isize>(),
+        ],
+        [
+            ends_of_type_with_roots::<u8>(),
+            ends_of_type_with_roots::<u16>(),
+            ends_of_type_with_roots::<u32>(),
+            ends_of_type_with_roots::<u64>(),
+            ends_of_type_with_roots::<usize>(),
+        ],
+    )
+}
+
+/// Returns the same for `i128` and `u128`. They are lawful, and meet the bounds of all theorems but those on roots.
+pub fn ends_of_types_without_roots() -> ((u128, u128), (u128, u128))
+    ensures signed { result.0 ≡ (2 ^ 127, 2 ^ 127 - 1) }
+    ensures unsigned { result.1 ≡ (0, 2 ^ 128 - 1) }
+{
+    (ends_of_lawful_type::<i128>(), ends_of_lawful_type::<u128>())
+}
+
 /// Returns the greatest common divisor and the number of iterations of Stein's loop. It is at most the sum of the bit
 /// lengths of the two numbers.
 pub fn iterations_for_gcd<T: GcdCounted>(a: T, b: T) -> (T, u32)
     requires in_range { T.fits (T.value a) × T.fits (T.value b) }
     requires gcd_fits { GcdFits T.fits (T.value a) (T.value b) }
+    ensures in_range { T.fits (T.value result.0) }
     ensures greatest { IsGreatestCommonDivisor (T.value a) (T.value b) (T.value result.0) }
     ensures iterations { AreGcdIterations T.low (T.value a) (T.value b) result.1 }
     ensures bound { (k l : ℕ) → IsBitLength (T.value a) k → IsBitLength (T.value b) l
@@ -646,12 +738,14 @@ pub fn iterations_for_gcd_of_u64(a: u64, b: u64) -> (u64, u32)
     GcdCounted::gcd_counted(&a, &b)
 }
 
-/// Returns the greatest common divisor with its pair and the number `t` of iterations of Euclid's loop. The Fibonacci
-/// number of `t + 2`, times the greatest common divisor, is at most the magnitude of `b` (Lamé, 1844).
+/// Returns the greatest common divisor with its pair and the number `t` of iterations of Euclid's loop. If `b` is not 0, the
+/// Fibonacci number of `t + 2`, times the greatest common divisor, is at most the magnitude of `b` (Lamé, 1844).
 pub fn iterations_for_bezout_pair<T: Integer>(a: T, b: T) -> (ExtendedGcd<T>, u32)
     requires in_range { T.fits (T.value a) × T.fits (T.value b) }
     requires gcd_fits { GcdFits T.fits (T.value a) (T.value b) }
     requires has_pair { HasPair T.fits (T.value a) (T.value b) }
+    ensures in_range { T.fits (T.value result.0.gcd) × T.fits (T.value result.0.x)
+        × T.fits (T.value result.0.y) }
     ensures named { IsBezoutAnswer (T.value a) (T.value b)
         (T.value result.0.gcd) (T.value result.0.x) (T.value result.0.y) }
     ensures iterations { AreEuclidIterations (T.value a) (T.value b) result.1 }
@@ -680,6 +774,7 @@ pub fn iterations_for_binomial<T: Integer>(n: T, k: T) -> (T, u32)
     requires in_range { T.fits (T.value n) × T.fits (T.value k) }
     requires from_zero { (pos 0 ≤ℤ T.value n) × (pos 0 ≤ℤ T.value k) }
     requires coefficient_fits { T.fits (coefficient_of (T.value n) (T.value k)) }
+    ensures in_range { T.fits (T.value result.0) }
     ensures exact { T.value result.0 ≡ coefficient_of (T.value n) (T.value k) }
     ensures iterations { result.1
         ≡ min (unsigned_abs (T.value k)) (unsigned_abs (T.value n) - unsigned_abs (T.value k)) }

@@ -1,7 +1,14 @@
 //! The laws of the definitions. They follow from the definitions alone, whatever an implementation does. Each law of
-//! a `specs/Laws.antt` is a clause here, and each library has one function.
+//! a `specs/Laws.antt` is a clause here, and each library has one function. A clause that stands here in full has no name there.
 
-ghost use Rattle.std.specs.Prelude.{ℤ};
+ghost use Rattle.std.specs.Prelude.{◌≡◌, ◌≢◌, ◌%◌, ◌<ℤ◌, ◌≤ℤ◌, List, All, pos, ℕ, ℤ};
+ghost use Rattle.std.specs.Cmp.{IsTotalOrder};
+ghost use Rattle.num_integer.specs.Averages.{IsAverageCeil, IsAverageFloor};
+ghost use Rattle.num_integer.specs.Divisors.{IsGreatestCommonDivisor};
+ghost use Rattle.num_integer.specs.Least.{IsLeastFrom};
+ghost use Rattle.num_integer.specs.RootOf.{IsRoot};
+ghost use Rattle.modular.specs.Congruences.{IsCountOfCongruent, IsInverse, IsNextCommonSolution, IsNextCongruent, IsPreviousCongruent, IsQuotientModulo, IsReducedModulus, IsResidue, IsResidueClass, Solves, SolvesBothCongruences, SolvesEach};
+ghost use Rattle.ratio64.specs.Fraction.{fraction_cmp};
 ghost use Rattle.num_integer.specs.Laws as integers;
 ghost use Rattle.modular.specs.Laws as residues;
 ghost use Rattle.ratio64.specs.Laws as fractions;
@@ -47,9 +54,13 @@ pub fn laws_of_integers<T: Integer>()
     ensures bezout_answer_exists { integers.BezoutAnswerExists }
     ensures bezout_answer_is_only { integers.BezoutAnswerIsOnly }
     ensures euclid_iterations_are_only { integers.EuclidIterationsAreOnly }
+    ensures average_floor_exists { (a b : ℤ) → (f : ℤ) × IsAverageFloor a b f }
+    ensures average_ceil_exists { (a b : ℤ) → (c : ℤ) × IsAverageCeil a b c }
     ensures average_floor_is_only { integers.AverageFloorIsOnly }
     ensures average_ceil_is_only { integers.AverageCeilIsOnly }
     ensures averages_are_neighbours { integers.AveragesAreNeighbours }
+    ensures root_exists { (x : ℤ) (n : ℕ) → n ≢ 0 → (n % 2 ≡ 0 → pos 0 ≤ℤ x)
+        → (r : ℤ) × IsRoot x n r }
     ensures root_is_only { integers.RootIsOnly }
     ensures first_root { integers.FirstRoot }
     ensures square_root_iterations_are_only { integers.SquareRootIterationsAreOnly }
@@ -66,16 +77,35 @@ pub fn laws_of_integers<T: Integer>()
 
 /// States the laws of residues, inverses and congruences.
 pub fn laws_of_residues<P: Property, T: Integer>()
+    ensures residue_exists { (m x : ℤ) → pos 0 <ℤ m → (r : ℤ) × IsResidue m x r }
     ensures residue_is_only { residues.ResidueIsOnly }
+    ensures inverse_exists { (a m : ℤ) → pos 0 <ℤ m → IsGreatestCommonDivisor a m (pos 1)
+        → (x : ℤ) × IsInverse a m x }
     ensures inverse_is_only { residues.InverseIsOnly }
+    ensures quotient_exists { (a b m inverse : ℤ) → pos 0 <ℤ m → IsInverse b m inverse
+        → (x : ℤ) × IsQuotientModulo a b m x }
     ensures quotient_is_only { residues.QuotientIsOnly }
     ensures exponents_add { residues.ExponentsAdd }
+    ensures residue_class_exists { (a b m x : ℤ) → pos 0 <ℤ m → Solves a b m x
+        → (first step : ℤ) × IsResidueClass (Solves a b m) first step }
     ensures residue_class_is_only { residues.ResidueClassIsOnly P.holds }
+    ensures reduced_modulus_exists { (a m : ℤ) → (reduced : ℤ) × IsReducedModulus a m reduced }
     ensures reduced_modulus_is_only { residues.ReducedModulusIsOnly }
+    ensures next_congruent_exists { (from residue modulus : ℤ) → pos 0 <ℤ modulus
+        → (t : ℤ) × IsNextCongruent from residue modulus t }
     ensures next_congruent_is_only { residues.NextCongruentIsOnly }
+    ensures previous_congruent_exists { (to residue modulus : ℤ) → pos 0 <ℤ modulus
+        → (t : ℤ) × IsPreviousCongruent to residue modulus t }
     ensures previous_congruent_is_only { residues.PreviousCongruentIsOnly }
+    ensures count_of_congruent_exists { (from to residue modulus : ℤ) → pos 0 <ℤ modulus
+        → (count : ℤ) × IsCountOfCongruent from to residue modulus count }
     ensures count_of_congruent_is_only { residues.CountOfCongruentIsOnly }
+    ensures next_common_solution_exists { (from a m b n x : ℤ) → pos 0 <ℤ m → pos 0 <ℤ n
+        → SolvesBothCongruences a m b n x → (t : ℤ) × IsNextCommonSolution from a m b n t }
     ensures next_common_solution_is_only { residues.NextCommonSolutionIsOnly }
+    ensures next_solution_of_each_exists { (congruences : List (T × T)) (from x : ℤ)
+        → All (λ c. pos 0 <ℤ T.value c.1) congruences → SolvesEach T.value congruences x
+        → (t : ℤ) × IsLeastFrom from (SolvesEach T.value congruences) t }
     ensures next_solution_of_each_is_only { residues.NextSolutionOfEachIsOnly T.value }
 {}
 
@@ -88,6 +118,8 @@ pub fn laws_of_fractions()
     ensures ratio_of_parts_is_only { fractions.RatioOfPartsIsOnly }
     ensures answer_is_only { fractions.AnswerIsOnly }
     ensures order_is_total { fractions.OrderIsTotal Ratio num_of den_of }
+    ensures order_of_ratios_is_total { IsTotalOrder (λ (x : Ratio) (y : Ratio).
+        fraction_cmp (num_of x) (den_of x) (num_of y) (den_of y)) }
     ensures order_agrees_with_equality { fractions.OrderAgreesWithEquality }
     ensures order_over_one_denominator { fractions.OrderOverOneDenominator }
     ensures rounded_is_only { fractions.RoundedIsOnly }

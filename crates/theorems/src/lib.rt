@@ -1,5 +1,5 @@
-//! The main theorems, and the laws of the definitions. The contract of each function is a theorem: it fixes the result. Two of
-//! them write to a writer of the caller, and say nothing of when it fails: `put_on_console` and `finished_console` of `headline.rt`.
+//! The main theorems, and the laws of the definitions. The contract of each function is a theorem: it fixes the result. Two write
+//! to the caller's writer, and don't say when that fails: `put_on_console` and `finished_console` of `headline.rt`.
 //!
 //! If the clauses of `requires` hold, a call returns, and the clauses of `ensures` hold for its result. The gate proves each
 //! function for every argument. More theorems, by subject, are in the crate `theorems_by_subject`. Functions that only show how a

@@ -1,16 +1,14 @@
 //! What is proved of the decimal numbers of `ratio64`.
 
-ghost use Rattle.std.specs.Prelude.{◌≢◌, ◌≤◌, ◌^◌, ◌<ℤ◌, ◌-ℤ◌, ◌*ℤ◌, Err, FitsSigned, IfSome, pos, unsigned_abs, ℤ};
+ghost use Rattle.std.specs.Prelude.{◌≤◌, ◌^◌, ◌-ℤ◌, ◌*ℤ◌, IfSome, pos, unsigned_abs, ℤ};
 ghost use Rattle.std.specs.Fmt.{WritesOnOk};
-ghost use Rattle.std.specs.Int.{w64};
 ghost use Rattle.num_integer.specs.Checked.{AnswersWhere};
 ghost use Rattle.num_integer.specs.Only.{IsOnly};
-ghost use Rattle.num_integer.specs.Range.{EachFits};
 ghost use Rattle.ratio64.specs.Decimal.{IsDecimalOf, SpellsDecimal, decimal_text, places_of, units_of};
 ghost use Rattle.ratio64.specs.Ratio.{den_of, num_of};
-ghost use Rattle.ratio64.specs.Rounding.{AnswersInParts, IsRoundedEven};
+ghost use Rattle.ratio64.specs.Rounding.{IsRoundedEven};
 
-use ratio64::{Decimal, Ratio, RatioError};
+use ratio64::{Decimal, Ratio};
 use std::fmt;
 
 /// Returns the integer nearest to the fraction, and of two that are equally near the even one. It is unique.
@@ -19,26 +17,6 @@ pub fn even_integer(x: &Ratio) -> i64
     ensures only { IsOnly (IsRoundedEven (num_of x.now) (den_of x.now)) result }
 {
     x.round_even()
-}
-
-/// Returns the integer nearest to the fraction times `n`, and of two that are equally near the even one, or `None` if
-/// that integer does not fit.
-pub fn rounded_even_product(x: &Ratio, n: i64) -> Option<i64>
-    ensures { AnswersWhere
-        (EachFits (FitsSigned w64) (IsRoundedEven (num_of x.now *ℤ n) (den_of x.now)))
-        (IsRoundedEven (num_of x.now *ℤ n) (den_of x.now)) result }
-{
-    x.round_even_times(n)
-}
-
-/// Returns the nearest multiple of `1 / parts`, and of two that are equally near the one that is an even number of
-/// parts, or `NotFitting` if a part of it does not fit.
-pub fn rounded_even_in_parts(x: &Ratio, parts: i64) -> Result<Ratio, RatioError>
-    requires { pos 0 <ℤ parts }
-    ensures rounded { AnswersInParts (IsRoundedEven (num_of x.now *ℤ parts) (den_of x.now)) parts result }
-    ensures never_zero { result ≢ Err RatioError.ZeroDenominator }
-{
-    x.round_even_to(parts)
 }
 
 /// Returns the units of the nearest decimal number with so many places, or `None` if there are more than 18. No multiple
@@ -68,7 +46,9 @@ pub fn read_back(x: &Ratio, places: u32) -> Option<Decimal>
     x.to_decimal(places)
 }
 
-/// Prints the decimal number. If nothing fails, the string of the definition is written.
+/// Prints the decimal number. If the formatter has no options and nothing fails, the string of the definition is written. The
+/// contract says nothing of a formatter with options, and it holds of a body that returns `Err(fmt::Error)`, since a
+/// writer may fail at any time.
 pub fn printed_decimal<W: fmt::Write>(x: &Decimal, f: &mut fmt::Formatter<W>) -> fmt::Result
     ensures { WritesOnOk W.write_str_gives f.old result (decimal_text (units_of x.now) (places_of x.now)) f.new }
 {

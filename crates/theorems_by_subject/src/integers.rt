@@ -49,7 +49,8 @@ pub fn floored_parts<T: Integer>(n: T, d: T) -> (T, T)
     (div_floor(n, d), mod_floor(n, d))
 }
 
-/// Returns `(true, true)`: the greatest common divisor with a positive number and the quotient by it fit.
+/// Returns `(true, true)`: the greatest common divisor with a positive number and the quotient by it fit. The contract also
+/// holds of a body that makes no call. The theorem is that these calls meet it.
 pub fn tests_with_positive<T: Fits>(a: T, b: T) -> (bool, bool)
     requires in_range { T.fits (T.value a) × T.fits (T.value b) }
     requires positive { pos 0 <ℤ T.value b }
@@ -80,7 +81,8 @@ pub fn row_length<T: Integer>(n: T) -> usize
     IterBinomial::new(n).count()
 }
 
-/// Returns `(None, None)`: once no item is left, `next` always returns `None`.
+/// Returns `(None, None)`: once no item is left, `next` always returns `None`. The contract also holds of a body that makes
+/// no call. The theorem is that these calls meet it.
 pub fn none_for_good<T: Integer>(rest: &mut IterBinomial<T>) -> (Option<T>, Option<T>)
     requires { rest.old ≡ [] }
     ensures first { result.0 ≡ None }

@@ -1,15 +1,15 @@
 //! Pages, schedules and shares.
 
-ghost use Rattle.std.specs.Prelude.{◌≡◌, ◌↔◌, ◌<◌, ◌≤◌, ◌<ℤ◌, All, FitsSigned, IsOk, MatchOption, OnErr, OnOk, pos, ℕ, ℤ};
+ghost use Rattle.std.specs.Prelude.{◌≡◌, ◌≢◌, ◌↔◌, ◌<◌, ◌≤◌, ◌<ℤ◌, All, Err, FitsSigned, IsOk, MatchOption, OnErr, OnOk, length, pos, sum, ℕ, ℤ};
 ghost use Rattle.std.specs.Int.{w64};
 ghost use Rattle.num_integer.specs.Least.{IsLeastFrom};
 ghost use Rattle.num_integer.specs.Only.{IsOnly};
 ghost use Rattle.applied.specs.Paging.{IsPlace, IsRangeOfPage};
-ghost use Rattle.applied.specs.Schedules.{IsLeastTime, IsMeeting, IsMeetingOfEach};
+ghost use Rattle.applied.specs.Schedules.{IsMeetingOfEach};
 ghost use Rattle.applied.specs.Shares.{AreShares, AreSharesByRemainder, AreSignedShares, CanBeShared};
 
 use applied::paging::range_of_page;
-use applied::schedules::{Schedule, next_meeting, next_meeting_of};
+use applied::schedules::{Schedule, next_meeting_of};
 use applied::shares::{SharesError, shares, shares_by_largest_remainder, signed_shares};
 use modular::CommonSolution;
 
@@ -47,22 +47,16 @@ pub fn next_shift(now: i64, schedules: &[Schedule<i64>]) -> Option<i64>
     }
 }
 
-/// Returns the next day from `now` on that is on both schedules, `Beyond` if it does not fit, or `Never` if there is no
-/// such day.
-pub fn next_common_day(now: i64, a: Schedule<i64>, b: Schedule<i64>) -> CommonSolution<i64>
-    requires a_positive { pos 0 <ℤ a.1 }
-    requires b_positive { pos 0 <ℤ b.1 }
-    ensures { IsLeastTime (λ t. t) (FitsSigned w64) now (IsMeeting a.0 a.1 b.0 b.1) result }
-{
-    next_meeting(now, a, b)
-}
-
 // ---- shares
 
-/// Fills `parts` with the shares of the amount. Returns an error and writes nothing if the weights are all 0, or if there
-/// is not one part for each weight.
+/// Fills `parts` with the shares of the amount. Returns `DifferentLengths` if there is not one part for each weight, and
+/// otherwise `ZeroWeights` if the weights are all 0. If it returns an error, it writes nothing.
 pub fn shares_by_weights(amount: u64, weights: &[u64], parts: &mut [u64]) -> Result<(), SharesError>
     ensures possible { IsOk result ↔ CanBeShared weights.now parts.old }
+    ensures different_lengths { (result ≡ Err SharesError.DifferentLengths)
+        ↔ (length parts.old ≢ length weights.now) }
+    ensures zero_weights { (result ≡ Err SharesError.ZeroWeights)
+        ↔ ((length parts.old ≡ length weights.now) × (sum weights.now ≡ 0)) }
     ensures shares { OnOk result (AreShares amount weights.now parts.new) }
     ensures only { OnOk result (IsOnly (AreShares amount weights.now) parts.new) }
     ensures unchanged { OnErr result (parts.new ≡ parts.old) }
@@ -77,6 +71,10 @@ pub fn signed_shares_by_weights(
     parts: &mut [i64],
 ) -> Result<(), SharesError>
     ensures possible { IsOk result ↔ CanBeShared weights.now parts.old }
+    ensures different_lengths { (result ≡ Err SharesError.DifferentLengths)
+        ↔ (length parts.old ≢ length weights.now) }
+    ensures zero_weights { (result ≡ Err SharesError.ZeroWeights)
+        ↔ ((length parts.old ≡ length weights.now) × (sum weights.now ≡ 0)) }
     ensures shares { OnOk result (AreSignedShares amount weights.now parts.new) }
     ensures only { OnOk result (IsOnly (AreSignedShares amount weights.now) parts.new) }
     ensures unchanged { OnErr result (parts.new ≡ parts.old) }
@@ -91,6 +89,10 @@ pub fn shares_by_remainders(
     parts: &mut [u64],
 ) -> Result<(), SharesError>
     ensures possible { IsOk result ↔ CanBeShared weights.now parts.old }
+    ensures different_lengths { (result ≡ Err SharesError.DifferentLengths)
+        ↔ (length parts.old ≢ length weights.now) }
+    ensures zero_weights { (result ≡ Err SharesError.ZeroWeights)
+        ↔ ((length parts.old ≡ length weights.now) × (sum weights.now ≡ 0)) }
     ensures shares { OnOk result (AreSharesByRemainder amount weights.now parts.new) }
     ensures only { OnOk result (IsOnly (AreSharesByRemainder amount weights.now) parts.new) }
     ensures unchanged { OnErr result (parts.new ≡ parts.old) }

@@ -114,8 +114,8 @@ pub extern "C" fn cellarcove_fraction_pow(a: Fraction, exponent: i32) -> Fractio
 
 /// Returns the fraction times `n / d`. That of 2/3, 9 and 4 is 3/2.
 ///
-/// `ZERO_DENOMINATOR` if the denominator is 0, and if `d` is 0. `NOT_FITTING` if a part of the
-/// argument, reduced, does not fit, or a part of the result.
+/// `ZERO_DENOMINATOR` if the denominator is 0, and if `d` is 0 and the argument, reduced, fits.
+/// `NOT_FITTING` if a part of the argument, reduced, does not fit, or a part of the result.
 #[unsafe(no_mangle)]
 pub extern "C" fn cellarcove_fraction_times(a: Fraction, n: i64, d: i64) -> FractionAnswer {
     FractionAnswer::of(times(a.reduced(), n, d))
@@ -130,7 +130,9 @@ pub extern "C" fn cellarcove_fraction_cmp(a: Fraction, b: Fraction) -> OrderAnsw
     order(a.reduced(), b.reduced())
 }
 
-/// Returns the nearest fraction whose denominator is at most `max`. That of 3/10 and 5 is 1/3.
+/// Returns the nearest fraction whose denominator is at most `max`, of those equally near the one
+/// with the smallest denominator, and of two integers the smaller. That of 3/10 and 5 is 1/3, that
+/// of 5/12 and 4 is 1/2, and that of 3/2 and 1 is 1.
 ///
 /// `OUTSIDE` if `max` is not positive, whatever `a` is. `ZERO_DENOMINATOR` if the denominator is 0.
 /// `NOT_FITTING` if a part of the reduced fraction does not fit.

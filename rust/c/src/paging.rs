@@ -41,8 +41,8 @@ pub struct U64Range {
     pub end: u64,
 }
 
-/// Returns the smallest number of pages that hold all items. For 10 and 4 it is 3. A negative
-/// number of items has the same rule: for -9 and 4 it is -2.
+/// Returns the smallest number of pages that hold all items. For 10 and 4 it is 3, and for -9 and 4
+/// it is -2.
 ///
 /// `OUTSIDE` if `page_size` is not positive.
 #[unsafe(no_mangle)]
@@ -119,7 +119,7 @@ pub extern "C" fn cellarcove_item_at_u64(page: u64, place: u64, page_size: u64) 
 
 /// Returns the first item of a page and its end, which is one past its last item, if there are
 /// `items` items. Items and pages are counted from 0. Both are `items` if no item is on the page.
-/// Those of 2, 4 and 10 are 8 and 10.
+/// Those of 2, 4 and 10 are 8 and 10, and those of 3, 4 and 10 are 10 and 10.
 ///
 /// `OUTSIDE` if `page_size` is not positive or `items` is negative.
 #[unsafe(no_mangle)]
@@ -133,7 +133,7 @@ pub extern "C" fn cellarcove_range_of_page_i64(page: i64, page_size: i64, items:
 
 /// Returns the first item of a page and its end, which is one past its last item, if there are
 /// `items` items. Items and pages are counted from 0. Both are `items` if no item is on the page.
-/// Those of 2, 4 and 10 are 8 and 10.
+/// Those of 2, 4 and 10 are 8 and 10, and those of 3, 4 and 10 are 10 and 10.
 ///
 /// `OUTSIDE` if `page_size` is 0.
 #[unsafe(no_mangle)]

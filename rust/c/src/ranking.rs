@@ -7,7 +7,7 @@ use cellarcove::ranking::{choice_of_rank, is_choice, rank, rank_fits};
 
 /// Returns the rank of a choice of numbers below `n`: how many choices of as many numbers come
 /// before it. They are ordered by their last number, then by the one before it, and so on. For 0, 2
-/// and 3, and 5, it is 2.
+/// and 3 below 5 it is 2.
 ///
 /// `OUTSIDE` if the numbers do not increase or are not all below `n`. `NOT_FITTING` if the rank
 /// does not fit.
@@ -29,7 +29,7 @@ pub extern "C" fn cellarcove_rank_u64(choice: *const u64, choice_len: usize, n: 
 }
 
 /// Writes the choice of numbers below `n` that has the rank, of as many numbers as `choice` has,
-/// and returns the status. For 2, 5 and three numbers it is 0, 2 and 3. If the status is not 0,
+/// and returns the status. For 2, 5 and 3 numbers they are 0, 2 and 3. If the status is not 0,
 /// `choice` stays as it is.
 ///
 /// `OUTSIDE` if the rank is not below the number of these choices.

@@ -6,7 +6,7 @@ use cellarcove::schedules::{count, next_meeting};
 
 /// Returns the first time, not before `now`, that is in two schedules. One has the times `a`,
 /// `a + p`, `a + 2 * p` and so on, and the other those of `b` and `q`. For 10, 1, 4, 3 and 6 it is
-/// 21.
+/// 21, and for 0, 13, 4, 3 and 6 it is 21.
 ///
 /// `BAD_MODULUS` if `p` or `q` is not positive. `NO_SOLUTION` if there is no such time.
 /// `NOT_FITTING` if it does not fit.
@@ -26,7 +26,7 @@ pub extern "C" fn cellarcove_next_meeting_i64(
 
 /// Returns the first time, not before `now`, that is in two schedules. One has the times `a`,
 /// `a + p`, `a + 2 * p` and so on, and the other those of `b` and `q`. For 10, 1, 4, 3 and 6 it is
-/// 21.
+/// 21, and for 0, 13, 4, 3 and 6 it is 21.
 ///
 /// `BAD_MODULUS` if `p` or `q` is 0. `NO_SOLUTION` if there is no such time. `NOT_FITTING` if it
 /// does not fit.
@@ -46,7 +46,7 @@ pub extern "C" fn cellarcove_next_meeting_u64(
 
 /// Returns how many times of a schedule are in the range of numbers between `from` and `to`, and at
 /// them. The schedule has the times `first`, `first + period` and so on. For 4, 15, 3 and 6 it is
-/// 2.
+/// 2, and for -9, 15, 3 and 6 it is 3.
 ///
 /// `BAD_MODULUS` if `period` is not positive. `NOT_FITTING` if the count does not fit.
 #[unsafe(no_mangle)]

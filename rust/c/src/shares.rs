@@ -5,9 +5,10 @@ use crate::answers::{ANSWER, OUTSIDE};
 use cellarcove::shares::{shares, shares_by_largest_remainder, signed_shares};
 
 /// Writes the shares of the amount in proportion to the weights, and returns the status. Together
-/// the shares are the amount. The first shares together are their exact share rounded up; those of
-/// a negative amount are the shares of its magnitude with its sign. For -100 and the weights 1, 1
-/// and 1 they are -34, -33 and -33. If the status is not 0, `parts` stays as it is.
+/// the shares are the amount. Running totals are rounded up, and the shares of a negative amount
+/// are those of its magnitude with its sign. For -100 and the weights 1, 1 and 1 they are -34, -33
+/// and -33, and for 1002 and the weights 1, 1, 1 and 1 they are 251, 250, 251 and 250. If the
+/// status is not 0, `parts` stays as it is.
 ///
 /// `OUTSIDE` if there is not one part for each weight, or if the weights are all 0.
 #[unsafe(no_mangle)]
@@ -38,9 +39,9 @@ pub extern "C" fn cellarcove_shares_i64(
 }
 
 /// Writes the shares of the amount in proportion to the weights, and returns the status. Together
-/// the shares are the amount, and the first shares together are their exact share rounded up. For
-/// 100 and the weights 1, 1 and 1 they are 34, 33 and 33. If the status is not 0, `parts` stays as
-/// it is.
+/// the shares are the amount. Running totals are rounded up. For 100 and the weights 1, 1 and 1
+/// they are 34, 33 and 33, and for 1002 and the weights 1, 1, 1 and 1 they are 251, 250, 251 and
+/// 250. If the status is not 0, `parts` stays as it is.
 ///
 /// `OUTSIDE` if there is not one part for each weight, or if the weights are all 0.
 #[unsafe(no_mangle)]
@@ -73,7 +74,8 @@ pub extern "C" fn cellarcove_shares_u64(
 /// Writes the shares of the amount by largest remainders, and returns the status. Each is the exact
 /// share rounded down, or 1 more for the weights with the largest remainders, and of equal ones the
 /// first, so that together they are the amount. For 2 and the weights 1, 1 and 98 they are 0, 0 and
-/// 2. If the status is not 0, `parts` stays as it is.
+/// 2, and for 1002 and the weights 1, 1, 1 and 1 they are 251, 251, 250 and 250. If the status is
+/// not 0, `parts` stays as it is.
 ///
 /// `OUTSIDE` if there is not one part for each weight, or if the weights are all 0.
 #[unsafe(no_mangle)]

@@ -146,6 +146,7 @@ impl Date {
     /// use cellarcove::calendar::Date;
     ///
     /// assert_eq!(Date::new(1969, 12, 31).unwrap().day_number(), Some(-1));
+    /// assert_eq!(Date::new(i64::MAX, 1, 1).unwrap().day_number(), None);
     /// ```
     ///
     /// [Contract](crate::definitions::contracts#calendardateday_number)
@@ -176,6 +177,7 @@ impl Date {
     /// use cellarcove::calendar::Date;
     ///
     /// assert_eq!(Date::new(2000, 2, 28).unwrap().next(), Date::new(2000, 2, 29));
+    /// assert_eq!(Date::new(i64::MAX, 12, 31).unwrap().next(), None);
     /// ```
     ///
     /// [Contract](crate::definitions::contracts#calendardatenext)
@@ -219,6 +221,7 @@ impl Date {
     /// use cellarcove::calendar::Date;
     ///
     /// assert_eq!(Date::new(1900, 3, 1).unwrap().previous(), Date::new(1900, 2, 28));
+    /// assert_eq!(Date::new(i64::MIN, 1, 1).unwrap().previous(), None);
     /// ```
     ///
     /// [Contract](crate::definitions::contracts#calendardateprevious)
@@ -296,6 +299,7 @@ impl Date {
     /// use cellarcove::calendar::Date;
     ///
     /// assert_eq!(Date::new(2000, 3, 1).unwrap().plus_days(-1), Date::new(2000, 2, 29));
+    /// assert_eq!(Date::new(i64::MAX, 12, 31).unwrap().plus_days(1), None);
     /// ```
     ///
     /// [Contract](crate::definitions::contracts#calendardateplus_days)
@@ -330,6 +334,7 @@ impl Date {
     /// use cellarcove::calendar::Date;
     ///
     /// assert_eq!(Date::new(2000, 3, 1).unwrap().minus_days(1), Date::new(2000, 2, 29));
+    /// assert_eq!(Date::new(i64::MIN, 1, 1).unwrap().minus_days(1), None);
     /// ```
     ///
     /// [Contract](crate::definitions::contracts#calendardateminus_days)

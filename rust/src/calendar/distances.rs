@@ -18,6 +18,7 @@ impl Date {
     /// use cellarcove::calendar::Date;
     ///
     /// assert_eq!(Date::new(2000, 1, 31).unwrap().plus_months(1), Date::new(2000, 2, 29));
+    /// assert_eq!(Date::new(2000, 2, 29).unwrap().plus_months(1), Date::new(2000, 3, 29));
     /// ```
     ///
     /// [Contract](crate::definitions::contracts#calendardateplus_months)
@@ -64,6 +65,10 @@ impl Date {
     ///     Date::new(2000, 1, 31).unwrap().months_between(&Date::new(2000, 2, 29).unwrap()),
     ///     Some(1)
     /// );
+    /// assert_eq!(
+    ///     Date::new(2000, 3, 31).unwrap().months_between(&Date::new(2000, 3, 30).unwrap()),
+    ///     Some(-1)
+    /// );
     /// ```
     ///
     /// [Contract](crate::definitions::contracts#calendardatemonths_between)
@@ -85,6 +90,10 @@ impl Date {
     /// assert_eq!(
     ///     Date::new(2000, 2, 29).unwrap().years_between(&Date::new(2025, 2, 28).unwrap()),
     ///     Some(25)
+    /// );
+    /// assert_eq!(
+    ///     Date::new(2000, 3, 31).unwrap().years_between(&Date::new(2000, 3, 30).unwrap()),
+    ///     Some(-1)
     /// );
     /// ```
     ///
@@ -130,6 +139,10 @@ pub fn days_between(from: &Date, to: &Date) -> Option<i64> {
 ///     months_between(&Date::new(2000, 1, 31).unwrap(), &Date::new(2000, 2, 29).unwrap()),
 ///     Some(1)
 /// );
+/// assert_eq!(
+///     months_between(&Date::new(2000, 3, 31).unwrap(), &Date::new(2000, 3, 30).unwrap()),
+///     Some(-1)
+/// );
 /// ```
 ///
 /// [Contract](crate::definitions::contracts#calendarmonths_between)
@@ -150,6 +163,10 @@ pub fn months_between(from: &Date, to: &Date) -> Option<i64> {
 /// assert_eq!(
 ///     years_between(&Date::new(2000, 2, 29).unwrap(), &Date::new(2025, 2, 28).unwrap()),
 ///     Some(25)
+/// );
+/// assert_eq!(
+///     years_between(&Date::new(2000, 3, 31).unwrap(), &Date::new(2000, 3, 30).unwrap()),
+///     Some(-1)
 /// );
 /// ```
 ///

@@ -37,6 +37,7 @@ impl Error for DateError {}
 ///
 /// assert_eq!(Date::new(2026, 11, 23).unwrap().to_string(), "2026-11-23");
 /// assert_eq!(Date::new(10000, 1, 1).unwrap().to_string(), "+10000-01-01");
+/// assert_eq!(Date::new(-1, 1, 1).unwrap().to_string(), "-0001-01-01");
 /// ```
 ///
 /// [Contract](crate::definitions::contracts#display-for-calendardate)

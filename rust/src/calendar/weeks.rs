@@ -41,7 +41,7 @@ pub fn last_weekday_on_or_before(day: i64, weekday: Weekday) -> Option<i64> {
 }
 
 /// Returns the date of the `n`-th `weekday` of the month, counted from 1, or `None` if there is no
-/// such day. Each month has the first four.
+/// such day. Each month has four, and some have five.
 ///
 /// # Examples
 ///
@@ -50,6 +50,7 @@ pub fn last_weekday_on_or_before(day: i64, weekday: Weekday) -> Option<i64> {
 ///
 /// assert_eq!(nth_weekday_of_month(2026, 11, Weekday::Thursday, 4), Date::new(2026, 11, 26));
 /// assert_eq!(nth_weekday_of_month(2026, 11, Weekday::Thursday, 5), None);
+/// assert_eq!(nth_weekday_of_month(2026, 11, Weekday::Monday, 5), Date::new(2026, 11, 30));
 /// ```
 ///
 /// [Contract](crate::definitions::contracts#calendarnth_weekday_of_month)

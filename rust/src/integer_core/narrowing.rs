@@ -4,8 +4,19 @@
 use core::num::TryFromIntError;
 use num_traits::Num;
 
-/// Returns the number in a narrower type, or `None` if it does not fit. `narrowed::<i8>(127)` is
-/// `Some(127)`, and `narrowed::<i8>(128)` is `None`.
+/// Returns the number in a narrower type, or `None` if it does not fit.
+///
+/// # Examples
+///
+/// ```
+/// use cellarcove::narrowing::narrowed;
+///
+/// assert_eq!(narrowed::<i8>(127), Some(127));
+/// assert_eq!(narrowed::<i8>(128), None);
+/// ```
+///
+/// [Contract](crate::definitions::contracts#narrowingnarrowed)
+#[must_use]
 #[inline]
 pub fn narrowed<T: Num + TryFrom<i128, Error = TryFromIntError>>(number: i128) -> Option<T> {
     T::try_from(number).ok()

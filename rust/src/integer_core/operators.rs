@@ -3,7 +3,7 @@
 // predecessor, product, successor, sum as they stand there.
 //! Zero, one, the operators and six tests, specified on integers. Every integer type is `exact`, so
 //! callers never have to prove it. In plain Rust the operators that add, subtract and multiply are
-//! written by hand: they panic if the result does not fit. Those of `plain` do not test.
+//! written by hand: they panic if the result does not fit. Those of `fitting` do not test.
 
 use crate::integer_core::fitting;
 use crate::integer_core::guards::Reason;

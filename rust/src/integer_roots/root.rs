@@ -119,11 +119,6 @@ pub trait Roots: Integer {
 #[track_caller]
 #[must_use]
 pub fn nth_root<T: Roots>(x: T, n: u32) -> T {
-    check(n != 0, "attempt to take a root of degree 0");
-    check(
-        n % 2 != 0 || x >= zero(),
-        "attempt to take an even root of a negative number",
-    );
     x.nth_root(n)
 }
 
@@ -147,10 +142,6 @@ pub fn nth_root<T: Roots>(x: T, n: u32) -> T {
 #[track_caller]
 #[must_use]
 pub fn sqrt<T: Roots>(x: T) -> T {
-    check(
-        x >= zero(),
-        "attempt to take the square root of a negative number",
-    );
     x.sqrt()
 }
 

@@ -9,7 +9,7 @@ use crate::sign_magnitude::{number_of, parts_of, parts_of_product};
 use crate::{checked, Fits, NativeInteger};
 
 /// Returns [`gcd_of`](crate::lists::gcd_of), the greatest common divisor of the numbers, or `None`
-/// if it does not fit. It fits unless each number is 0 or the smallest of the type.
+/// if it does not fit, as 128 in an `i8`.
 ///
 /// # Examples
 ///
@@ -17,6 +17,7 @@ use crate::{checked, Fits, NativeInteger};
 /// use cellarcove::lists::checked::gcd_of;
 ///
 /// assert_eq!(gcd_of(&[12, 18, 8]), Some(2));
+/// assert_eq!(gcd_of(&[i8::MIN, 2]), Some(2));
 /// assert_eq!(gcd_of(&[i8::MIN, 0]), None);
 /// ```
 ///

@@ -88,7 +88,8 @@ impl<T> CommonSolution<T> {
 }
 
 /// Returns the smallest number from `from` on that is `a` modulo `m` and `b` modulo `n`. The least
-/// common multiple of `m` and `n` need not fit.
+/// common multiple of `m` and `n` need not fit: `next_common_solution(0u8, 1, 16, 1, 17)` is
+/// `CommonSolution::At(1)`.
 ///
 /// [`checked::next_common_solution`](crate::modular::checked::next_common_solution) returns `None`
 /// if the precondition does not hold.
@@ -99,6 +100,7 @@ impl<T> CommonSolution<T> {
 /// use cellarcove::modular::{next_common_solution, CommonSolution};
 ///
 /// assert_eq!(next_common_solution(10, 1, 4, 3, 6), CommonSolution::At(21));
+/// assert_eq!(next_common_solution(0u8, 1, 16, 1, 17), CommonSolution::At(1));
 /// ```
 ///
 /// # Panics

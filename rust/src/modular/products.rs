@@ -105,7 +105,6 @@ pub trait Modular: Integer + Copy {
 #[track_caller]
 #[must_use]
 pub fn product_modulo<T: Modular>(a: T, b: T, m: T) -> T {
-    check(is_below(zero(), m), "the modulus is not positive");
     a.product_modulo(&b, &m)
 }
 
@@ -121,6 +120,7 @@ pub fn product_modulo<T: Modular>(a: T, b: T, m: T) -> T {
 ///
 /// assert_eq!(power_modulo(3, 4, 7), 4);
 /// assert_eq!(power_modulo(3, 0, 7), 1);
+/// assert_eq!(power_modulo(3, 0, 1), 0);
 /// ```
 ///
 /// # Panics

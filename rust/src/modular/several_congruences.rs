@@ -10,7 +10,8 @@ use crate::operators::{one, zero};
 use crate::{checked, Fits, Integer};
 
 /// Returns the smallest number from `from` on that is congruent to the first number of each pair,
-/// modulo the second. No product of the moduli has to fit.
+/// modulo the second. No product of the moduli has to fit:
+/// `next_common_solution_of(0u8, &[(1, 16), (1, 17)])` is `CommonSolution::At(1)`.
 ///
 /// [`checked::next_common_solution_of`](crate::modular::checked::next_common_solution_of) returns
 /// `None` if the precondition does not hold.
@@ -21,6 +22,7 @@ use crate::{checked, Fits, Integer};
 /// use cellarcove::modular::{next_common_solution_of, CommonSolution};
 ///
 /// assert_eq!(next_common_solution_of(10, &[(1, 4), (3, 6), (0, 7)]), CommonSolution::At(21));
+/// assert_eq!(next_common_solution_of(0u8, &[(1, 16), (1, 17)]), CommonSolution::At(1));
 /// ```
 ///
 /// # Panics

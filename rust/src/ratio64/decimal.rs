@@ -6,7 +6,8 @@ use crate::ratio64::Ratio;
 use core::fmt;
 
 /// A decimal number with at most 18 places, as [`Ratio::to_decimal`] returns it: an amount of
-/// money, say. Two are equal if they have the same digits, so 0.5 is not 0.50.
+/// money, say. Two are equal if they print the same, and 0.5 is not 0.50:
+/// `Ratio::new(1, 2).unwrap().to_decimal(1) == Ratio::new(1, 2).unwrap().to_decimal(2)` is `false`.
 ///
 /// # Examples
 ///
@@ -14,6 +15,10 @@ use core::fmt;
 /// use cellarcove::ratio64::Ratio;
 ///
 /// assert_eq!(Ratio::new(1234, 5).unwrap().to_decimal(2).unwrap().to_string(), "246.80");
+/// assert_eq!(
+///     Ratio::new(1, 2).unwrap().to_decimal(1) == Ratio::new(1, 2).unwrap().to_decimal(2),
+///     false
+/// );
 /// ```
 ///
 /// [Contract](crate::definitions::contracts#ratio64decimal)
@@ -67,6 +72,7 @@ impl Ratio {
     /// use cellarcove::ratio64::Ratio;
     ///
     /// assert_eq!(Ratio::new(1234, 5).unwrap().to_decimal(2).unwrap().to_string(), "246.80");
+    /// assert_eq!(Ratio::new(1, 8).unwrap().to_decimal(2).unwrap().to_string(), "0.12");
     /// assert_eq!(Ratio::new(1, 2).unwrap().to_decimal(19), None);
     /// ```
     ///

@@ -34,7 +34,7 @@ pub struct Ratio {
 }
 
 impl Ratio {
-    /// Returns `num / den` in lowest terms. A positive denominator never gives an error.
+    /// Returns `num / den` in lowest terms. With a positive denominator there is no error.
     ///
     /// # Examples
     ///
@@ -42,6 +42,8 @@ impl Ratio {
     /// use cellarcove::ratio64::{Ratio, RatioError};
     ///
     /// assert_eq!(Ratio::new(6, -4), Ratio::new(-3, 2));
+    /// assert!(Ratio::new(i64::MIN, 1).is_ok());
+    /// assert_eq!(Ratio::new(i64::MIN, -1), Err(RatioError::NotFitting));
     /// assert_eq!(Ratio::new(1, 0), Err(RatioError::ZeroDenominator));
     /// ```
     ///
@@ -347,9 +349,8 @@ impl Default for Ratio {
 /// Prints `num/den`, and only `num` if the denominator is 1.
 ///
 /// A precision prints the decimals that [`Ratio::to_decimal`] returns, `+` and `0` do what they do
-/// for integers, and a width puts the number on the right:
-/// `format!("{:.2}", Ratio::new(1234, 5).unwrap())` is `"246.80"`. A precision above 18 is a
-/// `fmt::Error`, with which `format!` panics.
+/// for integers, and a width puts the number on the right. A precision above 18 is a `fmt::Error`,
+/// with which `format!` panics.
 ///
 /// # Examples
 ///
@@ -358,6 +359,9 @@ impl Default for Ratio {
 ///
 /// assert_eq!(Ratio::new(6, -4).unwrap().to_string(), "-3/2");
 /// assert_eq!(format!("{:.2}", Ratio::new(1234, 5).unwrap()), "246.80");
+/// assert_eq!(format!("{:+}", Ratio::new(1, 2).unwrap()), "+1/2");
+/// assert_eq!(format!("{:05}", Ratio::new(1, 2).unwrap()), "001/2");
+/// assert_eq!(format!("{:5}", Ratio::new(1, 2).unwrap()), "  1/2");
 /// ```
 ///
 /// [Contract](crate::definitions::contracts#display-for-ratio64ratio)

@@ -2,7 +2,18 @@
 //! The words that are integers.
 
 /// Returns `true` if the text is an optional `-`, then one or more digits, and nothing else.
-/// `is_integer("-007")` is `true`, and `is_integer("+7")` is `false`.
+///
+/// # Examples
+///
+/// ```
+/// use cellarcove::ratio64::integer_words::is_integer;
+///
+/// assert!(is_integer("-007"));
+/// assert!(!is_integer("+7"));
+/// ```
+///
+/// [Contract](crate::definitions::contracts#ratio64integer_wordsis_integer)
+#[must_use]
 pub fn is_integer(text: &str) -> bool {
     let digits = without_minus(text.as_bytes());
     !digits.is_empty() && has_only_digits(digits)

@@ -6,9 +6,10 @@ use crate::shares::{total_to_share, SharesError};
 /// Fills `shares` with the shares of the amount by largest remainders. Each share is its exact
 /// share rounded down, or 1 more. The weights with the largest remainders get 1 more, and of equal
 /// remainders the first, so that the shares together are the amount.
-/// `{ let mut parts = [0; 2]; (shares_by_largest_remainder(1, &[1, 99], &mut parts), parts) }` is
-/// `(Ok(()), [0, 1])`, where those of [`shares`](crate::shares::shares) are `[1, 0]`. To share a
-/// negative amount, negate the shares of its magnitude.
+/// [`shares`](crate::shares::shares) rounds running totals up instead, which gives the 1 of the
+/// last example to the first weight.
+///
+/// To share a negative amount, negate the shares of its magnitude.
 ///
 /// The call takes no memory. It passes over the weights at most as often as their sum has binary
 /// digits, and three times more.
@@ -16,11 +17,19 @@ use crate::shares::{total_to_share, SharesError};
 /// # Examples
 ///
 /// ```
-/// use cellarcove::shares::shares_by_largest_remainder;
+/// use cellarcove::shares::{shares, shares_by_largest_remainder};
 ///
+/// assert_eq!(
+///     { let mut parts = [0; 4]; (shares_by_largest_remainder(1002, &[1; 4], &mut parts), parts) },
+///     (Ok(()), [251, 251, 250, 250])
+/// );
 /// assert_eq!(
 ///     { let mut parts = [0; 2]; (shares_by_largest_remainder(1, &[1, 99], &mut parts), parts) },
 ///     (Ok(()), [0, 1])
+/// );
+/// assert_eq!(
+///     { let mut parts = [0; 2]; (shares(1, &[1, 99], &mut parts), parts) },
+///     (Ok(()), [1, 0])
 /// );
 /// ```
 ///

@@ -38,13 +38,6 @@ const ALIGNMENT: &str = "the alignment is not positive";
 const RANGE: &str = "the number is out of range";
 const CHOICE: &str = "the numbers of the choice do not increase below `n`";
 
-/// Each call panics with the reason.
-macro_rules! panics {
-    ($($reason:ident { $($call:expr;)* })*) => {$($(
-        assert_eq!(outcome(|| { let _ = $call; }), Err($reason.to_string()), "{}", stringify!($call));
-    )*)*};
-}
-
 #[test]
 fn bounded_integers() {
     panics! {

@@ -1,6 +1,35 @@
 //! Each public call with a domain: within it the call returns the right answer, and outside it panics with its reason and
 //! the place of the caller, in debug and in release. The domains are computed here, apart from the crate.
 
+/// Each call panics with the reason. All that do not are printed.
+macro_rules! panics {
+    ($($reason:ident { $($call:expr;)* })*) => {{
+        let mut wrong = Vec::new();
+        $($(
+            let found = $crate::tried(|| { let _ = $call; });
+            if found != Err($reason.to_string()) {
+                wrong.push(format!("{}: {found:?}, and not {:?}", stringify!($call), $reason));
+            }
+        )*)*
+        assert!(wrong.is_empty(), "{wrong:#?}");
+    }};
+}
+
+/// Each call returns the value. All that do not are printed.
+macro_rules! returns {
+    ($($call:expr => $value:expr;)*) => {{
+        let mut wrong = Vec::new();
+        $(
+            let found = $crate::tried(|| $call);
+            if found != Ok($value) {
+                wrong.push(format!("{}: {found:?}", stringify!($call)));
+            }
+        )*
+        assert!(wrong.is_empty(), "{wrong:#?}");
+    }};
+}
+
+mod edges;
 mod exact;
 mod forms;
 mod slices;
@@ -58,31 +87,45 @@ fn errors() -> Option<&'static str> {
     PAGE.get_or_init(|| read_to_string(place).ok()).as_deref()
 }
 
-/// Runs a call, and returns the reason of its panic, whose place is in these files.
-fn watched(call: &mut dyn FnMut()) -> Result<(), String> {
+/// What is wrong of the reason of a panic, which is said of a file.
+fn complaint(reason: &str, file: &str) -> Option<String> {
+    let is_shown = |page: &str| page.contains(&format!("\"{reason}\""));
+    let inner = ["internal", "unreachable", "unwrap", "Option"];
+    if !file.contains("domains") {
+        Some(format!("`{reason}` is said of {file}"))
+    } else if !errors().map_or(true, is_shown) {
+        Some(format!("docs/ERRORS.md lacks `{reason}`"))
+    } else {
+        let word = inner.into_iter().find(|word| reason.contains(word))?;
+        Some(format!("a reason has `{word}`: `{reason}`"))
+    }
+}
+
+/// Runs a call, and returns the reason and the file of its panic.
+fn watched(call: &mut dyn FnMut()) -> Result<(), (String, String)> {
     watch_panics();
     WATCH.with_borrow_mut(|watch| watch.watching = true);
     let outcome = catch_unwind(AssertUnwindSafe(call));
     WATCH.with_borrow_mut(|watch| watch.watching = false);
-    outcome.map_err(|_| {
-        let (reason, file) = WATCH.with_borrow(|watch| watch.last.clone());
-        assert!(file.contains("domains"), "`{reason}` is said of {file}");
-        let shows = |page: &str| page.contains(&format!("\"{reason}\""));
-        assert!(
-            errors().map_or(true, shows),
-            "docs/ERRORS.md lacks `{reason}`"
-        );
-        for word in ["internal", "unreachable", "unwrap", "Option"] {
-            assert!(!reason.contains(word), "a reason is `{reason}`");
-        }
-        reason
-    })
+    outcome.map_err(|_| WATCH.with_borrow(|watch| watch.last.clone()))
+}
+
+/// What a call returns, or the reason of its panic, or what is wrong of that.
+fn tried<R>(call: impl FnOnce() -> R) -> Result<R, String> {
+    let (mut call, mut result) = (Some(call), None);
+    match watched(&mut || result = call.take().map(|call| call())) {
+        Ok(()) => Ok(result.expect("the call returned")),
+        Err((reason, file)) => Err(complaint(&reason, &file).unwrap_or(reason)),
+    }
 }
 
 /// What a call returns, or the reason of its panic.
 fn outcome<R>(call: impl FnOnce() -> R) -> Result<R, String> {
     let (mut call, mut result) = (Some(call), None);
-    watched(&mut || result = call.take().map(|call| call()))?;
+    watched(&mut || result = call.take().map(|call| call())).map_err(|(reason, file)| {
+        assert_eq!(complaint(&reason, &file), None);
+        reason
+    })?;
     Ok(result.expect("the call returned"))
 }
 

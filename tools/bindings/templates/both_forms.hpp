@@ -1,5 +1,5 @@
 {comment}
-template <{types}> [[nodiscard]] auto {name}({parameters}) {
+template <{types}> [[nodiscard]] {constant}auto {name}({parameters}) {
     if constexpr ({uses}) {
         {signed}
     } else {

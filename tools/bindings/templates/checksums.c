@@ -85,18 +85,18 @@ static size_t fill_int64_t(int64_t *counts) {
 }
 
 /* A text of digits and signs, or one that may be a date, from its first byte or from the second one on. */
-static size_t fill_uint8_t(uint8_t *counts) {
+static size_t fill_char(char *counts) {
     size_t count = random_bits() % (COUNTS + 1);
     if (random_bits() % 2 == 0) {
         const char *form = "+2123-01-28" + random_bits() % 2;
         for (count = 0; form[count] != 0; count++) {
-            uint8_t byte = (uint8_t)form[count]; /* a digit is at most that of the form */
-            counts[count] = byte < '0' ? byte : (uint8_t)('0' + random_bits() % (byte - '0' + UINT64_C(1)));
+            char byte = form[count]; /* a digit is at most that of the form */
+            counts[count] = byte < '0' ? byte : (char)('0' + (int)(random_bits() % (uint64_t)(byte - '0' + 1)));
         }
         return count;
     }
     for (size_t i = 0; i < count; i++) {
-        counts[i] = (uint8_t)"01234567890//-+x"[random_bits() % 16 * (random_bits() % 16) / 15];
+        counts[i] = "01234567890//-+x"[random_bits() % 16 * (random_bits() % 16) / 15];
     }
     return count;
 }

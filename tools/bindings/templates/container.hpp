@@ -1,4 +1,4 @@
-/// The same for a container of {items} in one piece.
+/// The same for an array, or a container of {items} in one piece.
 template <{types}>
 [[nodiscard]] auto {name}({parameters}) {
     {asserts}

@@ -1,5 +1,7 @@
-static PyObject *py_{name}(PyObject *module, PyObject *const *args, Py_ssize_t given) {
+static const call call_{name} = {"{name}", 2, {{names}}, "nl", NULL, NULL, NULL, NULL, NULL};
+
+static PyObject *py_{name}(PyObject *module, PyObject *const *args, Py_ssize_t given, PyObject *names) {
     (void)module;
-    return divided("{name}", args, given, {signed}, {unsigned});
+    return divided(&call_{name}, args, given, names, {signed}, {unsigned});
 }
 

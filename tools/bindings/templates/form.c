@@ -4,12 +4,5 @@ static PyObject *one_{name}(const cell *a, uint32_t *status) {
     return {object};
 }
 
-static void many_{name}(Py_ssize_t count, char *const *in, const Py_ssize_t *steps, char *const *out) {
-    for (Py_ssize_t k = 0; k < count; k++) {
-        {type} r = {symbol}({many});
-{stores}
-    }
-}
-
-static const form form_{name} = {"{cells}", "{letters}", {has_status}, one_{name}, many_{name}};
+static const form form_{name} = {"{cells}", one_{name}};
 

@@ -1,4 +1,4 @@
 
-    if (count != 2 && names == NULL) {
-        return of_any_count(py_{name}_of, "{name}", args, count);
+    if (count != 2) {
+        return of_any_count(py_{name}_of, "{name}", args, count, names);
     }

@@ -1,6 +1,6 @@
 static PyObject *py_{name}(PyObject *module, PyObject *object) {
     (void)module;
-    const uint8_t *bytes;
+    const char *bytes;
     size_t count;
     PyObject *text = bytes_of("{name}", object, &bytes, &count);
     if (text == NULL) {

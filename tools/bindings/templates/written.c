@@ -1,7 +1,7 @@
 static PyObject *py_{name}(PyObject *module, PyObject *const *args, Py_ssize_t given) {
     (void)module;
     cell numbers[{count}];
-    if (unsigned_numbers("{name}", args, given, {count}, numbers) != 0) {
+    if (!unsigned_numbers("{name}", args, given, {count}, numbers)) {
         return NULL;
     }
     if (!{asked}) {

@@ -15,8 +15,8 @@ use num_integer::sign_magnitude::{number_of, parts_of, parts_of_product};
 use num_integer::{Fits, NativeInteger, checked};
 
 /// Returns [`gcd_of`](crate::lists::gcd_of), the greatest common divisor of the numbers, or `None` if it does
-/// not fit. `gcd_of(&[12, 18, 8])` is `Some(2)`, and `gcd_of(&[i8::MIN, 0])` is `None`. It fits unless each
-/// number is 0 or the smallest of the type.
+/// not fit, as 128 in an `i8`. `gcd_of(&[12, 18, 8])` is `Some(2)`, `gcd_of(&[i8::MIN, 2])` is `Some(2)`, and
+/// `gcd_of(&[i8::MIN, 0])` is `None`.
 pub fn gcd_of<T: Fits>(numbers: &[T]) -> Option<T>
     requires in_range { All (λ x. T.fits (T.value x)) numbers.now }
     ensures { AnswersWhere

@@ -14,7 +14,8 @@ use num_integer::guards::check;
 impl Ratio {
     /// Returns the nearest fraction whose denominator is at most `max`. Of those equally near it
     /// returns the one with the smallest denominator, and of two integers the smaller.
-    /// `Ok(Ratio::new(3, 10).unwrap().limit_denominator(5))` is `Ratio::new(1, 3)`, and
+    /// `Ok(Ratio::new(3, 10).unwrap().limit_denominator(5))` is `Ratio::new(1, 3)`,
+    /// `Ok(Ratio::new(5, 12).unwrap().limit_denominator(4))` is `Ratio::new(1, 2)`, and
     /// `Ratio::new(3, 2).unwrap().limit_denominator(1)` is `Ratio::from(1)`.
     ///
     /// # Panics

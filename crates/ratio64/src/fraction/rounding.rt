@@ -29,7 +29,7 @@ impl Ratio {
     }
 
     /// Returns the nearest integer, and of two equally near the one farther from 0.
-    /// `Ratio::new(-3, 2).unwrap().round()` is `-2`.
+    /// `Ratio::new(5, 2).unwrap().round()` is `3`, and `Ratio::new(-3, 2).unwrap().round()` is `-2`.
     #[tactic(auto, using(crate::proofs::WideSums::numbers_read))]
     pub fn round(&self) -> i64
         ensures { IsRounded (num_of self.now) (den_of self.now) result }
@@ -38,8 +38,8 @@ impl Ratio {
     }
 
     /// Returns the nearest integer, and of two equally near the even one.
-    /// `Ratio::new(5, 2).unwrap().round_even()` is `2`, and `Ratio::new(-3, 2).unwrap().round_even()` is
-    /// `-2`.
+    /// `Ratio::new(5, 2).unwrap().round_even()` is `2`, `Ratio::new(7, 2).unwrap().round_even()` is `4`, and
+    /// `Ratio::new(-3, 2).unwrap().round_even()` is `-2`.
     #[tactic(auto, using(crate::proofs::WideSums::numbers_read))]
     pub fn round_even(&self) -> i64
         ensures { IsRoundedEven (num_of self.now) (den_of self.now) result }

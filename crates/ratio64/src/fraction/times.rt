@@ -115,7 +115,8 @@ impl Ratio {
     }
 
     /// Returns the nearest multiple of `1 / parts`, and of two equally near the one farther from 0. In
-    /// hundredths, `Ratio::new(5, 3).unwrap().round_to(100)` is `Ratio::new(167, 100)`.
+    /// hundredths, `Ratio::new(5, 3).unwrap().round_to(100)` is `Ratio::new(167, 100)`, and
+    /// `Ratio::new(1, 8).unwrap().round_to(100)` is `Ratio::new(13, 100)`.
     ///
     /// # Panics
     ///

@@ -6,7 +6,7 @@ pub(crate) enum Call {
     /// The magnitude of the smallest number of the type, and its largest number.
     Ends,
     /// Whether the type has the number.
-    FitsWith,
+    Fits,
     Inc,
     Dec,
     Negated,
@@ -99,7 +99,7 @@ impl Call {
     pub(crate) fn of_library(name: &str) -> Option<Call> {
         Some(match name {
             "ends" => Call::Ends,
-            "fits" => Call::FitsWith,
+            "fits" => Call::Fits,
             "inc" => Call::Inc,
             "dec" => Call::Dec,
             "negated" => Call::Negated,

@@ -256,7 +256,7 @@ fn of_each<T: Tested>(ask: Ask) -> Option<Numbers> {
     match (ask.1, value::<T>(ask, 0), value::<T>(ask, 1)) {
         (Call::Ends, _, _) => Some(two((false, T::ends().0), (false, T::ends().1))),
         (Call::Multinomial | Call::MultinomialFits, _, _) => of_counts::<T>(ask),
-        (Call::FitsWith, x, _) => Some(truth(x.is_some())),
+        (Call::Fits, x, _) => Some(truth(x.is_some())),
         (Call::Row, Some(n), _) => of_row(n, ask.2),
         (call, Some(x), Some(y)) => of_pair(call, &x, &y),
         _ => Some(DIFFERENT),

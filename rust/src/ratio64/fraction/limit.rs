@@ -17,6 +17,7 @@ impl Ratio {
     /// use cellarcove::ratio64::Ratio;
     ///
     /// assert_eq!(Ok(Ratio::new(3, 10).unwrap().limit_denominator(5)), Ratio::new(1, 3));
+    /// assert_eq!(Ok(Ratio::new(5, 12).unwrap().limit_denominator(4)), Ratio::new(1, 2));
     /// assert_eq!(Ratio::new(3, 2).unwrap().limit_denominator(1), Ratio::from(1));
     /// ```
     ///

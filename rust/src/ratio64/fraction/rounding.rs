@@ -49,6 +49,7 @@ impl Ratio {
     /// ```
     /// use cellarcove::ratio64::Ratio;
     ///
+    /// assert_eq!(Ratio::new(5, 2).unwrap().round(), 3);
     /// assert_eq!(Ratio::new(-3, 2).unwrap().round(), -2);
     /// ```
     ///
@@ -66,6 +67,7 @@ impl Ratio {
     /// use cellarcove::ratio64::Ratio;
     ///
     /// assert_eq!(Ratio::new(5, 2).unwrap().round_even(), 2);
+    /// assert_eq!(Ratio::new(7, 2).unwrap().round_even(), 4);
     /// assert_eq!(Ratio::new(-3, 2).unwrap().round_even(), -2);
     /// ```
     ///

@@ -153,7 +153,8 @@ impl Ratio {
     }
 
     /// Returns the nearest multiple of `1 / parts`, and of two equally near the one farther from 0.
-    /// In hundredths, `Ratio::new(5, 3).unwrap().round_to(100)` is `Ratio::new(167, 100)`.
+    /// In hundredths, `Ratio::new(5, 3).unwrap().round_to(100)` is `Ratio::new(167, 100)`, and
+    /// `Ratio::new(1, 8).unwrap().round_to(100)` is `Ratio::new(13, 100)`.
     ///
     /// # Examples
     ///
@@ -161,6 +162,7 @@ impl Ratio {
     /// use cellarcove::ratio64::Ratio;
     ///
     /// assert_eq!(Ratio::new(5, 3).unwrap().round_to(100), Ratio::new(167, 100));
+    /// assert_eq!(Ratio::new(1, 8).unwrap().round_to(100), Ratio::new(13, 100));
     /// ```
     ///
     /// # Panics

@@ -1,4 +1,5 @@
 use Rattle.num_integer.proofs.Laws as law
+use Rattle.theorems.proofs.Roots as root
 use Rattle.theorems.proofs.laws.laws_of_integers.Goals as goal
 
 ruleset of_division = (law.division_exists, law.division_is_only, law.quotient_is_only, law.remainder_is_only, law.multiple_is_only, law.floored_parts_add_up, law.negation_turns_multiples)
@@ -13,7 +14,9 @@ ruleset of_bezout_pairs = (law.bezout_answer_exists, law.bezout_answer_is_only, 
 
 ruleset of_roots = (law.average_floor_is_only, law.average_ceil_is_only, law.averages_are_neighbours, law.root_is_only, law.first_root, law.square_root_iterations_are_only)
 
+ruleset of_existence = (root.average_floor_exists, root.average_ceil_exists, root.root_exists)
+
 ruleset of_coefficients = (law.coefficient_mirror, law.coefficient_above_row, law.factorial_formula, law.multinomial_formula, law.multinomial_is_only, law.multinomial_ignores_order, law.row_length, law.row_is_palindrome, law.row_is_greatest_in_middle)
 
 pub returns : goal.returns
-returns g c = search (of_division, of_divisors, of_multiples, of_sums, of_bezout_pairs, of_roots, of_coefficients)
+returns g c = search (of_division, of_divisors, of_multiples, of_sums, of_bezout_pairs, of_roots, of_existence, of_coefficients)

@@ -1,0 +1,751 @@
+"""The calls of what is no number: columns of numpy, pandas and dask, and numbers of other types.
+
+`_calls` sends here what is not made of integers. `leaves_of` makes the numbers of each argument:
+integers, or columns. If there is no column, the call is made again with integers. If there is one,
+it goes to the ufunc of the call. numpy is imported by the first column."""
+
+from __future__ import annotations
+
+import array
+import functools
+import importlib
+import operator
+import sys
+from collections.abc import Callable, Iterable, Sequence
+from decimal import Decimal
+from typing import Any, NamedTuple
+
+from . import _calls
+from ._table import CALLS, Call
+
+RANGES = {
+    'q': (-(2**63), 2**63 - 1),
+    'Q': (0, 2**64 - 1),
+    'i': (-(2**31), 2**31 - 1),
+    'I': (0, 2**32 - 1),
+    'H': (0, 2**16 - 1),
+    'B': (0, 2**8 - 1),
+    '?': (0, 1),
+}
+NAMED = ('out', 'where', 'errors')
+ERRORS = ('raise', 'mask', 'status')
+NO_DAY = -(2**63)  # the number of `NaT`
+NOT_FITTING = 2  # the status
+LARGEST_REMAINDER = 'shares_by_largest_remainder'
+
+refusal: Callable[..., Exception]  # these three are of the package
+out_of_range: Callable[..., Exception]
+classes: dict[str, Any]
+
+
+class Leaf(NamedTuple):
+    """A number of a call, or a column of it. A column of dates stands for three numbers."""
+
+    value: Any
+    parameter: str
+    is_dates: bool = False
+
+
+class Task(NamedTuple):
+    """A call of columns, but for these."""
+
+    name: str
+    errors: str
+    leaves: tuple[Leaf, ...]
+
+    def of(self, values: Iterable[Any]) -> tuple[Leaf, ...]:
+        """The leaves with these in the place of the columns."""
+        rest = iter(values)
+        return tuple(
+            leaf._replace(value=next(rest)) if is_column(leaf.value) or leaf.value is None else leaf
+            for leaf in self.leaves
+        )
+
+
+# ---- arguments
+
+
+def is_column(value: object) -> bool:
+    """Whether an argument is an array: of numpy, pandas or dask, or a buffer."""
+    return (
+        isinstance(value, (array.array, memoryview))
+        or hasattr(value, 'dtype')
+        and hasattr(value, '__len__')
+    )
+
+
+def wrong_type(name: str, parameter: str, value: object, wanted: str) -> TypeError:
+    """The error of an argument of another type, with what to pass."""
+    words = f'{name}(): {parameter} is no {wanted}, but of {type(value)}'
+    if isinstance(value, (list, tuple)):
+        words += ': pass an array of numpy'
+    elif hasattr(value, 'columns'):
+        words += ': pass one of its columns'
+    elif unit(value).startswith('m8'):
+        words += ': a number of days is an int, or a timedelta64[D]'
+    elif wanted == 'integer' and (hasattr(value, 'toordinal') or unit(value)):
+        words += ': its number is `day_from_date` of it'
+    elif wanted == 'fraction':
+        words += ': pass a Fraction, an int, a Decimal, or a tuple of a numerator and a denominator'
+    elif wanted == 'date':
+        words += ': pass a Date, a datetime.date, a datetime64[D], or a tuple of its three parts'
+    return TypeError(words)
+
+
+def unit(value: Any) -> str:
+    """The kind and the unit of what counts time, such as `M8[D]`, or an empty text."""
+    kind = getattr(getattr(value, 'dtype', None), 'kind', '')
+    return str(value.dtype.str[1:]) if kind and kind in 'mM' and hasattr(value.dtype, 'str') else ''
+
+
+def cell(name: str, parameter: str, value: Any, wanted: str = 'integer') -> Leaf:
+    """A number, as an `int`, or a column of numbers."""
+    if is_column(value):
+        return Leaf(value, parameter)
+    if unit(value) == 'm8[D]':
+        value = value.astype('int64')
+        if value == NO_DAY:
+            raise TypeError(f'{name}(): {parameter} is NaT')
+    try:
+        return Leaf(operator.index(value), parameter)
+    except TypeError:
+        raise wrong_type(name, parameter, value, wanted) from None
+
+
+def date_cells(name: str, parameter: str, value: Any) -> list[Leaf]:
+    """The numbers of a date, or its columns, of which there may be one."""
+    if is_column(value):
+        return [Leaf(value, parameter, is_dates=True)]
+    parts: Sequence[Any] = ()
+    if isinstance(value, tuple):
+        parts = value
+    elif unit(value) == 'M8[D]':
+        day = int(value.astype('int64'))
+        parts = (
+            ()
+            if day == NO_DAY
+            else operator.attrgetter('year', 'month', 'day')(_calls.date_from_day(day))
+        )
+    elif all(hasattr(value, part) for part in ('year', 'month', 'day')):
+        parts = value.year, value.month, value.day
+    if isinstance(value, tuple) and len(parts) != 3:
+        raise ValueError(
+            f'{name}(): {parameter}: a date has 3 parts, and the tuple has {len(parts)}'
+        )
+    if not parts:
+        raise wrong_type(name, parameter, value, 'date')
+    return [cell(name, parameter, part) for part in parts]
+
+
+def fraction_cells(name: str, parameter: str, value: Any) -> list[Leaf]:
+    """The numbers of a fraction, or its columns."""
+    if isinstance(value, Decimal) and value.is_finite():
+        value = value.as_integer_ratio()
+    elif is_column(value):
+        value = value, 1
+    elif (
+        not isinstance(value, tuple)
+        and hasattr(value, 'numerator')
+        and hasattr(value, 'denominator')
+    ):
+        value = value.numerator, value.denominator
+    if not isinstance(value, tuple):
+        raise wrong_type(name, parameter, value, 'fraction')
+    if len(value) != 2:
+        raise ValueError(
+            f'{name}(): {parameter}: a fraction has 2 parts, and the tuple has {len(value)}'
+        )
+    return [cell(name, parameter, part) for part in value]
+
+
+def weight_cell(name: str, parameter: str, value: Any) -> Leaf:
+    """A column of weights, or a list of them."""
+    if is_column(value) or hasattr(value, 'columns'):
+        return Leaf(value, parameter)
+    return Leaf(flat(value, 1), parameter)
+
+
+def leaves_of(name: str, call: Call, given: Sequence[Any]) -> list[list[Leaf]]:
+    """The numbers and the columns of each argument."""
+    found = []
+    for parameter, shape, value in zip(call.names, call.shapes, given):
+        if shape == 'd':
+            found.append(date_cells(name, parameter, value))
+        elif shape == 'f':
+            found.append(fraction_cells(name, parameter, value))
+        elif shape == 'l':
+            found.append([weight_cell(name, parameter, value)])
+        else:
+            value = value.value if shape == 'w' and isinstance(value, classes['Weekday']) else value
+            found.append([cell(name, parameter, value)])
+    return found
+
+
+def call(name: str, given: Sequence[Any], named: dict[str, Any] | None) -> Any:
+    """A call whose arguments are not all integers."""
+    if named is None and (found := quick(name, given)) is not None:
+        return found
+    named = named or {}
+    unknown = [key for key in named if key not in NAMED]
+    if unknown:
+        raise TypeError(f'{name}() has no parameter {unknown[0]}')
+    errors = named.get('errors', 'raise')
+    if errors not in ERRORS:
+        raise ValueError(f'{name}(): errors is one of {", ".join(ERRORS)}, and not {errors!r}')
+    found = leaves_of(name, CALLS[name], given)
+    leaves = tuple(leaf for group in found for leaf in group)
+    if any(is_column(leaf.value) or hasattr(leaf.value, 'columns') for leaf in leaves):
+        return of_columns(Task(name, errors, leaves), named.get('out'), named.get('where', True))
+    if named:
+        raise TypeError(f'{name}() takes {next(iter(named))} with an array, and none is given')
+    if CALLS[name].shapes == 'nl':
+        return shares_of_list(name, leaves[0].value, leaves[1].value)
+    arguments = [
+        group[0].value if len(group) == 1 else tuple(leaf.value for leaf in group)
+        for group in found
+    ]
+    return getattr(_calls, name)(*arguments)
+
+
+def shares_of_list(name: str, amount: int, weights: list[int]) -> Any:
+    """The shares of a number by a list of weights."""
+    by_sign = name == LARGEST_REMAINDER and amount < 0
+    kind = 'q' if amount < 0 else 'Q'
+    if not RANGES[kind][0] <= amount <= RANGES[kind][1]:
+        raise out_of_range(amount, kind)
+    parts = getattr(_calls, name)(-amount if by_sign else amount, weights)
+    return tuple(map(operator.neg, parts)) if by_sign else parts
+
+
+# ---- lists
+
+
+def flat(value: Any, width: int) -> list[int]:
+    """The integers of an iterable, or, if each of its items has several, of those."""
+    if width == 1:
+        return [operator.index(number) for number in value]
+    numbers: list[int] = []
+    for item in value:
+        parts = [operator.index(number) for number in item]
+        if len(parts) != width:
+            raise ValueError(f'an item has not {width} numbers')
+        numbers += parts
+    return numbers
+
+
+def items(name: str, value: Any, width: int, has_signed: bool) -> Any:
+    """The numbers of a list: an iterable, or an array of one dimension, of which it makes its bytes
+    and whether they are signed."""
+    if width > 1 or not is_column(value):
+        return flat(value, width)
+    numpy, _ = modules(name)
+    data, missing = plain(numpy, name, Leaf(value, 'the list'))
+    if missing is not None and missing.any():
+        raise ValueError(f'{name}(): an item of the array is missing')
+    if data.ndim != 1:
+        raise ValueError(f'{name}(): the array has {data.ndim} dimensions, and not one')
+    signed = has_signed and not (data.dtype.kind == 'u' and data.dtype.itemsize == 8)
+    made = as_kind(numpy, name, Leaf(data, 'the list'), None, 'q' if signed else 'Q')
+    return numpy.ascontiguousarray(made, 'int64' if signed else 'uint64').tobytes(), signed
+
+
+# ---- columns
+
+
+@functools.lru_cache(maxsize=1)
+def imported() -> tuple[Any, Any]:
+    return importlib.import_module('numpy'), importlib.import_module('._ufuncs', __package__)
+
+
+def modules(name: str) -> tuple[Any, Any]:
+    """numpy and the ufuncs."""
+    try:
+        return imported()
+    except ImportError as error:
+        raise ImportError(
+            f'{name}() takes arrays by numpy, which is not there: install numpy ({error})'
+        ) from error
+
+
+def is_of(value: object, module: str, name: str) -> bool:
+    """Whether a value is of a class of a module, which is not imported here."""
+    found = sys.modules.get(module)
+    return found is not None and isinstance(value, getattr(found, name))
+
+
+def of_columns(task: Task, out: Any, where: Any) -> Any:
+    """A call of columns, by the library whose they are."""
+    numpy, _ = modules(task.name)
+    columns = [leaf.value for leaf in task.leaves if is_column(leaf.value)]
+    if any(
+        is_of(column, 'dask.array', 'Array') or hasattr(column, '__dask_graph__')
+        for column in columns
+    ):
+        if out is not None or where is not True:
+            raise TypeError(f'{task.name}() takes no out and no where with an array of dask')
+        return classed(task, of_dask(task, columns))
+    series = [column for column in columns if is_of(column, 'pandas', 'Series')]
+    if CALLS[task.name].shapes == 'nl':
+        return of_shares(numpy, task)
+    if series and out is None and where is True:
+        return classed(task, of_pandas(task, series[0]))
+    return classed(task, of_numpy(task, task.leaves, out, where))
+
+
+def classed(task: Task, found: Sequence[Any]) -> Any:
+    """The columns of a result: one, or several as their class."""
+    if len(found) == 1:
+        return found[0]
+    named = classes.get(CALLS[task.name].result) if task.errors != 'status' else None
+    return tuple(found) if named is None else named(*found)
+
+
+def plain(numpy: Any, name: str, leaf: Leaf) -> tuple[Any, Any]:
+    """The numbers of a column as an array of numpy, and where they are missing, or `None`."""
+    value = leaf.value
+    if isinstance(value, numpy.ma.MaskedArray):
+        return value.data, None if value.mask is numpy.ma.nomask else value.mask
+    masked = getattr(getattr(value, 'dtype', None), 'numpy_dtype', None)
+    if (
+        masked is not None and masked.kind in 'iub'
+    ):  # a column of pandas whose numbers may be missing
+        return value.to_numpy(dtype=masked, na_value=0), numpy.asarray(value.isna())
+    data = numpy.asarray(value)
+    if data.dtype.kind in 'mM':
+        return data, numpy.isnat(data)
+    return data, None
+
+
+def wrong_items(name: str, leaf: Leaf, data: Any) -> TypeError:
+    """The error of a column of another type, with what to do."""
+    words = f'{name}(): {leaf.parameter} is a column of {data.dtype}, and not of integers'
+    if data.dtype.kind in 'fO':
+        words += (
+            ": with missing values, pass pandas' Int64 by `.astype('Int64')`, which raises for a "
+            'number that is no integer'
+        )
+    elif data.dtype.kind == 'M':
+        words += ': pass its day numbers, by `cellarcove.day_from_date`'
+    elif data.dtype.kind == 'm':
+        words += ': a number of days is timedelta64[D]'
+    return TypeError(words)
+
+
+def as_kind(numpy: Any, name: str, leaf: Leaf, missing: Any, kind: str) -> Any:
+    """A column or a number whose numbers are in the range of a type."""
+    value = leaf.value
+    low, high = RANGES[kind]
+    if isinstance(value, int):
+        if not low <= value <= high:
+            raise out_of_range(value, kind)
+        return numpy.array(value, kind)
+    if value.dtype.str[1:] == 'm8[D]':
+        value = value.view('int64')
+    if value.dtype.kind not in 'iub':
+        raise wrong_items(name, leaf, value)
+    if numpy.can_cast(value.dtype, kind, 'safe') or value.size == 0:
+        return value
+    value = value if missing is None else numpy.where(missing, 0, value)
+    if low <= int(value.min()) and int(value.max()) <= high:
+        return value
+    beyond = (
+        (value < low)
+        if low > RANGES[value.dtype.char if value.dtype.char in RANGES else 'q'][0]
+        else False
+    )
+    place = int(
+        numpy.argmax(
+            beyond | (value > high) if high < 2**63 or value.dtype.kind == 'u' else beyond
+        )
+    )
+    raise out_of_range(int(value.flat[place]), kind, place)
+
+
+def days_of(numpy: Any, name: str, leaf: Leaf, data: Any) -> Any:
+    """The day numbers of a column of dates. A time counts as its day."""
+    if data.dtype.kind != 'M':
+        raise TypeError(
+            f'{name}(): {leaf.parameter} is a column of {data.dtype}, and not of datetime64: '
+            'pass a tuple of a year, a month and a day'
+        )
+    return data.astype('M8[D]').view('int64')
+
+
+def cells_of(numpy: Any, ufuncs: Any, name: str, leaves: Sequence[Leaf]) -> tuple[list[Leaf], Any]:
+    """The columns and numbers of all cells, and where one is missing, or `None`."""
+    found: list[Leaf] = []
+    missing = None
+    for leaf in leaves:
+        if isinstance(leaf.value, int):
+            found.append(leaf)
+            continue
+        data, mask = plain(numpy, name, leaf)
+        if mask is not None and mask.any():
+            missing = mask if missing is None else missing | mask
+        if leaf.is_dates:
+            days = days_of(numpy, name, leaf, data)
+            days = days if mask is None else numpy.where(mask, 0, days)
+            found += [Leaf(part, leaf.parameter) for part in ufuncs.date_from_day(days)]
+        else:
+            found.append(leaf._replace(value=data))
+    return found, missing
+
+
+def form_of(name: str, call: Call, cells: Sequence[Leaf]) -> int:
+    """Which form a call of columns has: the unsigned one if a column is unsigned and of 64 bits, or
+    if a number is beyond the other one and nothing is signed."""
+    if len(call.forms) == 1:
+        return 0
+    follow = [
+        leaf.value
+        for leaf, *kinds in zip(cells, *(form[0] for form in call.forms))
+        if kinds[0] != kinds[1]
+    ]
+    kinds = {
+        value.dtype.str[1:]
+        for value in follow
+        if not isinstance(value, int) and value.dtype.kind in 'iu'
+    }
+    numbers = [value for value in follow if isinstance(value, int)]
+    signed = any(kind[0] == 'i' for kind in kinds)
+    if 'u8' in kinds and signed:
+        raise TypeError(
+            f'{name}(): a column is signed and another one is uint64: pass columns of one type'
+        )
+    return int(
+        'u8' in kinds
+        or not signed
+        and all(number >= 0 for number in numbers)
+        and max(numbers, default=0) >= 2**63
+    )
+
+
+def of_numpy(task: Task, leaves: Sequence[Leaf], out: Any, where: Any) -> list[Any]:
+    """The columns of a result as arrays of numpy, and that of the statuses if asked for."""
+    numpy, ufuncs = modules(task.name)
+    call = CALLS[task.name]
+    cells, missing = cells_of(numpy, ufuncs, task.name, leaves)
+    taken, returned = call.forms[form_of(task.name, call, cells)]
+    given = [as_kind(numpy, task.name, leaf, missing, kind) for leaf, kind in zip(cells, taken)]
+    dated = call.result == 'Date' and any(leaf.is_dates for leaf in leaves)
+    if out is not None and (dated or missing is not None or task.errors == 'mask'):
+        raise TypeError(f'{task.name}() takes no out for dates or for what may be missing')
+    outputs, status = ran(numpy, task.name, given, taken, returned, call, out, where)
+    if where is not True:
+        missing = ~numpy.asarray(where) if missing is None else missing | ~numpy.asarray(where)
+    if dated:
+        outputs, status = as_dates(numpy, ufuncs, outputs, status)
+    if status is not None and missing is not None:
+        status = numpy.where(missing, 0, status).astype('u1')
+    shape = numpy.broadcast_shapes(*(numpy.shape(value) for value in given))
+    if task.errors == 'raise' and status is not None and status.max(initial=0):
+        raise first_error(numpy, call, given, status)
+    if task.errors == 'mask':
+        failed = numpy.zeros(shape, bool) if status is None else status != 0
+        missing = failed if missing is None else missing | failed
+    made = (
+        [with_missing(numpy, output, missing) for output in outputs]
+        if out is None
+        else list(outputs)
+    )
+    if task.errors == 'status':
+        made.append(numpy.zeros(shape, 'u1') if status is None else status)
+    return made
+
+
+def places(numpy: Any, name: str, returned: str, out: Any) -> tuple[Any, ...]:
+    """The arrays that get the results, which have their types."""
+    found = out if isinstance(out, tuple) else (out,)
+    if len(found) != len(returned):
+        raise ValueError(f'{name}(): out is a tuple of {len(returned)} arrays')
+    for array, kind in zip(found, returned):
+        dtype = numpy.dtype(kind)
+        if getattr(array, 'dtype', None) != dtype:
+            raise TypeError(
+                f'{name}(): out is of {getattr(array, "dtype", type(array))}, '
+                f'and a result is of {dtype}'
+            )
+    return found
+
+
+def ran(
+    numpy: Any,
+    name: str,
+    given: Sequence[Any],
+    taken: str,
+    returned: str,
+    call: Call,
+    out: Any,
+    where: Any,
+) -> tuple[Any, Any]:
+    """What a ufunc returns, and the statuses or `None`. The ranges of the numbers have been
+    compared, so that a cast loses nothing."""
+    count, ufunc = len(returned), getattr(modules(name)[1], name)
+    named: dict[str, Any] = {}
+    if out is not None:
+        named['out'] = (*places(numpy, name, returned, out), *(None,) * call.has_status)
+    if where is not True:
+        shape = numpy.broadcast_shapes(numpy.shape(where), *(numpy.shape(value) for value in given))
+        named['where'] = where
+        named['out'] = (
+            *named.get('out', (None,) * count)[:count],
+            *(numpy.zeros(shape, 'u1'),) * call.has_status,
+        )
+    signature = signature_of(numpy, taken, returned, call.has_status)
+    found = ufunc(*given, signature=signature, casting='unsafe', **named)
+    found = found if isinstance(found, tuple) else (found,)
+    return found[:count], numpy.asarray(found[count]) if call.has_status else None
+
+
+def signature_of(numpy: Any, taken: str, returned: str, has_status: bool) -> str:
+    """The types of a loop of a ufunc, as numpy writes them."""
+
+    def letters(kinds: str) -> str:
+        return ''.join(numpy.dtype({'q': 'i8', 'Q': 'u8'}.get(kind, kind)).char for kind in kinds)
+
+    return f'{letters(taken)}->{letters(returned + "B" * has_status)}'
+
+
+def as_dates(numpy: Any, ufuncs: Any, outputs: Any, status: Any) -> tuple[Any, Any]:
+    """A column of dates in the place of three, and the statuses. No day is that of `NaT`."""
+    days, failed = ufuncs.day_from_date(*outputs)
+    failed = numpy.where(days == NO_DAY, NOT_FITTING, failed)
+    status = failed if status is None else numpy.where(status != 0, status, failed)
+    days = numpy.where(status != 0, NO_DAY, days)
+    return (numpy.asarray(days).view('M8[D]'),), status
+
+
+def with_missing(numpy: Any, output: Any, missing: Any) -> Any:
+    """A column in which some are missing: `NaT`, or those of an array with a mask."""
+    if missing is None:
+        return output
+    mask = numpy.broadcast_to(missing, numpy.shape(output))
+    if output.dtype.kind == 'M':
+        return numpy.where(mask, numpy.datetime64('NaT'), output)
+    return numpy.ma.MaskedArray(output, mask.copy())
+
+
+def first_error(numpy: Any, call: Call, given: Sequence[Any], status: Any) -> Exception:
+    """The error of the first element that has no result."""
+    failed = status != 0
+    place = int(numpy.argmax(failed))
+    index = tuple(map(int, numpy.unravel_index(place, status.shape)))
+    numbers = (
+        [numpy.broadcast_to(value, status.shape)[index] for value in given] if call.divisors else []
+    )
+    by_zero = any(numbers[k] == 0 for k in call.divisors)
+    where = index[0] if len(index) == 1 else index
+    return refusal(int(status[index]), by_zero, where, int(numpy.count_nonzero(failed)))
+
+
+class Plan(NamedTuple):
+    """How a call of arrays of numpy runs whose types are those of a form, or smaller."""
+
+    ufunc: Any
+    signature: str
+    results: int
+    has_status: bool
+    numbers: tuple[
+        tuple[int, int, int, Any], ...
+    ]  # the places of numbers with their ranges and their types
+    result: Any
+
+
+@functools.lru_cache(maxsize=1024)
+def plan_of(name: str, kinds: tuple[Any, ...]) -> Plan | None:
+    """The plan for arguments of these types, which are those of the items of arrays, or `int`."""
+    call = CALLS[name]
+    if set(call.shapes) > {'n', 'w'} or not all(
+        kind is int or getattr(kind, 'kind', '') in {'i', 'u', 'b'} for kind in kinds
+    ):
+        return None
+    numpy, ufuncs = modules(name)
+    samples = [Leaf(0 if kind is int else numpy.empty(1, kind), '') for kind in kinds]
+    taken, returned = call.forms[form_of(name, call, samples)]
+    if not all(
+        kind is int or numpy.can_cast(kind, letter, 'safe') for kind, letter in zip(kinds, taken)
+    ):
+        return None
+    numbers = tuple(
+        (k, *RANGES[taken[k]], numpy.dtype(taken[k])) for k, kind in enumerate(kinds) if kind is int
+    )
+    return Plan(
+        getattr(ufuncs, name),
+        signature_of(numpy, taken, returned, call.has_status),
+        len(returned),
+        call.has_status,
+        numbers,
+        classes.get(call.result),
+    )
+
+
+def quick(name: str, given: Sequence[Any]) -> Any:
+    """The result of a call of arrays of numpy and of `int`s, or `None` if there is more to do, such
+    as to raise an error."""
+    numpy = sys.modules.get('numpy')
+    if (
+        numpy is None
+        or 'd' in CALLS[name].shapes
+        or 'f' in CALLS[name].shapes
+        or 'l' in CALLS[name].shapes
+    ):
+        return None
+    array_type = numpy.ndarray
+    kinds = tuple([value.dtype if type(value) is array_type else type(value) for value in given])
+    plan = plan_of(name, kinds) if array_type in map(type, given) else None
+    if plan is None:
+        return None
+    if plan.numbers:
+        given = list(given)
+        for place, low, high, kind in plan.numbers:
+            if not low <= given[place] <= high:
+                return None
+            given[place] = numpy.array(given[place], kind)
+    found = plan.ufunc(*given, signature=plan.signature)
+    if not plan.has_status:
+        return found if plan.results == 1 else found if plan.result is None else plan.result(*found)
+    if found[-1].max(initial=0):
+        return None
+    return (
+        found[0]
+        if plan.results == 1
+        else found[:-1]
+        if plan.result is None
+        else plan.result(*found[:-1])
+    )
+
+
+# ---- shares
+
+
+def of_shares(numpy: Any, task: Task) -> Any:
+    """The shares of each amount by weights, which lie along the last axis."""
+    amount, weights = task.leaves
+    frame = weights.value if hasattr(weights.value, 'columns') else None
+    weights = weights._replace(value=numpy.asarray(weights.value))
+    (amounts, missing), (parts_of, none) = (
+        (leaf.value, None) if isinstance(leaf.value, int) else plain(numpy, task.name, leaf)
+        for leaf in (amount, weights)
+    )
+    if none is not None and none.any() or missing is not None and missing.any():
+        raise ValueError(f'{task.name}(): an amount or a weight is missing')
+    call, cells = CALLS[task.name], [
+        Leaf(amounts, amount.parameter),
+        Leaf(parts_of, weights.parameter),
+    ]
+    if not isinstance(parts_of, numpy.ndarray) or parts_of.ndim == 0:
+        raise TypeError(f'{task.name}(): weights is no array')
+    by_sign = len(call.forms) == 1 and (
+        amounts < 0 if isinstance(amounts, int) else amounts.dtype.kind == 'i'
+    )
+    kind = 'q' if by_sign else call.forms[form_of(task.name, call, cells)][0][0]
+    first = as_kind(numpy, task.name, cells[0], None, kind)
+    signs = numpy.asarray(first)
+    if by_sign:
+        first = numpy.abs(signs.astype('i8')).view('u8')
+    given = [first, as_kind(numpy, task.name, cells[1], None, 'Q')]
+    taken, returned = call.forms[0 if by_sign or kind == 'q' else -1]
+    (parts,), status = ran(numpy, task.name, given, taken, returned, call, None, True)
+    if by_sign:
+        parts = numpy.where(signs[..., None] < 0, -parts.view('i8'), parts.view('i8'))
+    return divided(numpy, task, frame, parts, status, given)
+
+
+def divided(
+    numpy: Any, task: Task, frame: Any, parts: Any, status: Any, given: Sequence[Any]
+) -> Any:
+    """The shares of each row, as what the weights are."""
+    if task.errors == 'raise' and status.max(initial=0):
+        raise first_error(numpy, CALLS[task.name], [], status)
+    if task.errors == 'mask':
+        parts = with_missing(numpy, parts, (status != 0)[..., None])
+    elif frame is not None:
+        parts = type(frame)(parts, index=frame.index, columns=frame.columns)
+    return (parts, status) if task.errors == 'status' else parts
+
+
+# ---- pandas
+
+
+class Ufunc:
+    """A call as pandas wants a ufunc: it joins the columns, and makes those of the result."""
+
+    def __init__(self, task: Task, nout: int) -> None:
+        self.task, self.nout, self.nin, self.__name__ = (
+            task,
+            nout,
+            max(len(task.leaves), 3),
+            'cellarcove',
+        )
+
+    def __call__(self, *columns: Any) -> Any:
+        rest = iter(columns)
+        found = of_numpy(
+            self.task, [leaf._replace(value=next(rest)) for leaf in self.task.leaves], None, True
+        )
+        made = tuple(map(nullable, found))
+        return made if self.nout > 1 else made[0]
+
+
+def nullable(column: Any) -> Any:
+    """A column of pandas in which values are missing, of one with a mask."""
+    numpy, pandas = map(importlib.import_module, ('numpy', 'pandas'))
+    if not isinstance(column, numpy.ma.MaskedArray):
+        return column
+    kind = pandas.arrays.BooleanArray if column.dtype.kind == 'b' else pandas.arrays.IntegerArray
+    return kind(column.data, numpy.ma.getmaskarray(column).copy())
+
+
+def of_pandas(task: Task, series: Any) -> Sequence[Any]:
+    """The columns of a result, with the index of the columns."""
+    call = CALLS[task.name]
+    is_day = call.result == 'Date' and any(leaf.is_dates for leaf in task.leaves)
+    count = (1 if is_day else len(call.forms[0][1])) + (task.errors == 'status')
+    ufunc = Ufunc(task, count)
+    found = series.__array_ufunc__(ufunc, '__call__', *(leaf.value for leaf in task.leaves))
+    if found is NotImplemented:
+        raise TypeError(f'{task.name}(): pandas has no way to join these columns')
+    return found if isinstance(found, tuple) else (found,)
+
+
+# ---- dask
+
+
+def of_block(task: Task, *columns: Any) -> Any:
+    """A call of the blocks of the columns."""
+    return call_again(task, task.of(columns))
+
+
+def call_again(task: Task, leaves: tuple[Leaf, ...]) -> Any:
+    again = of_columns(Task(task.name, task.errors, leaves), None, True)
+    return tuple(again) if isinstance(again, tuple) else again
+
+
+def of_dask(task: Task, columns: Sequence[Any]) -> Sequence[Any]:
+    """The columns of a result, which are not computed yet."""
+    numpy, _ = modules(task.name)
+    empty = task._replace(
+        leaves=tuple(
+            leaf._replace(value=None) if is_column(leaf.value) else leaf for leaf in task.leaves
+        )
+    )
+    block = functools.partial(of_block, empty)
+    if any(hasattr(column, 'map_partitions') for column in columns):
+        return (importlib.import_module('dask.dataframe').map_partitions(block, *columns),)
+    shares = CALLS[task.name].shapes == 'nl'
+    cores = [
+        '(n)' if shares and leaf is task.leaves[-1] else '()'
+        for leaf in task.leaves
+        if is_column(leaf.value)
+    ]
+    sample = block(
+        *(numpy.ones((1,) * (core == '(n)'), column.dtype) for core, column in zip(cores, columns))
+    )
+    made = sample if isinstance(sample, tuple) else (sample,)
+    ends = ['(n)' if shares and k == 0 else '()' for k in range(len(made))]
+    signature = f'{",".join(cores)}->{",".join(ends)}'
+    types = [each.dtype for each in made] if isinstance(sample, tuple) else sample.dtype
+    found = importlib.import_module('dask.array').apply_gufunc(
+        block, signature, *columns, output_dtypes=types, allow_rechunk=True
+    )
+    return found if isinstance(found, tuple) else (found,)

@@ -1,0 +1,70 @@
+/* Makes the ufuncs of ufuncs.c, which has their loops and a table of them and includes this file. numpy
+ * gives a loop aligned numbers of its types, so many bytes apart. */
+#define Py_LIMITED_API 0x03090000
+#define NPY_NO_DEPRECATED_API NPY_1_7_API_VERSION
+#define NO_IMPORT_ARRAY
+#include <Python.h>
+#include <stdbool.h>
+#include <stdint.h>
+#include <stdlib.h>
+#include <string.h>
+
+#include <numpy/ndarraytypes.h>
+#include <numpy/ufuncobject.h>
+
+#include "cellarcove.h"
+
+/* The number of a call at a place. */
+#define AT(type, place) (*(type *)(void *)(args[place] + k * steps[place]))
+
+typedef struct {
+    const char *name, *signature;
+    PyUFuncGenericFunction *loops;
+    void **data;
+    const char *types;
+    int forms, taken, returned;
+} ufunc;
+
+/* Room for so many numbers. Without it a loop sets the error that numpy raises. */
+static uint64_t *room_for(size_t count) {
+    uint64_t *room = count < SIZE_MAX / sizeof *room ? malloc((count + 1) * sizeof *room) : NULL;
+    if (room == NULL) {
+        NPY_ALLOW_C_API_DEF
+        NPY_ALLOW_C_API
+        PyErr_NoMemory();
+        NPY_DISABLE_C_API
+    }
+    return room;
+}
+
+/* Copies numbers that lie so many bytes apart. */
+static void gather(uint64_t *to, const char *from, npy_intp step, size_t count) {
+    for (size_t k = 0; k < count; k++, from += step) {
+        memcpy(&to[k], from, sizeof *to);
+    }
+}
+
+/* Copies numbers to where they lie so many bytes apart, or zeros. */
+static void scatter(const uint64_t *from, char *to, npy_intp step, size_t count) {
+    static const uint64_t zero = 0;
+    for (size_t k = 0; k < count; k++, to += step) {
+        memcpy(to, from == NULL ? &zero : &from[k], sizeof zero);
+    }
+}
+
+/* Adds the ufuncs to the module. They keep what a table points to. */
+static int add_ufuncs(PyObject *module, const ufunc *made, size_t count) {
+    if (_import_umath() < 0) {
+        return -1;
+    }
+    for (size_t k = 0; k < count; k++) {
+        const ufunc *u = &made[k];
+        PyObject *object = PyUFunc_FromFuncAndDataAndSignature(u->loops, u->data, (char *)(uintptr_t)u->types, u->forms,
+                                                               u->taken, u->returned, PyUFunc_None, u->name, NULL, 0, u->signature);
+        if (object == NULL || PyModule_AddObject(module, u->name, object) != 0) {
+            Py_XDECREF(object);
+            return -1;
+        }
+    }
+    return 0;
+}

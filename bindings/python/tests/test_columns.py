@@ -1,0 +1,296 @@
+"""Calls the package with columns: a matrix of types, layouts and kinds beside Python's integers, threads, and a cluster of dask."""
+
+import calendar
+import importlib.util
+import math
+import pathlib
+import sys
+import threading
+import time
+import unittest
+
+import cellarcove
+
+missing = [
+    name
+    for name in ('numpy', 'pandas', 'dask', 'distributed')
+    if not importlib.util.find_spec(name)
+]
+if missing:
+    print(f'the tests of columns are left out: there is no {", ".join(missing)}', file=sys.stderr)
+else:
+    import dask.array
+    import numpy
+    import pandas
+
+    dask.config.set(scheduler='synchronous')
+
+SIGNED, UNSIGNED = 'i1 i2 i4 i8 >i8 <i2 >i4', 'u1 u2 u4 u8 >u8 >u2 ?'
+REFUSED = 'f2 f4 f8 >f8 c16 O U3 S3 M8[D] M8[ns] m8[h] V4'
+NUMBERS = [12, 100, 7, 1, 96, 30, 60, 2, 5, 18, 64, 9]
+OTHERS = [8, 3, 7, 2, 4, 12, 25, 1, 5, 27, 48, 6]
+
+# A call, and what it returns by the integers of Python.
+CALLS = {
+    'gcd': math.gcd,
+    'div_floor': lambda x, y: x // y,
+    'div_ceil': lambda x, y: -(-x // y),
+    'average_floor': lambda x, y: (x + y) // 2,
+    'checked_product': lambda x, y: x * y,
+    'is_multiple_of': lambda x, y: x % y == 0,
+    'binomial': math.comb,
+    'div_mod_floor': divmod,
+}
+
+
+def as_type(numbers, kind):
+    """An array of a type. For bools the numbers are 0 and 1."""
+    return numpy.array([number % 2 for number in numbers] if kind == '?' else numbers).astype(kind)
+
+
+def unaligned(x):
+    room = numpy.zeros(x.nbytes + 1, 'u1')
+    found = room[1:].view(x.dtype)
+    found[:] = x
+    return found
+
+
+def strided(x):
+    room = numpy.zeros((len(x), 3), x.dtype)
+    room[:, 1] = x
+    return room[:, 1]
+
+
+def read_only(x):
+    x.flags.writeable = False
+    return x
+
+
+def of_record(x):
+    room = numpy.zeros(len(x), [('a', 'u1'), ('x', x.dtype)])
+    room['x'] = x
+    return room['x']
+
+
+# How an array lies in memory.
+LAYOUTS = {
+    'contiguous': lambda x: x,
+    'strided': strided,
+    'reversed': lambda x: x[::-1].copy()[::-1],
+    'unaligned': unaligned,
+    'in a record': of_record,
+    'read only': read_only,
+    'two dimensions': lambda x: x.reshape(3, 4),
+    'columns first': lambda x: numpy.asfortranarray(x.reshape(3, 4)),
+    'a part of two dimensions': lambda x: numpy.repeat(x.reshape(3, 4), 2, axis=1)[:, ::2],
+    'broadcast': lambda x: numpy.broadcast_to(x, (2, 12)),
+    'empty': lambda x: x[:0],
+    'one': lambda x: x[:1],
+    'no dimension': lambda x: x[0:1].reshape(()),
+    'swapped': lambda x: x.astype(x.dtype.newbyteorder()),
+}
+
+
+def masked(x):
+    return numpy.ma.array(x, mask=numpy.arange(x.size).reshape(x.shape) % 3 == 1)
+
+
+def nullable(x):
+    """A column of pandas in which some are missing."""
+    kinds = {'b': pandas.BooleanDtype, 'i': pandas.Int64Dtype, 'u': pandas.UInt64Dtype}
+    column = pandas.Series(x.astype(x.dtype.newbyteorder('='))).astype(kinds[x.dtype.kind]())
+    column[1::3] = pandas.NA
+    return column
+
+
+# Which kind of array it is. The last three are of one dimension.
+KINDS = {
+    'numpy': lambda x: x,
+    'masked': masked,
+    'dask': lambda x: dask.array.from_array(x, chunks=2),
+    'Series': lambda x: pandas.Series(
+        x.astype(x.dtype.newbyteorder('=')), index=range(5, 5 + len(x))
+    ),
+    'nullable': nullable,
+}
+OF_ONE_DIMENSION = ('Series', 'nullable')
+
+
+def plain(x):
+    """The numbers of a column, `None` where they are missing."""
+    x = x.compute() if hasattr(x, 'compute') else x
+    values = x.tolist()
+    return (
+        [None if value is pandas.NA else value for value in values]
+        if isinstance(values, list)
+        else values
+    )
+
+
+def wanted(function, x, y):
+    """What is wanted of nested lists and numbers."""
+    if isinstance(x, list):
+        return [wanted(function, a, b) for a, b in zip(x, y)]
+    return None if x is None or y is None else function(int(x), int(y))
+
+
+@unittest.skipIf(missing, f'there is no {missing}')
+class Matrix(unittest.TestCase):
+    def cases(self, types, numbers=(NUMBERS, OTHERS)):
+        """Two columns of each type, layout and kind, with the words for them. The second one of bools is true."""
+        for kind in types.split():
+            for layout, lies in LAYOUTS.items():
+                for name, made in KINDS.items():
+                    x, y = (
+                        lies(as_type(each, kind))
+                        for each in (numbers[0], [1] * 12 if kind == '?' else numbers[1])
+                    )
+                    if x.ndim == 1 or name not in OF_ONE_DIMENSION:
+                        yield f'{kind}, {layout}, {name}', made(x), made(y)
+
+    def test_integers(self):
+        done = 0
+        for words, x, y in self.cases(f'{SIGNED} {UNSIGNED}'):
+            for call, function in CALLS.items():
+                with self.subTest(words, call=call):
+                    found = getattr(cellarcove, call)(x, y)
+                    columns = (
+                        [plain(column) for column in found]
+                        if isinstance(found, tuple)
+                        else plain(found)
+                    )
+                    right = wanted(function, plain(x), plain(y))
+                    self.assertEqual(
+                        columns,
+                        [pick(right, k) for k in range(2)] if isinstance(found, tuple) else right,
+                    )
+                    done += 1
+        print(f'columns beside the integers of Python: {done} cases', file=sys.stderr)
+        self.assertGreater(done, 310)
+
+    def test_others(self):
+        """A type of no integers is an error that names it."""
+        done = 0
+        for kind in REFUSED.split():
+            for layout, lies in LAYOUTS.items():
+                if kind == 'O' and layout == 'unaligned':
+                    continue
+                x = lies(numpy.zeros(12, kind))
+                with self.subTest(f'{kind}, {layout}'):
+                    for call in (
+                        lambda x=x: cellarcove.gcd(x, 6),
+                        lambda x=x: cellarcove.gcd(12, x),
+                        lambda x=x: cellarcove.days_in_month(2024, x),
+                        lambda x=x: cellarcove.fraction_floor((6, x)),
+                    ):
+                        with self.assertRaisesRegex(TypeError, 'column of'):
+                            call()
+                        done += 1
+        self.assertGreater(done, 310)
+
+    def test_small_parameters(self):
+        """A month of any type of integers is compared with its range."""
+        months = list(range(1, 13))
+        for words, x, _ in self.cases(
+            f'{SIGNED} {UNSIGNED}'.replace(' ?', ''), numbers=(months, months)
+        ):
+            with self.subTest(words):
+                found = plain(cellarcove.days_in_month(2024, x))
+                self.assertEqual(
+                    found,
+                    wanted(
+                        lambda month, _: calendar.monthrange(2024, month)[1], plain(x), plain(x)
+                    ),
+                )
+        for kind in 'i2 i4 i8 u2 u4 u8 >i8'.split():
+            for wrong in [256, 2**15 - 1] + [-1, -256] * (kind.strip('>')[0] == 'i'):
+                with self.assertRaisesRegex(
+                    OverflowError, f'{wrong} is not from 0 to 255, in the element 1'
+                ):
+                    cellarcove.days_in_month(2024, numpy.array([1, wrong, 2]).astype(kind))
+
+    def test_outputs(self):
+        """An output of any layout gets the results, also one that is an input."""
+        for layout in (
+            'contiguous',
+            'strided',
+            'unaligned',
+            'in a record',
+            'two dimensions',
+            'columns first',
+            'reversed',
+        ):
+            x = LAYOUTS[layout](numpy.array(NUMBERS))
+            right, out = wanted(lambda a, _: math.gcd(a, 8), x.tolist(), x.tolist()), LAYOUTS[
+                layout
+            ](numpy.zeros(12, int))
+            self.assertIs(cellarcove.gcd(x, 8, out=out), out)
+            self.assertEqual(out.tolist(), right)
+            cellarcove.gcd(x, 8, out=x)
+            self.assertEqual(x.tolist(), right)
+        x = numpy.arange(1, 100_001)
+        cellarcove.average_floor(x[:-1], x[1:], out=x[1:])
+        self.assertEqual(x.tolist(), [1, *range(1, 100_000)])
+
+
+def pick(nested, k):
+    return [pick(item, k) for item in nested] if isinstance(nested, list) else nested and nested[k]
+
+
+@unittest.skipIf(missing, f'there is no {missing}')
+class Threads(unittest.TestCase):
+    def test_threads(self):
+        """Calls of several threads at a time, over arrays and over numbers."""
+        x, y, z = (
+            numpy.random.default_rng(seed).integers(1, 2**63, 2000, 'u8') for seed in range(3)
+        )
+        wanted, failed = cellarcove.power_modulo(x, y, z), []
+
+        def run():
+            for _ in range(20):
+                if (cellarcove.power_modulo(x, y, z) != wanted).any() or cellarcove.gcd(
+                    12, 18
+                ) != 6:
+                    failed.append(1)
+
+        together([run] * 8)
+        self.assertEqual(failed, [])
+
+    def test_free(self):
+        """The lock of Python is free in a loop: another thread counts meanwhile."""
+        x, counts, done = numpy.random.default_rng(1).integers(1, 2**62, 400_000), [0], []
+
+        def count():
+            while not done:
+                counts[0] += 1
+                time.sleep(0)
+
+        def run():
+            before = counts[0]
+            cellarcove.gcd(x, x[::-1])
+            done.append(counts[0] - before)
+
+        together([count, run])
+        self.assertGreater(done[0], 1)
+
+
+def together(runners):
+    threads = [threading.Thread(target=run) for run in runners]
+    for thread in threads:
+        thread.start()
+    for thread in threads:
+        thread.join()
+
+
+@unittest.skipIf(missing, f'there is no {missing}')
+class Cluster(unittest.TestCase):
+    def test_two_processes(self):
+        """Blocks that two processes send each other, which lie at any byte: of two dimensions, broadcast, and of dates."""
+        program = (pathlib.Path(__file__).parent / 'cluster.py').read_text()
+        names = {}
+        exec(compile(program, 'cluster.py', 'exec'), names)
+        self.assertEqual(names['main'](), 'equal')
+
+
+if __name__ == '__main__':
+    unittest.main()

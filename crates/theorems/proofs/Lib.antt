@@ -1,0 +1,2 @@
+mod ResidueExistence
+mod Roots

@@ -1,0 +1,9 @@
+#compdef intcalc
+# What zsh completes of `intcalc`.
+_intcalc_calls() {
+    local calls=(
+{zsh}
+    )
+    _describe call calls
+}
+_arguments '1:type:({types})' '2:call:_intcalc_calls' '*:operand:'
