@@ -918,9 +918,9 @@ CELLARCOVE_CONST cellarcove_fraction_answer cellarcove_fraction_floor_to(cellarc
 CELLARCOVE_CONST cellarcove_fraction_answer cellarcove_fraction_ceil_to(cellarcove_fraction a, int64_t parts);
 
 /** The nearest multiple of 1 / parts, and of two that are equally near the one farther from 0. That of 5/3 and 100
- *  is 167/100. CELLARCOVE_OUTSIDE if parts is not positive, whatever a is. CELLARCOVE_ZERO_DENOMINATOR if the
- *  denominator is 0. CELLARCOVE_NOT_FITTING if a part of the reduced fraction does not fit, or a part of the
- *  result. */
+ *  is 167/100, that of 1/8 and 100 is 13/100, and that of -1/8 and 100 is -13/100. CELLARCOVE_OUTSIDE if parts is
+ *  not positive, whatever a is. CELLARCOVE_ZERO_DENOMINATOR if the denominator is 0. CELLARCOVE_NOT_FITTING if a
+ *  part of the reduced fraction does not fit, or a part of the result. */
 CELLARCOVE_CONST cellarcove_fraction_answer cellarcove_fraction_round_to(cellarcove_fraction a, int64_t parts);
 
 /* ---- Fractions rounded half to even, and their decimal digits. A fraction that is passed is reduced first ---- */
@@ -1002,11 +1002,13 @@ CELLARCOVE_CONST uint8_t cellarcove_weekday(int64_t day);
 CELLARCOVE_CONST cellarcove_u64_answer cellarcove_weekday_of_date(cellarcove_date date);
 
 /** The first day that is this day of the week, from 1 for Monday to 7 for Sunday, and is not before day. For 0 and
- *  7 it is 3. CELLARCOVE_OUTSIDE if weekday is not from 1 to 7. CELLARCOVE_NOT_FITTING if the day does not fit. */
+ *  7 it is 3, and for 3 and 7 it is 3. CELLARCOVE_OUTSIDE if weekday is not from 1 to 7. CELLARCOVE_NOT_FITTING if
+ *  the day does not fit. */
 CELLARCOVE_CONST cellarcove_i64_answer cellarcove_first_weekday_on_or_after(int64_t day, uint8_t weekday);
 
 /** The last day that is this day of the week, from 1 for Monday to 7 for Sunday, and is not after day. For 4 and 7
- *  it is 3. CELLARCOVE_OUTSIDE if weekday is not from 1 to 7. CELLARCOVE_NOT_FITTING if the day does not fit. */
+ *  it is 3, and for 3 and 7 it is 3. CELLARCOVE_OUTSIDE if weekday is not from 1 to 7. CELLARCOVE_NOT_FITTING if
+ *  the day does not fit. */
 CELLARCOVE_CONST cellarcove_i64_answer cellarcove_last_weekday_on_or_before(int64_t day, uint8_t weekday);
 
 /** The date of the n-th day of a month that is this day of the week, from 1 for Monday to 7 for Sunday. The first
@@ -1061,21 +1063,23 @@ CELLARCOVE_PURE cellarcove_date_answer cellarcove_date_from_text(const char *tex
 /* ---- Products divided by a number, rounded to the nearest integer ---- */
 
 /** The quotient of a * b by d, rounded to the nearest integer, and a half away from 0. The product need not fit.
- *  For -1999, 19 and 100 it is -380. CELLARCOVE_OUTSIDE if d is 0. CELLARCOVE_NOT_FITTING if the quotient does not
- *  fit. */
+ *  For -1999, 19 and 100 it is -380, for 5, 1 and 2 it is 3, and for -5, 1 and 2 it is -3. CELLARCOVE_OUTSIDE if d
+ *  is 0. CELLARCOVE_NOT_FITTING if the quotient does not fit. */
 CELLARCOVE_CONST cellarcove_i64_answer cellarcove_product_div_round_i64(int64_t a, int64_t b, int64_t d);
 
 /** The quotient of a * b by d, rounded to the nearest integer, and a half up. The product need not fit. For 1999,
- *  19 and 100 it is 380. CELLARCOVE_OUTSIDE if d is 0. CELLARCOVE_NOT_FITTING if the quotient does not fit. */
+ *  19 and 100 it is 380, and for 5, 1 and 2 it is 3. CELLARCOVE_OUTSIDE if d is 0. CELLARCOVE_NOT_FITTING if the
+ *  quotient does not fit. */
 CELLARCOVE_CONST cellarcove_u64_answer cellarcove_product_div_round_u64(uint64_t a, uint64_t b, uint64_t d);
 
 /** The quotient of a * b by d, rounded to the nearest integer, and a half to the even one. The product need not
- *  fit. For -5, 3 and 6 it is -2. CELLARCOVE_OUTSIDE if d is 0. CELLARCOVE_NOT_FITTING if the quotient does not
- *  fit. */
+ *  fit. For -5, 3 and 6 it is -2, and for -7, 3 and 6 it is -4. CELLARCOVE_OUTSIDE if d is 0.
+ *  CELLARCOVE_NOT_FITTING if the quotient does not fit. */
 CELLARCOVE_CONST cellarcove_i64_answer cellarcove_product_div_round_even_i64(int64_t a, int64_t b, int64_t d);
 
 /** The quotient of a * b by d, rounded to the nearest integer, and a half to the even one. The product need not
- *  fit. For 5, 3 and 6 it is 2. CELLARCOVE_OUTSIDE if d is 0. CELLARCOVE_NOT_FITTING if the quotient does not fit. */
+ *  fit. For 5, 3 and 6 it is 2, and for 7, 3 and 6 it is 4. CELLARCOVE_OUTSIDE if d is 0. CELLARCOVE_NOT_FITTING
+ *  if the quotient does not fit. */
 CELLARCOVE_CONST cellarcove_u64_answer cellarcove_product_div_round_even_u64(uint64_t a, uint64_t b, uint64_t d);
 
 /* ---- Sums of lists ---- */

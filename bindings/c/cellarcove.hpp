@@ -1574,8 +1574,9 @@ template <class N0, class N1, class N2, class N3> [[nodiscard]] auto count_times
 }
 
 /// The nearest multiple of 1 / parts, and of two that are equally near the one farther from 0. That of 5/3 and 100 is
-/// 167/100. status::outside if parts is not positive, whatever a is. status::zero_denominator if the denominator is
-/// 0. status::not_fitting if a part of the reduced fraction does not fit, or a part of the result.
+/// 167/100, that of 1/8 and 100 is 13/100, and that of -1/8 and 100 is -13/100. status::outside if parts is not
+/// positive, whatever a is. status::zero_denominator if the denominator is 0. status::not_fitting if a part of the
+/// reduced fraction does not fit, or a part of the result.
 [[nodiscard]] inline result<fraction> fraction_round_to(const fraction &a, detail::checked<std::int64_t> parts) {
     if (auto error = detail::error_of(parts); error != status::answer) {
         return result<fraction>(error);
@@ -1731,7 +1732,8 @@ template <class N0, class N1, class N2, class N3> [[nodiscard]] auto count_times
 }
 
 /// The first day that is this day of the week, from 1 for Monday to 7 for Sunday, and is not before day. For 0 and 7
-/// it is 3. status::outside if weekday is not from 1 to 7. status::not_fitting if the day does not fit.
+/// it is 3, and for 3 and 7 it is 3. status::outside if weekday is not from 1 to 7. status::not_fitting if the day
+/// does not fit.
 [[nodiscard]] inline result<std::int64_t> first_weekday_on_or_after(detail::checked<std::int64_t> day, detail::checked<std::uint8_t> weekday) {
     if (auto error = detail::error_of(day); error != status::answer) {
         return result<std::int64_t>(error);
@@ -1741,7 +1743,8 @@ template <class N0, class N1, class N2, class N3> [[nodiscard]] auto count_times
 }
 
 /// The last day that is this day of the week, from 1 for Monday to 7 for Sunday, and is not after day. For 4 and 7 it
-/// is 3. status::outside if weekday is not from 1 to 7. status::not_fitting if the day does not fit.
+/// is 3, and for 3 and 7 it is 3. status::outside if weekday is not from 1 to 7. status::not_fitting if the day does
+/// not fit.
 [[nodiscard]] inline result<std::int64_t> last_weekday_on_or_before(detail::checked<std::int64_t> day, detail::checked<std::uint8_t> weekday) {
     if (auto error = detail::error_of(day); error != status::answer) {
         return result<std::int64_t>(error);
@@ -1834,7 +1837,8 @@ template <class N0, class N1, class N2, class N3> [[nodiscard]] auto count_times
 // ---- Products divided by a number, rounded to the nearest integer
 
 /// The quotient of a * b by d, rounded to the nearest integer, and a half away from 0. The product need not fit. For
-/// -1999, 19 and 100 it is -380. status::outside if d is 0. status::not_fitting if the quotient does not fit.
+/// -1999, 19 and 100 it is -380, for 5, 1 and 2 it is 3, and for -5, 1 and 2 it is -3. status::outside if d is 0.
+/// status::not_fitting if the quotient does not fit.
 template <class N0, class N1, class N2> [[nodiscard]] auto product_div_round(N0 a, N1 b, N2 d) {
     if constexpr (detail::is_signed<N0, N1, N2>()) {
         auto r = cellarcove_product_div_round_i64(static_cast<std::int64_t>(a), static_cast<std::int64_t>(b), static_cast<std::int64_t>(d));
@@ -1846,7 +1850,8 @@ template <class N0, class N1, class N2> [[nodiscard]] auto product_div_round(N0 
 }
 
 /// The quotient of a * b by d, rounded to the nearest integer, and a half to the even one. The product need not fit.
-/// For -5, 3 and 6 it is -2. status::outside if d is 0. status::not_fitting if the quotient does not fit.
+/// For -5, 3 and 6 it is -2, and for -7, 3 and 6 it is -4. status::outside if d is 0. status::not_fitting if the
+/// quotient does not fit.
 template <class N0, class N1, class N2> [[nodiscard]] auto product_div_round_even(N0 a, N1 b, N2 d) {
     if constexpr (detail::is_signed<N0, N1, N2>()) {
         auto r = cellarcove_product_div_round_even_i64(static_cast<std::int64_t>(a), static_cast<std::int64_t>(b), static_cast<std::int64_t>(d));

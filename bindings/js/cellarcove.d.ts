@@ -620,9 +620,9 @@ export function fractionCeilTo(a: Fractional, parts: Integer): Fraction;
 export function fractionCeilTo(a: Fractional | FractionColumns, parts: Integer | BigInt64Array): {num: BigInt64Array; den: BigInt64Array; status: Uint8Array};
 export function tryFractionCeilTo(a: Fractional, parts: Integer): Attempt<Fraction>;
 
-/** The nearest multiple of `1 / parts`, and of two that are equally near the one farther from 0. That of 5/3 and 100 is 167/100.
- *  `OUTSIDE` if `parts` is not positive, whatever `a` is. `ZERO_DENOMINATOR` if the denominator is 0. `NOT_FITTING` if a part of the
- *  reduced fraction does not fit, or a part of the result. */
+/** The nearest multiple of `1 / parts`, and of two that are equally near the one farther from 0. That of 5/3 and 100 is 167/100, that of
+ *  1/8 and 100 is 13/100, and that of -1/8 and 100 is -13/100. `OUTSIDE` if `parts` is not positive, whatever `a` is. `ZERO_DENOMINATOR`
+ *  if the denominator is 0. `NOT_FITTING` if a part of the reduced fraction does not fit, or a part of the result. */
 export function fractionRoundTo(a: Fractional, parts: Integer): Fraction;
 export function fractionRoundTo(a: Fractional | FractionColumns, parts: Integer | BigInt64Array): {num: BigInt64Array; den: BigInt64Array; status: Uint8Array};
 export function tryFractionRoundTo(a: Fractional, parts: Integer): Attempt<Fraction>;
@@ -725,14 +725,14 @@ export function weekdayOfDate(date: Dated): number;
 export function weekdayOfDate(date: Dated | PlainDateColumns): {value: Uint8Array; status: Uint8Array};
 export function tryWeekdayOfDate(date: Dated): Attempt<number>;
 
-/** The first day that is this day of the week, from 1 for Monday to 7 for Sunday, and is not before `day`. For 0 and 7 it is 3. `OUTSIDE`
- *  if `weekday` is not from 1 to 7. `NOT_FITTING` if the day does not fit. */
+/** The first day that is this day of the week, from 1 for Monday to 7 for Sunday, and is not before `day`. For 0 and 7 it is 3, and for 3
+ *  and 7 it is 3. `OUTSIDE` if `weekday` is not from 1 to 7. `NOT_FITTING` if the day does not fit. */
 export function firstWeekdayOnOrAfter(day: Integer, weekday: Integer): bigint;
 export function firstWeekdayOnOrAfter(day: Integer | BigInt64Array, weekday: Integer | Uint8Array): {value: BigInt64Array; status: Uint8Array};
 export function tryFirstWeekdayOnOrAfter(day: Integer, weekday: Integer): Attempt<bigint>;
 
-/** The last day that is this day of the week, from 1 for Monday to 7 for Sunday, and is not after `day`. For 4 and 7 it is 3. `OUTSIDE`
- *  if `weekday` is not from 1 to 7. `NOT_FITTING` if the day does not fit. */
+/** The last day that is this day of the week, from 1 for Monday to 7 for Sunday, and is not after `day`. For 4 and 7 it is 3, and for 3
+ *  and 7 it is 3. `OUTSIDE` if `weekday` is not from 1 to 7. `NOT_FITTING` if the day does not fit. */
 export function lastWeekdayOnOrBefore(day: Integer, weekday: Integer): bigint;
 export function lastWeekdayOnOrBefore(day: Integer | BigInt64Array, weekday: Integer | Uint8Array): {value: BigInt64Array; status: Uint8Array};
 export function tryLastWeekdayOnOrBefore(day: Integer, weekday: Integer): Attempt<bigint>;
@@ -788,13 +788,14 @@ export function dateFromText(text: string): PlainDate;
 export function tryDateFromText(text: string): Attempt<PlainDate>;
 
 /** The quotient of `a * b` by `d`, rounded to the nearest integer, and a half away from 0. The product need not fit. For -1999, 19 and
- *  100 it is -380. `OUTSIDE` if `d` is 0. `NOT_FITTING` if the quotient does not fit. */
+ *  100 it is -380, for 5, 1 and 2 it is 3, and for -5, 1 and 2 it is -3. `OUTSIDE` if `d` is 0. `NOT_FITTING` if the quotient does not
+ *  fit. */
 export function productDivRound(a: Integer, b: Integer, d: Integer): bigint;
 export function productDivRound<T extends Integers>(a: Integer | T, b: Integer | T, d: Integer | T): {value: T; status: Uint8Array};
 export function tryProductDivRound(a: Integer, b: Integer, d: Integer): Attempt<bigint>;
 
 /** The quotient of `a * b` by `d`, rounded to the nearest integer, and a half to the even one. The product need not fit. For -5, 3 and 6
- *  it is -2. `OUTSIDE` if `d` is 0. `NOT_FITTING` if the quotient does not fit. */
+ *  it is -2, and for -7, 3 and 6 it is -4. `OUTSIDE` if `d` is 0. `NOT_FITTING` if the quotient does not fit. */
 export function productDivRoundEven(a: Integer, b: Integer, d: Integer): bigint;
 export function productDivRoundEven<T extends Integers>(a: Integer | T, b: Integer | T, d: Integer | T): {value: T; status: Uint8Array};
 export function tryProductDivRoundEven(a: Integer, b: Integer, d: Integer): Attempt<bigint>;

@@ -11,7 +11,8 @@ use crate::division::reason_for_divisor;
 use applied::rounding::checked::{product_div_round, product_div_round_even};
 
 /// Returns the quotient of `a * b` by `d`, rounded to the nearest integer, and a half away from 0. The
-/// product need not fit. For -1999, 19 and 100 it is -380.
+/// product need not fit. For -1999, 19 and 100 it is -380, for 5, 1 and 2 it is 3, and for -5, 1 and 2 it is
+/// -3.
 ///
 /// `OUTSIDE` if `d` is 0. `NOT_FITTING` if the quotient does not fit.
 #[unsafe(no_mangle)]
@@ -22,7 +23,7 @@ pub extern "C" fn cellarcove_product_div_round_i64(a: i64, b: i64, d: i64) -> I6
 }
 
 /// Returns the quotient of `a * b` by `d`, rounded to the nearest integer, and a half up. The product
-/// need not fit. For 1999, 19 and 100 it is 380.
+/// need not fit. For 1999, 19 and 100 it is 380, and for 5, 1 and 2 it is 3.
 ///
 /// `OUTSIDE` if `d` is 0. `NOT_FITTING` if the quotient does not fit.
 #[unsafe(no_mangle)]
@@ -35,7 +36,7 @@ pub extern "C" fn cellarcove_product_div_round_u64(a: u64, b: u64, d: u64) -> U6
 }
 
 /// Returns the quotient of `a * b` by `d`, rounded to the nearest integer, and a half to the even one.
-/// The product need not fit. For -5, 3 and 6 it is -2.
+/// The product need not fit. For -5, 3 and 6 it is -2, and for -7, 3 and 6 it is -4.
 ///
 /// `OUTSIDE` if `d` is 0. `NOT_FITTING` if the quotient does not fit.
 #[unsafe(no_mangle)]
@@ -46,7 +47,7 @@ pub extern "C" fn cellarcove_product_div_round_even_i64(a: i64, b: i64, d: i64) 
 }
 
 /// Returns the quotient of `a * b` by `d`, rounded to the nearest integer, and a half to the even one.
-/// The product need not fit. For 5, 3 and 6 it is 2.
+/// The product need not fit. For 5, 3 and 6 it is 2, and for 7, 3 and 6 it is 4.
 ///
 /// `OUTSIDE` if `d` is 0. `NOT_FITTING` if the quotient does not fit.
 #[unsafe(no_mangle)]

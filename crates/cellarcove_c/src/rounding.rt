@@ -157,7 +157,7 @@ pub extern "C" fn cellarcove_fraction_ceil_to(a: Fraction, parts: i64) -> Fracti
 }
 
 /// Returns the nearest multiple of `1 / parts`, and of two that are equally near the one farther from 0.
-/// That of 5/3 and 100 is 167/100.
+/// That of 5/3 and 100 is 167/100, that of 1/8 and 100 is 13/100, and that of -1/8 and 100 is -13/100.
 ///
 /// `OUTSIDE` if `parts` is not positive, whatever `a` is. `ZERO_DENOMINATOR` if the denominator is 0.
 /// `NOT_FITTING` if a part of the reduced fraction does not fit, or a part of the result.

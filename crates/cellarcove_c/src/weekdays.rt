@@ -42,7 +42,7 @@ pub extern "C" fn cellarcove_weekday_of_date(date: Date) -> U64Answer
 }
 
 /// Returns the first day that is this day of the week, from 1 for Monday to 7 for Sunday, and is not
-/// before `day`. For 0 and 7 it is 3.
+/// before `day`. For 0 and 7 it is 3, and for 3 and 7 it is 3.
 ///
 /// `OUTSIDE` if `weekday` is not from 1 to 7. `NOT_FITTING` if the day does not fit.
 #[unsafe(no_mangle)]
@@ -62,7 +62,7 @@ pub extern "C" fn cellarcove_first_weekday_on_or_after(day: i64, weekday: u8) ->
 }
 
 /// Returns the last day that is this day of the week, from 1 for Monday to 7 for Sunday, and is not after
-/// `day`. For 4 and 7 it is 3.
+/// `day`. For 4 and 7 it is 3, and for 3 and 7 it is 3.
 ///
 /// `OUTSIDE` if `weekday` is not from 1 to 7. `NOT_FITTING` if the day does not fit.
 #[unsafe(no_mangle)]

@@ -664,7 +664,7 @@ pub fn ends_of_type<T: Fits>() -> (u128, u128)
     T::ends()
 }
 
-/// Returns the ends of a type, which meets the bounds of the theorems at any type, but for those on roots.
+/// Returns the ends of a type that every generic theorem here accepts, except those on roots.
 fn ends_of_lawful_type<T: Fits + Average + GcdCounted>() -> (u128, u128)
     ensures low { result.0 ≡ unsigned_abs T.low }
     ensures high { pos result.1 ≡ T.high }
@@ -672,7 +672,7 @@ fn ends_of_lawful_type<T: Fits + Average + GcdCounted>() -> (u128, u128)
     ends_of_type::<T>()
 }
 
-/// Returns the ends of a type, which meets the bounds of the theorems on roots too.
+/// Returns the ends of a type that every generic theorem here accepts, those on roots included.
 fn ends_of_type_with_roots<T: Fits + Average + GcdCounted + SqrtCounted>() -> (u128, u128)
     ensures low { result.0 ≡ unsigned_abs T.low }
     ensures high { pos result.1 ≡ T.high }
@@ -681,7 +681,7 @@ fn ends_of_type_with_roots<T: Fits + Average + GcdCounted + SqrtCounted>() -> (u
 }
 
 /// Returns, for each of the ten native types that have roots, the magnitude of its smallest number, and its largest number.
-/// Each of these types is lawful: it meets the bounds of all theorems here.
+/// Each of these types is lawful: every generic theorem here accepts it.
 pub fn ends_of_types_with_roots() -> ([(u128, u128); 5], [(u128, u128); 5])
     ensures signed { result.0 ≡ (2 ^ 7, 2 ^ 7 - 1) ∷ (2 ^ 15, 2 ^ 15 - 1) ∷ (2 ^ 31, 2 ^ 31 - 1)
         ∷ (2 ^ 63, 2 ^ 63 - 1) ∷ (2 ^ 63, 2 ^ 63 - 1) ∷ [] }
@@ -706,7 +706,7 @@ pub fn ends_of_types_with_roots() -> ([(u128, u128); 5], [(u128, u128); 5])
     )
 }
 
-/// Returns the same for `i128` and `u128`. They are lawful, and meet the bounds of all theorems but those on roots.
+/// Returns the same for `i128` and `u128`. They are lawful: every generic theorem here accepts them, except those on roots.
 pub fn ends_of_types_without_roots() -> ((u128, u128), (u128, u128))
     ensures signed { result.0 ≡ (2 ^ 127, 2 ^ 127 - 1) }
     ensures unsigned { result.1 ≡ (0, 2 ^ 128 - 1) }

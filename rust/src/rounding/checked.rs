@@ -67,6 +67,8 @@ pub fn div_round_even<T: Fits>(x: T, y: T) -> Option<T> {
 /// use cellarcove::rounding::checked::product_div_round;
 ///
 /// assert_eq!(product_div_round(1999, 19, 100), Some(380));
+/// assert_eq!(product_div_round(5, 1, 2), Some(3));
+/// assert_eq!(product_div_round(-5, 1, 2), Some(-3));
 /// assert_eq!(product_div_round(i64::MAX, 3, 2), None);
 /// ```
 ///

@@ -39,7 +39,8 @@ pub fn div_round_even<T: Fits>(x: T, y: T) -> Option<T>
 }
 
 /// Returns the quotient of `a * b` by `d`, rounded to the nearest integer, and a half away from zero, for a built-in type of at most 64
-/// bits, or `None` if `d` is 0 or the quotient does not fit. `product_div_round(1999, 19, 100)` is `Some(380)`, and
+/// bits, or `None` if `d` is 0 or the quotient does not fit. `product_div_round(1999, 19, 100)` is `Some(380)`,
+/// `product_div_round(5, 1, 2)` is `Some(3)`, `product_div_round(-5, 1, 2)` is `Some(-3)`, and
 /// `product_div_round(i64::MAX, 3, 2)` is `None`.
 ///
 /// The product need not fit: then it is computed in 128 bits. No wider type has the products of `i128`, `u128` or a type of your
