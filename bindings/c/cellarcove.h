@@ -577,6 +577,15 @@ CELLARCOVE_WRITES uint32_t cellarcove_shares_i64(int64_t amount, const uint64_t 
 CELLARCOVE_WRITES uint32_t cellarcove_shares_u64(uint64_t amount, const uint64_t *weights, size_t weights_len,
     uint64_t *CELLARCOVE_RESTRICT parts, size_t parts_len);
 
+/** Writes the shares of the amount by largest remainders, and returns the status. The shares of a negative amount
+ *  are those of its magnitude with its sign. For -1002 and the weights 1, 1, 1 and 1 they are -251, -251, -250 and
+ *  -250. If the status is not 0, parts stays as it is. weights points to weights_len aligned numbers, which do not
+ *  change during the call; it may be null if weights_len is 0. parts points to parts_len aligned numbers, which
+ *  nothing else reads or writes during the call; it may be null if parts_len is 0. CELLARCOVE_OUTSIDE if there is
+ *  not one part for each weight, or if the weights are all 0. */
+CELLARCOVE_WRITES uint32_t cellarcove_shares_by_largest_remainder_i64(int64_t amount, const uint64_t *weights,
+    size_t weights_len, int64_t *CELLARCOVE_RESTRICT parts, size_t parts_len);
+
 /** Writes the shares of the amount by largest remainders, and returns the status. Each is the exact share rounded
  *  down, or 1 more for the weights with the largest remainders, and of equal ones the first, so that together they
  *  are the amount. For 2 and the weights 1, 1 and 98 they are 0, 0 and 2, and for 1002 and the weights 1, 1, 1 and
@@ -956,6 +965,10 @@ CELLARCOVE_CONST cellarcove_i64_answer cellarcove_day_from_date(cellarcove_date 
 /** The date days days after a date, or before it if days is negative. That of 2000-03-01 and -1 is 2000-02-29.
  *  CELLARCOVE_NO_DATE if there is no such date. CELLARCOVE_NOT_FITTING if the year of the result does not fit. */
 CELLARCOVE_CONST cellarcove_date_answer cellarcove_plus_days(cellarcove_date date, int64_t days);
+
+/** The date days days before a date, or after it if days is negative. That of 2000-03-01 and 1 is 2000-02-29.
+ *  CELLARCOVE_NO_DATE if there is no such date. CELLARCOVE_NOT_FITTING if the year of the result does not fit. */
+CELLARCOVE_CONST cellarcove_date_answer cellarcove_minus_days(cellarcove_date date, int64_t days);
 
 /** The number of days from one date to another, negative if the other is earlier. For 2000-03-01 and 2000-02-28 it
  *  is -2. CELLARCOVE_NO_DATE if there is no such date. CELLARCOVE_NOT_FITTING if the number does not fit. */

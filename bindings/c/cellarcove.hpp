@@ -1041,6 +1041,17 @@ template <class N0, class Items1, class Items2>
     return shares(amount, detail::items<std::uint64_t>(weights), std::size(weights), detail::items<std::int64_t, std::uint64_t>(parts), std::size(parts));
 }
 
+/// Writes the shares of the amount by largest remainders, and returns the status. The shares of a negative amount are
+/// those of its magnitude with its sign. For -1002 and the weights 1, 1, 1 and 1 they are -251, -251, -250 and -250.
+/// If the status is not 0, parts stays as it is. status::outside if there is not one part for each weight, or if the
+/// weights are all 0.
+[[nodiscard]] inline status shares_by_largest_remainder(detail::checked<std::int64_t> amount, const std::uint64_t *weights, detail::checked<std::size_t> weights_length, std::int64_t *parts, detail::checked<std::size_t> parts_length) {
+    if (auto error = detail::error_of(amount, weights_length, parts_length); error != status::answer) {
+        return error;
+    }
+    return static_cast<status>(cellarcove_shares_by_largest_remainder_i64(amount.value, weights, weights_length.value, parts, parts_length.value));
+}
+
 /// Writes the shares of the amount by largest remainders, and returns the status. Each is the exact share rounded
 /// down, or 1 more for the weights with the largest remainders, and of equal ones the first, so that together they
 /// are the amount. For 2 and the weights 1, 1 and 98 they are 0, 0 and 2, and for 1002 and the weights 1, 1, 1 and 1
@@ -1053,13 +1064,13 @@ template <class N0, class Items1, class Items2>
     return static_cast<status>(cellarcove_shares_by_largest_remainder_u64(amount.value, weights, weights_length.value, parts, parts_length.value));
 }
 
-/// The same for an array, or a container of `std::uint64_t` in one piece.
-template <class Items1, class Items2>
-[[nodiscard]] auto shares_by_largest_remainder(detail::checked<std::uint64_t> amount, const Items1 &weights, Items2 &&parts) {
+/// The same for an array, or a container of `std::uint64_t` or `std::int64_t` in one piece.
+template <class N0, class Items1, class Items2>
+[[nodiscard]] auto shares_by_largest_remainder(N0 amount, const Items1 &weights, Items2 &&parts) {
     static_assert(detail::has_items<decltype(weights), std::uint64_t>, "the items of weights have to be std::uint64_t");
-    static_assert(detail::has_items<decltype(parts), std::uint64_t>, "the items of parts have to be std::uint64_t");
+    static_assert(detail::has_items<decltype(parts), std::int64_t, std::uint64_t>, "the items of parts have to be std::int64_t or std::uint64_t");
     static_assert(detail::outlives_call<Items2>, "parts ends with the call: pass a variable, or a view of one");
-    return shares_by_largest_remainder(amount, detail::items<std::uint64_t>(weights), std::size(weights), detail::items<std::uint64_t>(parts), std::size(parts));
+    return shares_by_largest_remainder(amount, detail::items<std::uint64_t>(weights), std::size(weights), detail::items<std::int64_t, std::uint64_t>(parts), std::size(parts));
 }
 
 // ---- Items on pages of equal size, and in parts of nearly equal size. Items, pages, places and parts are counted
@@ -1648,6 +1659,16 @@ template <class N0, class N1, class N2, class N3> [[nodiscard]] auto count_times
     return r.status == CELLARCOVE_ANSWER ? result<date>(detail::returned::of(r.date)) : result<date>(static_cast<status>(r.status));
 }
 
+/// The date days days before a date, or after it if days is negative. That of 2000-03-01 and 1 is 2000-02-29.
+/// status::no_date if there is no such date. status::not_fitting if the year of the result does not fit.
+[[nodiscard]] inline result<date> minus_days(const date &of, detail::checked<std::int64_t> days) {
+    if (auto error = detail::error_of(days); error != status::answer) {
+        return result<date>(error);
+    }
+    auto r = cellarcove_minus_days(of.to_c(), days.value);
+    return r.status == CELLARCOVE_ANSWER ? result<date>(detail::returned::of(r.date)) : result<date>(static_cast<status>(r.status));
+}
+
 /// The number of days from one date to another, negative if the other is earlier. For 2000-03-01 and 2000-02-28 it is
 /// -2. status::no_date if there is no such date. status::not_fitting if the number does not fit.
 [[nodiscard]] inline result<std::int64_t> days_between(const date &from, const date &to) {
@@ -1908,13 +1929,7 @@ template <class Items0>
 /// The date some days later.
 [[nodiscard]] inline result<date> operator+(const date &a, detail::checked<std::int64_t> days) { return plus_days(a, days); }
 /// The date some days earlier.
-[[nodiscard]] inline result<date> operator-(const date &a, detail::checked<std::int64_t> days) {
-    if (days.value == std::numeric_limits<std::int64_t>::min()) { // its negated number does not fit
-        return (a + std::numeric_limits<std::int64_t>::max()).and_then([](const date &b) { return b + 1; });
-    }
-    days.value = -days.value;
-    return a + days;
-}
+[[nodiscard]] inline result<date> operator-(const date &a, detail::checked<std::int64_t> days) { return minus_days(a, days); }
 /// The days from `b` to `a`.
 [[nodiscard]] inline result<std::int64_t> operator-(const date &a, const date &b) { return days_between(b, a); }
 [[nodiscard]] constexpr bool operator==(const date &a, const date &b) {

@@ -430,6 +430,12 @@ static void days_and_years(void) {
     CHECK(day.status == CELLARCOVE_NOT_FITTING && is_date(day.date, 0, 0, 0));
     day = cellarcove_plus_days(none, 1);
     CHECK(day.status == CELLARCOVE_NO_DATE && is_date(day.date, 0, 0, 0));
+    day = cellarcove_minus_days(date(2000, 3, 1), 1);
+    CHECK(day.status == CELLARCOVE_ANSWER && is_date(day.date, 2000, 2, 29));
+    day = cellarcove_minus_days(far, -1);
+    CHECK(day.status == CELLARCOVE_NOT_FITTING && is_date(day.date, 0, 0, 0));
+    day = cellarcove_minus_days(none, 1);
+    CHECK(day.status == CELLARCOVE_NO_DATE && is_date(day.date, 0, 0, 0));
     ANSWERS(cellarcove_days_between(date(2000, 3, 1), date(2000, 2, 28)), -2);
     REFUSES(cellarcove_days_between(date(2000, 3, 1), far), CELLARCOVE_NOT_FITTING);
     REFUSES(cellarcove_days_between(none, far), CELLARCOVE_NO_DATE);
@@ -499,6 +505,8 @@ static void shares(void) {
     CHECK(cellarcove_shares_u64(2, unequal, 3, counts, 3) == CELLARCOVE_ANSWER && counts[0] == 1 && counts[1] == 0 && counts[2] == 1);
     CHECK(cellarcove_shares_by_largest_remainder_u64(2, zeros, 3, counts, 3) == CELLARCOVE_OUTSIDE && counts[0] == 1);
     CHECK(cellarcove_shares_by_largest_remainder_u64(2, unequal, 3, counts, 3) == CELLARCOVE_ANSWER && counts[0] == 0 && counts[2] == 2);
+    CHECK(cellarcove_shares_by_largest_remainder_i64(-2, zeros, 3, parts, 3) == CELLARCOVE_OUTSIDE && parts[0] == -34);
+    CHECK(cellarcove_shares_by_largest_remainder_i64(-2, unequal, 3, parts, 3) == CELLARCOVE_ANSWER && parts[0] == 0 && parts[2] == -2);
     CHECK(cellarcove_shares_u64(0, NULL, 0, NULL, 0) == CELLARCOVE_OUTSIDE);
 }
 

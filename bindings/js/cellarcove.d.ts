@@ -337,8 +337,9 @@ export function shares(amount: Integer, weights: Iterable<Integer>): bigint[];
 export function tryShares(amount: Integer, weights: Iterable<Integer>): Attempt<bigint[]>;
 
 /** The shares of the amount by largest remainders, as an array: each is the exact share rounded down, or 1 more for the weights with the
- *  largest remainders, and of equal ones the first. For 1002 and the weights 1, 1, 1 and 1 they are 251, 251, 250 and 250. `OUTSIDE` if
- *  there is not one part for each weight, or if the weights are all 0. */
+ *  largest remainders, and of equal ones the first. The shares of a negative amount are those of its magnitude with its sign. For 1002
+ *  and the weights 1, 1, 1 and 1 they are 251, 251, 250 and 250. `OUTSIDE` if there is not one part for each weight, or if the weights
+ *  are all 0. */
 export function sharesByLargestRemainder(amount: Integer, weights: Iterable<Integer>): bigint[];
 export function trySharesByLargestRemainder(amount: Integer, weights: Iterable<Integer>): Attempt<bigint[]>;
 
@@ -664,6 +665,12 @@ export function tryDayFromDate(date: Dated): Attempt<bigint>;
 export function plusDays(date: Dated, days: Integer): PlainDate;
 export function plusDays(date: Dated | PlainDateColumns, days: Integer | BigInt64Array): {year: BigInt64Array; month: Uint8Array; day: Uint8Array; status: Uint8Array};
 export function tryPlusDays(date: Dated, days: Integer): Attempt<PlainDate>;
+
+/** The date `days` days before a date, or after it if `days` is negative. That of 2000-03-01 and 1 is 2000-02-29. `NO_DATE` if there is
+ *  no such date. `NOT_FITTING` if the year of the result does not fit. */
+export function minusDays(date: Dated, days: Integer): PlainDate;
+export function minusDays(date: Dated | PlainDateColumns, days: Integer | BigInt64Array): {year: BigInt64Array; month: Uint8Array; day: Uint8Array; status: Uint8Array};
+export function tryMinusDays(date: Dated, days: Integer): Attempt<PlainDate>;
 
 /** The number of days from one date to another, negative if the other is earlier. For 2000-03-01 and 2000-02-28 it is -2. `NO_DATE` if
  *  there is no such date. `NOT_FITTING` if the number does not fit. */

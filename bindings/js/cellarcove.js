@@ -98,6 +98,7 @@ export const fractionToDecimal = /*#__PURE__*/ call('fractionToDecimal', rows.fr
 export const dateFromDay = /*#__PURE__*/ call('dateFromDay', rows.dateFromDay), tryDateFromDay = /*#__PURE__*/ attempt('tryDateFromDay', rows.dateFromDay);
 export const dayFromDate = /*#__PURE__*/ call('dayFromDate', rows.dayFromDate), tryDayFromDate = /*#__PURE__*/ attempt('tryDayFromDate', rows.dayFromDate);
 export const plusDays = /*#__PURE__*/ call('plusDays', rows.plusDays), tryPlusDays = /*#__PURE__*/ attempt('tryPlusDays', rows.plusDays);
+export const minusDays = /*#__PURE__*/ call('minusDays', rows.minusDays), tryMinusDays = /*#__PURE__*/ attempt('tryMinusDays', rows.minusDays);
 export const daysBetween = /*#__PURE__*/ call('daysBetween', rows.daysBetween), tryDaysBetween = /*#__PURE__*/ attempt('tryDaysBetween', rows.daysBetween);
 export const plusMonths = /*#__PURE__*/ call('plusMonths', rows.plusMonths), tryPlusMonths = /*#__PURE__*/ attempt('tryPlusMonths', rows.plusMonths);
 export const monthsBetween = /*#__PURE__*/ call('monthsBetween', rows.monthsBetween), tryMonthsBetween = /*#__PURE__*/ attempt('tryMonthsBetween', rows.monthsBetween);

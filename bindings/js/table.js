@@ -85,7 +85,7 @@ export const falling = [['falling_i64', 'n:i64 k:i64', 'I64Answer'], ['falling_u
 export const rank = [['rank_u64', 'choice:&[u64] n:u64', 'U64Answer']];
 export const choiceOfRank = [['choice_of_rank_u64', 'rank:u64 n:u64 choice:&mut[u64]', 'u32']];
 export const shares = [['shares_i64', 'amount:i64 weights:&[u64] parts:&mut[i64]', 'u32'], ['shares_u64', 'amount:u64 weights:&[u64] parts:&mut[u64]', 'u32']];
-export const sharesByLargestRemainder = [['shares_by_largest_remainder_u64', 'amount:u64 weights:&[u64] parts:&mut[u64]', 'u32']];
+export const sharesByLargestRemainder = [['shares_by_largest_remainder_i64', 'amount:i64 weights:&[u64] parts:&mut[i64]', 'u32'], ['shares_by_largest_remainder_u64', 'amount:u64 weights:&[u64] parts:&mut[u64]', 'u32']];
 export const pages = [['pages_i64', 'items:i64 pageSize:i64', 'I64Answer'], ['pages_u64', 'items:u64 pageSize:u64', 'U64Answer']];
 export const placeOf = [['place_of_i64', 'item:i64 pageSize:i64', 'I64Place'], ['place_of_u64', 'item:u64 pageSize:u64', 'U64Place']];
 export const itemAt = [['item_at_i64', 'page:i64 place:i64 pageSize:i64', 'I64Answer'], ['item_at_u64', 'page:u64 place:u64 pageSize:u64', 'U64Answer']];
@@ -139,6 +139,7 @@ export const fractionToDecimal = [['fraction_to_decimal', 'a:Fraction places:u32
 export const dateFromDay = [['date_from_day', 'day:i64', 'Date']];
 export const dayFromDate = [['day_from_date', 'date:Date', 'I64Answer']];
 export const plusDays = [['plus_days', 'date:Date days:i64', 'DateAnswer']];
+export const minusDays = [['minus_days', 'date:Date days:i64', 'DateAnswer']];
 export const daysBetween = [['days_between', 'from:Date to:Date', 'I64Answer']];
 export const plusMonths = [['plus_months', 'date:Date months:i64', 'DateAnswer']];
 export const monthsBetween = [['months_between', 'from:Date to:Date', 'I64Answer']];
@@ -174,7 +175,7 @@ export const CALLS = {
   fractionAdd, fractionSub, fractionMul, fractionDiv, fractionRecip, fractionNeg, fractionAbs, fractionPow, fractionTimes, fractionCmp,
   fractionLimitDenominator, fractionFloor, fractionCeil, fractionTrunc, fractionFract, fractionRound, fractionFloorTimes, fractionCeilTimes,
   fractionRoundTimes, fractionFloorTo, fractionCeilTo, fractionRoundTo, fractionRoundEvenTimes, fractionRoundEvenTo, fractionToDecimal,
-  dateFromDay, dayFromDate, plusDays, daysBetween, plusMonths, monthsBetween, yearsBetween, dateFromYearDay, isoWeek, dateFromIsoWeek,
-  easter, weekday, weekdayOfDate, firstWeekdayOnOrAfter, lastWeekdayOnOrBefore, nthWeekdayOfMonth, lastWeekdayOfMonth, isLeapYear,
-  daysInYear, weeksInYear, daysInMonth, dayOfYear, fractionFromText, dateFromText, productDivRound, productDivRoundEven, sumOf,
+  dateFromDay, dayFromDate, plusDays, minusDays, daysBetween, plusMonths, monthsBetween, yearsBetween, dateFromYearDay, isoWeek,
+  dateFromIsoWeek, easter, weekday, weekdayOfDate, firstWeekdayOnOrAfter, lastWeekdayOnOrBefore, nthWeekdayOfMonth, lastWeekdayOfMonth,
+  isLeapYear, daysInYear, weeksInYear, daysInMonth, dayOfYear, fractionFromText, dateFromText, productDivRound, productDivRoundEven, sumOf,
 };

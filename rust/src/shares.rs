@@ -5,7 +5,7 @@ mod error;
 mod remainders;
 
 pub use error::SharesError;
-pub use remainders::shares_by_largest_remainder;
+pub use remainders::{shares_by_largest_remainder, signed_shares_by_largest_remainder};
 
 /// Fills `shares` with the shares of the amount that are in proportion to the weights. Together
 /// they are the amount, and each differs by less than 1 from its exact share.
@@ -123,7 +123,7 @@ fn next_share(amount: u64, weight: u64, total: u128, ahead: u128) -> (u64, u128)
 }
 
 /// Returns the magnitude with the sign of the amount.
-fn with_sign_of(amount: i64, magnitude: u64) -> i64 {
+pub(crate) fn with_sign_of(amount: i64, magnitude: u64) -> i64 {
     if amount < 0 {
         (-i128::from(magnitude)) as i64
     } else {

@@ -1,6 +1,8 @@
 //! Shares by weights against a computation in `i128`, at small numbers and at the ends of the types.
 
-use cellarcove::shares::{shares, shares_by_largest_remainder, signed_shares, SharesError};
+use cellarcove::shares::{
+    shares, shares_by_largest_remainder, signed_shares, signed_shares_by_largest_remainder, SharesError,
+};
 use std::cmp::Reverse;
 
 /// The shares of an amount: from the exact share of the first weights together to that of one weight more, each rounded up.
@@ -97,6 +99,10 @@ fn errors() {
         assert!(result.is_ok() || parts.iter().all(|part| *part == 7));
         let mut parts = vec![7; length];
         assert_eq!(signed_shares(-1, weights, &mut parts), result);
+        assert!(result.is_ok() || parts.iter().all(|part| *part == 7));
+        let mut parts = vec![7; length];
+        let found = signed_shares_by_largest_remainder(-1, weights, &mut parts);
+        assert_eq!(found, result, "{weights:?}");
         assert!(result.is_ok() || parts.iter().all(|part| *part == 7));
     }
     let texts = [SharesError::DifferentLengths, SharesError::ZeroWeights].map(|e| e.to_string());
@@ -241,4 +247,46 @@ fn signed_shares_at_the_ends() {
     let ends = found_signed(i64::MIN, &[1, u64::MAX]);
     assert_eq!(ends, Some(vec![-1, i64::MIN + 1]));
     assert_eq!(found_signed(i64::MIN, &[]), None);
+}
+
+/// The signed shares by largest remainders that the call writes, or `None` if the weights are all 0.
+fn found_signed_by_remainder(amount: i64, weights: &[u64]) -> Option<Vec<i64>> {
+    let call = |parts: &mut [i64]| signed_shares_by_largest_remainder(amount, weights, parts);
+    some(written(weights, call))
+}
+
+/// The shares of each small amount, sorted by their remainders.
+#[test]
+fn signed_remainders_of_small_amounts() {
+    for weights in (1..=4).flat_map(|length| lists(length, 4)) {
+        let total: u64 = weights.iter().sum();
+        for amount in -30i64..30 {
+            let exact = weights.iter().map(|weight| amount.unsigned_abs() * weight);
+            let mut places: Vec<usize> = (0..weights.len()).collect();
+            let expected = (total > 0).then(|| {
+                let exact: Vec<u64> = exact.collect();
+                let over = amount.unsigned_abs() - exact.iter().map(|part| part / total).sum::<u64>();
+                places.sort_by_key(|place| total - exact[*place] % total);
+                let more = &places[..usize::try_from(over).expect("it is below the length")];
+                let share = |place| exact[place] / total + u64::from(more.contains(&place));
+                let signed = |place| amount.signum() * i64::try_from(share(place)).expect("it fits");
+                (0..weights.len()).map(signed).collect::<Vec<i64>>()
+            });
+            let found = found_signed_by_remainder(amount, &weights);
+            assert_eq!(found, expected, "{amount} {weights:?}");
+        }
+    }
+}
+
+#[test]
+fn signed_remainders_at_the_ends() {
+    let half = 1i64 << 62;
+    assert_eq!(found_signed_by_remainder(-2, &[1, 1, 98]), Some(vec![0, 0, -2]));
+    assert_eq!(found_signed_by_remainder(i64::MIN, &[3]), Some(vec![i64::MIN]));
+    assert_eq!(found_signed_by_remainder(i64::MIN, &[1, 1]), Some(vec![-half, -half]));
+    assert_eq!(found_signed_by_remainder(i64::MAX, &[1, 1]), Some(vec![half, half - 1]));
+    // A third of 2^63 is 3074457345618258602 and two thirds, and the other share has one third.
+    let thirds = vec![-3_074_457_345_618_258_603, -6_148_914_691_236_517_205];
+    assert_eq!(found_signed_by_remainder(i64::MIN, &[1, 2]), Some(thirds));
+    assert_eq!(found_signed_by_remainder(i64::MIN, &[]), None);
 }

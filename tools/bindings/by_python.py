@@ -162,11 +162,12 @@ def shares(amount: int, weights: Sequence[int]) -> tuple[int, ...]:
 
 def shares_by_largest_remainder(amount: int, weights: Sequence[int]) -> tuple[int, ...]:
     let(any(weights))
-    exact = [Fraction(amount * weight, sum(weights)) for weight in weights]
+    exact = [Fraction(abs(amount) * weight, sum(weights)) for weight in weights]
     found = [math.floor(share) for share in exact]
-    for place in sorted(range(len(found)), key=lambda k: (found[k] - exact[k], k))[:amount - sum(found)]:
+    order = sorted(range(len(found)), key=lambda k: (found[k] - exact[k], k))
+    for place in order[:abs(amount) - sum(found)]:
         found[place] += 1
-    return tuple(found)
+    return tuple(-share if amount < 0 else share for share in found)
 
 
 def range_of_page(page: int, size: int, items: int) -> Pair:

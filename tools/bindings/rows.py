@@ -60,8 +60,6 @@ def literal() -> Iterator[list[Any]]:
         forms = EXPORTS().forms().get(names.get(name, ''))
         if not forms or len(arguments) != len(parameter_names(forms[0])) or not all(isinstance(x, int) for x in flat(arguments)):
             continue
-        if not status and min(flat(arguments), default=0) < 0 and {form.form for form in forms} == {'u64'}:
-            continue  # only Python has negative amounts there
         if status in {'', *STATUSES}:
             yield [names[name], '', arguments, STATUSES.get(status, 0), [] if status else list(result) if isinstance(result, tuple) else [result]]
 

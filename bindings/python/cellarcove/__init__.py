@@ -287,7 +287,7 @@ class Date:
         count = _count_of_days(other)
         if count is None:
             return NotImplemented
-        return _calls.plus_days(self, -count)
+        return _calls.minus_days(self, count)
 
     def __rsub__(self, other: SupportsDate) -> int:
         if not _is_date(other):

@@ -569,6 +569,12 @@ def plus_days(date: _Date, days: _Column, *, out: Any = ..., where: Any = ..., e
 @overload
 def plus_days(date: _Date, days: SupportsIndex) -> Date: ...
 @overload
+def minus_days(date: _Column | tuple[_Column, _Column | SupportsIndex, _Column | SupportsIndex] | tuple[SupportsIndex, _Column, _Column | SupportsIndex] | tuple[SupportsIndex, SupportsIndex, _Column], days: _Column | SupportsIndex, *, out: Any = ..., where: Any = ..., errors: _Errors = ...) -> Any: ...
+@overload
+def minus_days(date: _Date, days: _Column, *, out: Any = ..., where: Any = ..., errors: _Errors = ...) -> Any: ...
+@overload
+def minus_days(date: _Date, days: SupportsIndex) -> Date: ...
+@overload
 def days_between(start: _Column | tuple[_Column, _Column | SupportsIndex, _Column | SupportsIndex] | tuple[SupportsIndex, _Column, _Column | SupportsIndex] | tuple[SupportsIndex, SupportsIndex, _Column], end: _Column | _Date | tuple[_Column | SupportsIndex, _Column | SupportsIndex, _Column | SupportsIndex], *, out: Any = ..., where: Any = ..., errors: _Errors = ...) -> Any: ...
 @overload
 def days_between(start: _Date, end: _Column | tuple[_Column, _Column | SupportsIndex, _Column | SupportsIndex] | tuple[SupportsIndex, _Column, _Column | SupportsIndex] | tuple[SupportsIndex, SupportsIndex, _Column], *, out: Any = ..., where: Any = ..., errors: _Errors = ...) -> Any: ...
@@ -709,12 +715,12 @@ __all__ = [
     'fraction_round_times', 'fraction_round_to', 'fraction_sub', 'fraction_times', 'fraction_to_decimal',
     'fraction_trunc', 'gcd', 'gcd_lcm', 'gcd_of', 'ilog', 'inverse_modulo', 'is_coprime', 'is_leap_year',
     'is_multiple_of', 'is_perfect_power', 'is_power', 'is_square', 'iso_week', 'isqrt', 'item_at',
-    'last_weekday_of_month', 'last_weekday_on_or_before', 'lcm', 'lcm_of', 'limit_denominator', 'mod_floor',
-    'months_between', 'multinomial', 'negation_modulo', 'next_common_solution', 'next_common_solution_of',
-    'next_congruent', 'next_meeting', 'next_multiple_of', 'nth_root', 'nth_weekday_of_month', 'padding', 'pages',
-    'place_of', 'plus_days', 'plus_months', 'power_modulo', 'prev_multiple_of', 'previous_congruent',
-    'product_div_mod_floor', 'product_div_round', 'product_div_round_even', 'product_modulo', 'quotient_modulo',
-    'range_of_page', 'range_of_part', 'rank', 'reduced', 'residue', 'shares', 'shares_by_largest_remainder',
-    'solutions', 'sqrt', 'sqrt_rem', 'sum_modulo', 'sum_of', 'weekday', 'weekday_of_date', 'weeks_in_year',
-    'years_between',
+    'last_weekday_of_month', 'last_weekday_on_or_before', 'lcm', 'lcm_of', 'limit_denominator', 'minus_days',
+    'mod_floor', 'months_between', 'multinomial', 'negation_modulo', 'next_common_solution',
+    'next_common_solution_of', 'next_congruent', 'next_meeting', 'next_multiple_of', 'nth_root',
+    'nth_weekday_of_month', 'padding', 'pages', 'place_of', 'plus_days', 'plus_months', 'power_modulo',
+    'prev_multiple_of', 'previous_congruent', 'product_div_mod_floor', 'product_div_round',
+    'product_div_round_even', 'product_modulo', 'quotient_modulo', 'range_of_page', 'range_of_part', 'rank',
+    'reduced', 'residue', 'shares', 'shares_by_largest_remainder', 'solutions', 'sqrt', 'sqrt_rem', 'sum_modulo',
+    'sum_of', 'weekday', 'weekday_of_date', 'weeks_in_year', 'years_between',
 ]

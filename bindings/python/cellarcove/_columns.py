@@ -31,7 +31,6 @@ NAMED = ('out', 'where', 'errors')
 ERRORS = ('raise', 'mask', 'status')
 NO_DAY = -(2**63)  # the number of `NaT`
 NOT_FITTING = 2  # the status
-LARGEST_REMAINDER = 'shares_by_largest_remainder'
 
 refusal: Callable[..., Exception]  # these three are of the package
 out_of_range: Callable[..., Exception]
@@ -209,12 +208,10 @@ def call(name: str, given: Sequence[Any], named: dict[str, Any] | None) -> Any:
 
 def shares_of_list(name: str, amount: int, weights: list[int]) -> Any:
     """The shares of a number by a list of weights."""
-    by_sign = name == LARGEST_REMAINDER and amount < 0
     kind = 'q' if amount < 0 else 'Q'
     if not RANGES[kind][0] <= amount <= RANGES[kind][1]:
         raise out_of_range(amount, kind)
-    parts = getattr(_calls, name)(-amount if by_sign else amount, weights)
-    return tuple(map(operator.neg, parts)) if by_sign else parts
+    return getattr(_calls, name)(amount, weights)
 
 
 # ---- lists
@@ -635,19 +632,11 @@ def of_shares(numpy: Any, task: Task) -> Any:
     ]
     if not isinstance(parts_of, numpy.ndarray) or parts_of.ndim == 0:
         raise TypeError(f'{task.name}(): weights is no array')
-    by_sign = len(call.forms) == 1 and (
-        amounts < 0 if isinstance(amounts, int) else amounts.dtype.kind == 'i'
-    )
-    kind = 'q' if by_sign else call.forms[form_of(task.name, call, cells)][0][0]
+    kind = call.forms[form_of(task.name, call, cells)][0][0]
     first = as_kind(numpy, task.name, cells[0], None, kind)
-    signs = numpy.asarray(first)
-    if by_sign:
-        first = numpy.abs(signs.astype('i8')).view('u8')
     given = [first, as_kind(numpy, task.name, cells[1], None, 'Q')]
-    taken, returned = call.forms[0 if by_sign or kind == 'q' else -1]
+    taken, returned = call.forms[0 if kind == 'q' else -1]
     (parts,), status = ran(numpy, task.name, given, taken, returned, call, None, True)
-    if by_sign:
-        parts = numpy.where(signs[..., None] < 0, -parts.view('i8'), parts.view('i8'))
     return divided(numpy, task, frame, parts, status, given)
 
 

@@ -114,7 +114,7 @@ static const call call_shares_by_largest_remainder = {"shares_by_largest_remaind
 
 static PyObject *py_shares_by_largest_remainder(PyObject *module, PyObject *const *args, Py_ssize_t given, PyObject *names) {
     (void)module;
-    return divided(&call_shares_by_largest_remainder, args, given, names, NULL, cellarcove_shares_by_largest_remainder_u64);
+    return divided(&call_shares_by_largest_remainder, args, given, names, cellarcove_shares_by_largest_remainder_i64, cellarcove_shares_by_largest_remainder_u64);
 }
 
 static PyObject *py_next_common_solution_of(PyObject *module, PyObject *const *args, Py_ssize_t given) {
@@ -2350,6 +2350,25 @@ static PyObject *py_plus_days(PyObject *module, PyObject *const *args, Py_ssize_
     return run(&call_plus_days, args, count, names);
 }
 
+static PyObject *one_minus_days(const cell *a, uint32_t *status) {
+    cellarcove_date_answer r = cellarcove_minus_days((cellarcove_date){(int64_t)a[0].i, (uint8_t)a[1].u, (uint8_t)a[2].u}, (int64_t)a[3].i);
+    if (r.status != CELLARCOVE_ANSWER) {
+        *status = r.status;
+        return NULL;
+    }
+    return date_of(r.date);
+}
+
+static const form form_minus_days = {"qBBq", one_minus_days};
+
+static const call call_minus_days = {"minus_days", 2, {"date", "days"}, "dn",
+    (const bool[]){false, false, false, false}, (const bool[]){false, false, false, false}, &form_minus_days, NULL, NULL};
+
+static PyObject *py_minus_days(PyObject *module, PyObject *const *args, Py_ssize_t count, PyObject *names) {
+    (void)module;
+    return run(&call_minus_days, args, count, names);
+}
+
 static PyObject *one_days_between(const cell *a, uint32_t *status) {
     cellarcove_i64_answer r = cellarcove_days_between((cellarcove_date){(int64_t)a[0].i, (uint8_t)a[1].u, (uint8_t)a[2].u}, (cellarcove_date){(int64_t)a[3].i, (uint8_t)a[4].u, (uint8_t)a[5].u});
     if (r.status != CELLARCOVE_ANSWER) {
@@ -3276,19 +3295,21 @@ static PyMethodDef methods[] = {
     "\n"
     "The shares of the amount by largest remainders, as a tuple: each is the exact share\n"
     "rounded down, or 1 more for the weights with the largest remainders, and of equal ones\n"
-    "the first.\n"
+    "the first. The shares of a negative amount are those of its magnitude with its sign.\n"
     "\n"
     "Raises `Refused` with `OUTSIDE` if the weights are all 0.\n"
     "\n"
-    "The shares of a negative amount are those of its magnitude with its sign. Of a column of\n"
-    "amounts, or of weights, it is an array, whose last axis is that of the weights.\n"
+    "Of a column of amounts, or of weights, it is an array, whose last axis is that of the\n"
+    "weights.\n"
     "\n"
     ">>> shares_by_largest_remainder(2, [1, 1, 98])\n"
     "(0, 0, 2)\n"
     ">>> shares_by_largest_remainder(1, [1, 1])\n"
     "(1, 0)\n"
     ">>> shares_by_largest_remainder(1002, [1, 1, 1, 1])\n"
-    "(251, 251, 250, 250)\n"},
+    "(251, 251, 250, 250)\n"
+    ">>> shares_by_largest_remainder(-1002, [1, 1, 1, 1])\n"
+    "(-251, -251, -250, -250)\n"},
     {"pages", (PyCFunction)(void (*)(void))py_pages, METH_FASTCALL | METH_KEYWORDS,
     "pages($module, /, items, page_size, *, out=None, where=True, errors='raise')\n"
     "--\n"
@@ -4008,6 +4029,20 @@ static PyMethodDef methods[] = {
     "year, month and day.\n"
     "\n"
     ">>> plus_days(Date(2000, 3, 1), -1)\n"
+    "Date(year=2000, month=2, day=29)\n"},
+    {"minus_days", (PyCFunction)(void (*)(void))py_minus_days, METH_FASTCALL | METH_KEYWORDS,
+    "minus_days($module, /, date, days, *, out=None, where=True, errors='raise')\n"
+    "--\n"
+    "\n"
+    "The date `days` days before a date, or after it if `days` is negative.\n"
+    "\n"
+    "Raises `Refused` with `NO_DATE` if there is no such date. Raises `NotFitting` if the\n"
+    "year of the result does not fit.\n"
+    "\n"
+    "Of columns it is a column of `datetime64[D]` if a date is one, and else three columns:\n"
+    "year, month and day.\n"
+    "\n"
+    ">>> minus_days(Date(2000, 3, 1), 1)\n"
     "Date(year=2000, month=2, day=29)\n"},
     {"days_between", (PyCFunction)(void (*)(void))py_days_between, METH_FASTCALL | METH_KEYWORDS,
     "days_between($module, /, start, end, *, out=None, where=True, errors='raise')\n"

@@ -600,6 +600,19 @@ static void loop_shares_u64(char **args, npy_intp const *dimensions, npy_intp co
     free(weights);
 }
 
+static void loop_shares_by_largest_remainder_i64(char **args, npy_intp const *dimensions, npy_intp const *steps, void *data) {
+    (void)data;
+    size_t count = (size_t)dimensions[1];
+    uint64_t *weights = room_for(2 * count), *parts = weights + count;
+    for (npy_intp k = 0; weights != NULL && k < dimensions[0]; k++) {
+        gather(weights, args[1] + k * steps[1], steps[4], count);
+        uint32_t status = cellarcove_shares_by_largest_remainder_i64(AT(int64_t, 0), weights, count, (int64_t *)parts, count);
+        scatter(status == CELLARCOVE_ANSWER ? parts : NULL, args[2] + k * steps[2], steps[5], count);
+        AT(uint8_t, 3) = (uint8_t)status;
+    }
+    free(weights);
+}
+
 static void loop_shares_by_largest_remainder_u64(char **args, npy_intp const *dimensions, npy_intp const *steps, void *data) {
     (void)data;
     size_t count = (size_t)dimensions[1];
@@ -1319,6 +1332,17 @@ static void loop_plus_days(char **args, npy_intp const *dimensions, npy_intp con
     }
 }
 
+static void loop_minus_days(char **args, npy_intp const *dimensions, npy_intp const *steps, void *data) {
+    (void)data;
+    for (npy_intp k = 0; k < dimensions[0]; k++) {
+        cellarcove_date_answer r = cellarcove_minus_days((cellarcove_date){AT(const int64_t, 0), AT(const uint8_t, 1), AT(const uint8_t, 2)}, AT(const int64_t, 3));
+        AT(int64_t, 4) = r.date.year;
+        AT(uint8_t, 5) = r.date.month;
+        AT(uint8_t, 6) = r.date.day_of_month;
+        AT(uint8_t, 7) = (uint8_t)r.status;
+    }
+}
+
 static void loop_days_between(char **args, npy_intp const *dimensions, npy_intp const *steps, void *data) {
     (void)data;
     for (npy_intp k = 0; k < dimensions[0]; k++) {
@@ -1670,9 +1694,9 @@ static PyUFuncGenericFunction loops_shares[] = {loop_shares_i64, loop_shares_u64
 static void *data_shares[2];
 static const char types_shares[] = {NPY_INT64, NPY_UINT64, NPY_INT64, NPY_UINT8, NPY_UINT64, NPY_UINT64, NPY_UINT64, NPY_UINT8};
 
-static PyUFuncGenericFunction loops_shares_by_largest_remainder[] = {loop_shares_by_largest_remainder_u64};
-static void *data_shares_by_largest_remainder[1];
-static const char types_shares_by_largest_remainder[] = {NPY_UINT64, NPY_UINT64, NPY_UINT64, NPY_UINT8};
+static PyUFuncGenericFunction loops_shares_by_largest_remainder[] = {loop_shares_by_largest_remainder_i64, loop_shares_by_largest_remainder_u64};
+static void *data_shares_by_largest_remainder[2];
+static const char types_shares_by_largest_remainder[] = {NPY_INT64, NPY_UINT64, NPY_INT64, NPY_UINT8, NPY_UINT64, NPY_UINT64, NPY_UINT64, NPY_UINT8};
 
 static PyUFuncGenericFunction loops_pages[] = {loop_pages_i64, loop_pages_u64};
 static void *data_pages[2];
@@ -1882,6 +1906,10 @@ static PyUFuncGenericFunction loops_plus_days[] = {loop_plus_days};
 static void *data_plus_days[1];
 static const char types_plus_days[] = {NPY_INT64, NPY_UINT8, NPY_UINT8, NPY_INT64, NPY_INT64, NPY_UINT8, NPY_UINT8, NPY_UINT8};
 
+static PyUFuncGenericFunction loops_minus_days[] = {loop_minus_days};
+static void *data_minus_days[1];
+static const char types_minus_days[] = {NPY_INT64, NPY_UINT8, NPY_UINT8, NPY_INT64, NPY_INT64, NPY_UINT8, NPY_UINT8, NPY_UINT8};
+
 static PyUFuncGenericFunction loops_days_between[] = {loop_days_between};
 static void *data_days_between[1];
 static const char types_days_between[] = {NPY_INT64, NPY_UINT8, NPY_UINT8, NPY_INT64, NPY_UINT8, NPY_UINT8, NPY_INT64, NPY_UINT8};
@@ -2001,7 +2029,7 @@ static const ufunc ufuncs[] = {
     {"factorial", NULL, loops_factorial, data_factorial, types_factorial, 2, 1, 2},
     {"falling", NULL, loops_falling, data_falling, types_falling, 2, 2, 2},
     {"shares", "(),(n)->(n),()", loops_shares, data_shares, types_shares, 2, 2, 2},
-    {"shares_by_largest_remainder", "(),(n)->(n),()", loops_shares_by_largest_remainder, data_shares_by_largest_remainder, types_shares_by_largest_remainder, 1, 2, 2},
+    {"shares_by_largest_remainder", "(),(n)->(n),()", loops_shares_by_largest_remainder, data_shares_by_largest_remainder, types_shares_by_largest_remainder, 2, 2, 2},
     {"pages", NULL, loops_pages, data_pages, types_pages, 2, 2, 2},
     {"place_of", NULL, loops_place_of, data_place_of, types_place_of, 2, 2, 3},
     {"item_at", NULL, loops_item_at, data_item_at, types_item_at, 2, 3, 2},
@@ -2054,6 +2082,7 @@ static const ufunc ufuncs[] = {
     {"date_from_day", NULL, loops_date_from_day, data_date_from_day, types_date_from_day, 1, 1, 3},
     {"day_from_date", NULL, loops_day_from_date, data_day_from_date, types_day_from_date, 1, 3, 2},
     {"plus_days", NULL, loops_plus_days, data_plus_days, types_plus_days, 1, 4, 4},
+    {"minus_days", NULL, loops_minus_days, data_minus_days, types_minus_days, 1, 4, 4},
     {"days_between", NULL, loops_days_between, data_days_between, types_days_between, 1, 6, 2},
     {"plus_months", NULL, loops_plus_months, data_plus_months, types_plus_months, 1, 4, 4},
     {"months_between", NULL, loops_months_between, data_months_between, types_months_between, 1, 6, 2},

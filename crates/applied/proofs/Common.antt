@@ -9,7 +9,7 @@ pub use Rattle.applied.specs.Ranking.{IsBefore, IsChoice, IsChoiceOfRank, IsFirs
 pub use Rattle.applied.specs.ReducedPairs.{HasSignOf, IsReducedPair}
 pub use Rattle.applied.specs.Rounding.{IsDown, IsNearer, IsNearest, IsNearestEven, LiesWithin, AnswersQuotient}
 pub use Rattle.applied.specs.Schedules.{HaveBegun, IsCountOfTimes, IsLeastTime, IsMeeting, IsMeetingOfEach, IsTimeTo}
-pub use Rattle.applied.specs.Shares.{AreShares, AreSharesByRemainder, AreSignedShares, IsNearShare, RoundsShare, count_from, remainder_of, rounded_down, signed_sum}
+pub use Rattle.applied.specs.Shares.{AreShares, AreSharesByRemainder, AreSignedShares, AreSignedSharesByRemainder, IsNearShare, RoundsShare, count_from, remainder_of, rounded_down, signed_sum}
 pub use Rattle.applied.specs.Totals.{wrapped}
 pub use Rattle.modular.proofs.ForCallers.{congruent-difference, congruent-product, congruent-refl, congruent-sum, congruent-trans, congruent-equal}
 pub use Rattle.modular.proofs.Laws.{count_is_only}

@@ -1,5 +1,6 @@
 -- An amount divided in proportion to weights by largest remainders.
-use Rattle.applied.proofs.Common.{◌≡◌, ◌⊎◌, ◌+◌, ◌*◌, ◌-◌, ◌<◌, ◌≤◌, ◌∷◌, ℕ, List, [], EachIndex, length, slice_index, slice_set, sum, sum_by, take, suc, inl, inr, refl, ◌∙◌, ap, arith, mul-le-mul_left, le_of_mul-le-mul_right, cond, leb, count_by, cases_lt, le-leb, lt-leb, get_or-set_other, get_or-set_same, length-set, take_all, take_more_set, count_by_more_no, count_by_more_yes, sum_by-cons, sum_by_more, sum_by_push, AreSharesByRemainder, IsNearShare, RoundsShare, count_from, remainder_of, rounded_down, SharesByRemainderAreOnly}
+use Rattle.applied.proofs.WeightedShares.{HaveSignTo, one_more_of_sign, same_of_sign, whole_of_sign}
+use Rattle.applied.proofs.Common.{◌≡◌, ◌⊎◌, ◌+◌, ◌*◌, ◌-◌, ◌<◌, ◌≤◌, ◌≤ℤ◌, ◌∷◌, ℕ, ℤ, pos, List, [], EachIndex, length, slice_index, slice_set, sum, sum_by, take, suc, inl, inr, refl, ◌∙◌, ap, arith, mul-le-mul_left, le_of_mul-le-mul_right, cond, leb, count_by, cases_lt, le-leb, lt-leb, get_or-set_other, get_or-set_same, length-set, take_all, take_more_set, count_by_more_no, count_by_more_yes, sum_by-cons, sum_by_more, sum_by_push, AreSharesByRemainder, AreSignedSharesByRemainder, IsNearShare, IsOnly, RoundsShare, count_from, remainder_of, rounded_down, signed_sum, SharesByRemainderAreOnly, length-map, map, map-set, set, unsigned_abs}
 
 -- ---- exact shares
 
@@ -149,3 +150,46 @@ less_somewhere (x ∷ xs) (y ∷ ys) size within =
 
 pub shares_by_remainder_are_only : SharesByRemainderAreOnly
 shares_by_remainder_are_only = λ amount weights shares h. grind (arith, less_somewhere)
+
+-- ---- signed shares
+
+-- the first i shares have the sign of the amount, and their magnitudes are those of its magnitude
+pub record AreSignedRaisedTo (amount : ℤ) (magnitude total bar extra : ℕ) (weights : List ℕ) (i left : ℕ) (shares : List ℤ) : Type 0 where
+  pub is_magnitude : magnitude ≡ unsigned_abs amount
+  pub magnitudes : AreRaisedTo (rounded_down magnitude total) (remainder_of magnitude total) bar extra weights i left (map unsigned_abs shares)
+  pub signs : HaveSignTo amount i shares
+
+module _ {amount : ℤ} {magnitude total bar extra : ℕ} {weights : List ℕ} {shares : List ℤ} where
+  pub none_signed_raised : magnitude ≡ unsigned_abs amount → length shares ≡ length weights → AreSignedRaisedTo amount magnitude total bar extra weights 0 extra shares
+  none_signed_raised is size = grind (arith, length-map, unsigned_abs)
+
+  pub one_more_signed_raised : {i left : ℕ} (share : ℤ) (next : ℕ) → i < length weights → AreSignedRaisedTo amount magnitude total bar extra weights i left shares → 0 < bar → (0 < extra → 1 < bar)
+      → RoundsShare (rounded_down magnitude total (slice_index weights i)) (remainder_of magnitude total (slice_index weights i)) bar left (unsigned_abs share) next
+      → (pos 0 ≤ℤ amount → pos 0 ≤ℤ share) → (amount ≤ℤ pos 0 → share ≤ℤ pos 0)
+      → AreSignedRaisedTo amount magnitude total bar extra weights (i + 1) next (set shares i share)
+  one_more_signed_raised {i} share next within h up one rounds from_zero to_zero = record {
+    is_magnitude = h.is_magnitude;
+    magnitudes = rw (map-set unsigned_abs shares i share) (one_more_raised (unsigned_abs share) next within h.magnitudes up one rounds);
+    signs = one_more_of_sign _ _ shares share (omega (arith, h.magnitudes.one_each, length-map shares unsigned_abs)) from_zero to_zero h.signs;
+  }
+
+pub all_signed_raised : {amount : ℤ} {magnitude total bar extra i left : ℕ} {weights : List ℕ} {shares : List ℤ} → total ≡ sum weights → length weights ≤ i
+    → count_from magnitude total bar weights + extra + sum_by (rounded_down magnitude total) weights ≡ magnitude
+    → (0 < extra → count_from magnitude total bar weights + extra < count_from magnitude total (bar - 1) weights)
+    → AreSignedRaisedTo amount magnitude total bar extra weights i left shares → AreSignedSharesByRemainder amount weights shares
+all_signed_raised {amount} {weights = weights} {shares = shares} sum_is end units enough h =
+    let size : length shares ≡ length weights = omega (arith, h.magnitudes.one_each, length-map shares unsigned_abs) in
+    record {
+      magnitudes = rw (← h.is_magnitude) (all_raised sum_is end units enough h.magnitudes);
+      from_zero = λ sign k d within. (h.signs k d (omega arith)).0 sign;
+      to_zero = λ sign k d within. (h.signs k d (omega arith)).1 sign;
+    }
+
+-- Together they are the amount.
+pub signed_by_remainder_are_whole : {amount : ℤ} {weights : List ℕ} {shares : List ℤ} → AreSignedSharesByRemainder amount weights shares → signed_sum shares ≡ amount
+signed_by_remainder_are_whole h = whole_of_sign (record { from_zero = h.from_zero; to_zero = h.to_zero }) h.magnitudes.whole
+
+-- An amount has one list of signed shares by largest remainders.
+pub signed_by_remainder_are_only : {amount : ℤ} {weights : List ℕ} {shares : List ℤ} → AreSignedSharesByRemainder amount weights shares → IsOnly (AreSignedSharesByRemainder amount weights) shares
+signed_by_remainder_are_only h = λ other k.
+    same_of_sign (record { from_zero = h.from_zero; to_zero = h.to_zero }) (record { from_zero = k.from_zero; to_zero = k.to_zero }) (shares_by_remainder_are_only _ _ _ h.magnitudes _ k.magnitudes)

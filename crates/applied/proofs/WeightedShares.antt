@@ -59,10 +59,19 @@ shares_are_only {amount} {weights} {shares} h = λ other k.
 
 -- ---- signed shares
 
+-- the first i shares have the sign of the amount
+abbrev pub HaveSignTo : ℤ → ℕ → List ℤ → Type 0
+HaveSignTo amount i shares = (k : ℕ) (d : ℤ) → k < i → (pos 0 ≤ℤ amount → pos 0 ≤ℤ get_or shares k d) × (amount ≤ℤ pos 0 → get_or shares k d ≤ℤ pos 0)
+
+pub one_more_of_sign : (amount : ℤ) (i : ℕ) (shares : List ℤ) (share : ℤ) → i < length shares → (pos 0 ≤ℤ amount → pos 0 ≤ℤ share) → (amount ≤ℤ pos 0 → share ≤ℤ pos 0)
+    → HaveSignTo amount i shares → HaveSignTo amount (i + 1) (set shares i share)
+one_more_of_sign amount i shares share room up down h = λ k d upto.
+    grind (arith, get_or-set_other shares i k share d, get_or-set_same shares i share d room, h k d, up, down)
+
 -- the first i shares have the sign of the amount, and their magnitudes are those of its magnitude
 pub record AreSignedTo (amount : ℤ) (weights : List ℕ) (total i ahead : ℕ) (shares : List ℤ) : Type 0 where
   pub magnitudes : AreSharedTo (unsigned_abs amount) weights total i ahead (map unsigned_abs shares)
-  pub signs : (k : ℕ) (d : ℤ) → k < i → (pos 0 ≤ℤ amount → pos 0 ≤ℤ get_or shares k d) × (amount ≤ℤ pos 0 → get_or shares k d ≤ℤ pos 0)
+  pub signs : HaveSignTo amount i shares
 
 pub none_signed : {amount : ℤ} {total : ℕ} {weights : List ℕ} {shares : List ℤ} → length shares ≡ length weights → 0 < total → AreSignedTo amount weights total 0 0 shares
 none_signed {shares = shares} size up = grind (arith, none_shared, length-map, unsigned_abs)
@@ -71,12 +80,10 @@ pub one_more_signed : {amount : ℤ} {total i ahead next : ℕ} {weights : List 
     → unsigned_abs share * total + ahead ≡ unsigned_abs amount * slice_index weights i + next → next < total
     → (pos 0 ≤ℤ amount → pos 0 ≤ℤ share) → (amount ≤ℤ pos 0 → share ≤ℤ pos 0)
     → AreSignedTo amount weights total i ahead shares → AreSignedTo amount weights total (i + 1) next (set shares i share)
-one_more_signed {amount} {total} {i} {ahead} {next} {weights} {shares} share within is below up down h =
-    let room : i < length shares = omega (arith, h.magnitudes.one_each, length-map shares unsigned_abs) in
-    record {
-      magnitudes = rw (map-set unsigned_abs shares i share) (one_more_shared (unsigned_abs share) within is below h.magnitudes);
-      signs = λ k d upto. grind (arith, get_or-set_other shares i k share d, get_or-set_same shares i share d room, h.signs k d, up, down);
-    }
+one_more_signed {amount} {total} {i} {ahead} {next} {weights} {shares} share within is below up down h = record {
+  magnitudes = rw (map-set unsigned_abs shares i share) (one_more_shared (unsigned_abs share) within is below h.magnitudes);
+  signs = one_more_of_sign _ _ shares share (omega (arith, h.magnitudes.one_each, length-map shares unsigned_abs)) up down h.signs;
+}
 
 -- the sum of numbers of one sign, by their magnitudes
 sum_of_sign : (numbers : List ℤ) → (All (λ x. pos 0 ≤ℤ x) numbers → signed_sum numbers ≡ pos (sum (map unsigned_abs numbers)))
@@ -90,17 +97,20 @@ sum_of_sign (x ∷ xs) =
       λ h. let first : x ≤ℤ pos 0 = h 0 (pos 0) (omega arith) in omega (arith, ints, rest.1 (λ k d within. h (suc k) d (omega arith))),
     )
 
--- Together they are the amount.
-pub signed_shares_are_whole : {amount : ℤ} {weights : List ℕ} {shares : List ℤ} → 0 < sum weights → AreSignedShares amount weights shares → signed_sum shares ≡ amount
-signed_shares_are_whole {amount} {weights} {shares} some h =
-    let whole = shares_are_whole some h.magnitudes in
+-- the numbers have the sign of the amount
+pub record HaveSignOf (amount : ℤ) (numbers : List ℤ) : Type 0 where
+  pub from_zero : pos 0 ≤ℤ amount → All (λ x. pos 0 ≤ℤ x) numbers
+  pub to_zero : amount ≤ℤ pos 0 → All (λ x. x ≤ℤ pos 0) numbers
+
+-- Numbers of the sign of the amount are together the amount, if their magnitudes are its magnitude.
+pub whole_of_sign : {amount : ℤ} {shares : List ℤ} → HaveSignOf amount shares → sum (map unsigned_abs shares) ≡ unsigned_abs amount → signed_sum shares ≡ amount
+whole_of_sign {amount} {shares} h whole =
     by_lt_z amount (pos 0) (λ less. omega (arith, ints, (sum_of_sign shares).1 (h.to_zero (omega (arith, ints)))))
     (λ rest. omega (arith, ints, (sum_of_sign shares).0 (h.from_zero rest)))
 
--- An amount has one list of signed shares.
-pub signed_shares_are_only : {amount : ℤ} {weights : List ℕ} {shares : List ℤ} → AreSignedShares amount weights shares → IsOnly (AreSignedShares amount weights) shares
-signed_shares_are_only {amount} {weights} {shares} h = λ other k.
-    let same : map unsigned_abs other ≡ map unsigned_abs shares = shares_are_only h.magnitudes (map unsigned_abs other) k.magnitudes in
+-- Numbers of the sign of the amount are the same, if their magnitudes are.
+pub same_of_sign : {amount : ℤ} {shares other : List ℤ} → HaveSignOf amount shares → HaveSignOf amount other → map unsigned_abs other ≡ map unsigned_abs shares → other ≡ shares
+same_of_sign {amount} {shares} {other} h k same =
     let size : length other ≡ length shares = sym (length-map other unsigned_abs) ∙ ap length same ∙ length-map shares unsigned_abs in
     ext_get_or (pos 0) other shares size (λ i within.
     let magnitude : unsigned_abs (get_or other i (pos 0)) ≡ unsigned_abs (get_or shares i (pos 0)) =
@@ -108,3 +118,12 @@ signed_shares_are_only {amount} {weights} {shares} h = λ other k.
     by_lt_z amount (pos 0)
     (λ less. omega (arith, ints, magnitude, k.to_zero (omega (arith, ints)) i (pos 0) within, h.to_zero (omega (arith, ints)) i (pos 0) (omega arith)))
     (λ rest. omega (arith, ints, magnitude, k.from_zero rest i (pos 0) within, h.from_zero rest i (pos 0) (omega arith))))
+
+-- Together they are the amount.
+pub signed_shares_are_whole : {amount : ℤ} {weights : List ℕ} {shares : List ℤ} → 0 < sum weights → AreSignedShares amount weights shares → signed_sum shares ≡ amount
+signed_shares_are_whole some h = whole_of_sign (record { from_zero = h.from_zero; to_zero = h.to_zero }) (shares_are_whole some h.magnitudes)
+
+-- An amount has one list of signed shares.
+pub signed_shares_are_only : {amount : ℤ} {weights : List ℕ} {shares : List ℤ} → AreSignedShares amount weights shares → IsOnly (AreSignedShares amount weights) shares
+signed_shares_are_only h = λ other k.
+    same_of_sign (record { from_zero = h.from_zero; to_zero = h.to_zero }) (record { from_zero = k.from_zero; to_zero = k.to_zero }) (shares_are_only h.magnitudes _ k.magnitudes)

@@ -71,3 +71,10 @@ pub record AreSignedShares (amount : ℤ) (weights : List ℕ) (shares : List �
   pub magnitudes : AreShares (unsigned_abs amount) weights (map unsigned_abs shares)
   pub from_zero : pos 0 ≤ℤ amount → All (λ share. pos 0 ≤ℤ share) shares
   pub to_zero : amount ≤ℤ pos 0 → All (λ share. share ≤ℤ pos 0) shares
+
+-- The magnitudes of the shares are those of the magnitude of the amount by largest remainders. No share has the opposite sign.
+-- Examples: weights 1, 1, 98: amount -2: 0, 0, -2; amount 2: 0, 0, 2; weights 1, 2: amount -100: -33, -67.
+pub record AreSignedSharesByRemainder (amount : ℤ) (weights : List ℕ) (shares : List ℤ) : Type 0 where
+  pub magnitudes : AreSharesByRemainder (unsigned_abs amount) weights (map unsigned_abs shares)
+  pub from_zero : pos 0 ≤ℤ amount → All (λ share. pos 0 ≤ℤ share) shares
+  pub to_zero : amount ≤ℤ pos 0 → All (λ share. share ≤ℤ pos 0) shares

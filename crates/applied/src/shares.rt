@@ -10,7 +10,7 @@ mod error;
 mod remainders;
 
 pub use error::SharesError;
-pub use remainders::shares_by_largest_remainder;
+pub use remainders::{shares_by_largest_remainder, signed_shares_by_largest_remainder};
 
 /// Fills `shares` with the shares of the amount that are in proportion to the weights. Together they are the
 /// amount, and each differs by less than 1 from its exact share.
@@ -135,7 +135,7 @@ fn next_share(amount: u64, weight: u64, total: u128, ahead: u128) -> (u64, u128)
 }
 
 /// Returns the magnitude with the sign of the amount.
-fn with_sign_of(amount: i64, magnitude: u64) -> i64
+pub(crate) fn with_sign_of(amount: i64, magnitude: u64) -> i64
     requires { magnitude ≤ unsigned_abs amount }
     ensures magnitude { unsigned_abs result ≡ magnitude }
     ensures from_zero { pos 0 ≤ℤ amount → pos 0 ≤ℤ result }

@@ -8,12 +8,14 @@ ghost use Rattle.num_integer.specs.Range.{EachFits};
 ghost use Rattle.applied.specs.Layout.{IsAlignedUp};
 ghost use Rattle.applied.specs.Paging.{IsPlace, IsRangeOfPart};
 ghost use Rattle.applied.specs.Schedules.{IsCountOfTimes, IsMeeting};
-ghost use Rattle.applied.specs.Shares.{AreShares, AreSharesByRemainder, AreSignedShares, IsNearShare, signed_sum};
+ghost use Rattle.applied.specs.Shares.{AreShares, AreSharesByRemainder, AreSignedShares, AreSignedSharesByRemainder, IsNearShare, signed_sum};
 
 use applied::layout::{align_up, padding};
 use applied::paging::{item_at, place_of, range_of_part};
 use applied::schedules::{Schedule, count, next_meeting};
-use applied::shares::{SharesError, shares, shares_by_largest_remainder, signed_shares};
+use applied::shares::{
+    SharesError, shares, shares_by_largest_remainder, signed_shares, signed_shares_by_largest_remainder,
+};
 use modular::CommonSolution;
 
 // ---- pages and parts
@@ -137,6 +139,16 @@ pub fn seats_by_votes(seats: u64, votes: &[u64], parts: &mut [u64]) -> Result<()
 {
     shares_by_largest_remainder(seats, votes, parts)?;
     Ok(())
+}
+
+/// Divides a credit note by weights that are not all 0.
+pub fn credit_by_weights(cents: i64, weights: &[u64], parts: &mut [i64])
+    requires lengths { length parts.old ≡ length weights.now }
+    requires some { 0 < sum weights.now }
+    ensures shares { AreSignedSharesByRemainder cents weights.now parts.new }
+    ensures whole { signed_sum parts.new ≡ cents }
+{
+    signed_shares_by_largest_remainder(cents, weights, parts).expect("the weights are not all 0");
 }
 
 // ---- offsets and schedules

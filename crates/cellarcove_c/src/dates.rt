@@ -92,6 +92,30 @@ pub extern "C" fn cellarcove_plus_days(date: Date, days: i64) -> DateAnswer
     }
 }
 
+/// Returns the date `days` days before a date, or after it if `days` is negative. That of 2000-03-01
+/// and 1 is 2000-02-29.
+///
+/// `NO_DATE` if there is no such date. `NOT_FITTING` if the year of the result does not fit.
+#[unsafe(no_mangle)]
+#[tactic(auto, using(crate::proofs::NumbersReadBack::read_back))]
+pub extern "C" fn cellarcove_minus_days(date: Date, days: i64) -> DateAnswer
+    ensures answer { result.status ≡ 0
+        → Exists result.date × (day_of result.date ≡ day_of date -ℤ days) }
+    ensures no_date { (result.status ≡ no_date) ↔ (¬ (Exists date)) }
+    ensures not_fitting { result.status ≡ not_fitting → (year : ℤ) (month day : ℕ)
+        → IsDate year month day → day_number year month day ≡ day_of date -ℤ days
+        → ¬ (FitsSigned w64 year) }
+    ensures refusal { Refuses (StatusIsOneOf no_date not_fitting) zero_date result.status result.date }
+{
+    match date.found() {
+        Some(found) => match found.minus_days(days) {
+            Some(earlier) => DateAnswer::some(&earlier),
+            None => DateAnswer::none(NOT_FITTING),
+        },
+        None => DateAnswer::none(NO_DATE),
+    }
+}
+
 /// Returns the number of days from one date to another, negative if the other is earlier. For 2000-03-01 and
 /// 2000-02-28 it is -2.
 ///

@@ -64,6 +64,21 @@ pub extern "C" fn cellarcove_plus_days(date: Date, days: i64) -> DateAnswer {
     }
 }
 
+/// Returns the date `days` days before a date, or after it if `days` is negative. That of
+/// 2000-03-01 and 1 is 2000-02-29.
+///
+/// `NO_DATE` if there is no such date. `NOT_FITTING` if the year of the result does not fit.
+#[unsafe(no_mangle)]
+pub extern "C" fn cellarcove_minus_days(date: Date, days: i64) -> DateAnswer {
+    match date.found() {
+        Some(found) => match found.minus_days(days) {
+            Some(earlier) => DateAnswer::some(&earlier),
+            None => DateAnswer::none(NOT_FITTING),
+        },
+        None => DateAnswer::none(NO_DATE),
+    }
+}
+
 /// Returns the number of days from one date to another, negative if the other is earlier. For
 /// 2000-03-01 and 2000-02-28 it is -2.
 ///

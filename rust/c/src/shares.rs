@@ -2,7 +2,9 @@
 //! An amount divided in proportion to weights.
 
 use crate::answers::{ANSWER, OUTSIDE};
-use cellarcove::shares::{shares, shares_by_largest_remainder, signed_shares};
+use cellarcove::shares::{
+    shares, shares_by_largest_remainder, signed_shares, signed_shares_by_largest_remainder,
+};
 
 /// Writes the shares of the amount in proportion to the weights, and returns the status. Together
 /// the shares are the amount. Running totals are rounded up, and the shares of a negative amount
@@ -66,6 +68,38 @@ pub extern "C" fn cellarcove_shares_u64(
         unsafe { core::slice::from_raw_parts_mut(parts, parts_len) }
     };
     match shares(amount, weights, parts) {
+        Ok(()) => ANSWER,
+        Err(_) => OUTSIDE,
+    }
+}
+
+/// Writes the shares of the amount by largest remainders, and returns the status. The shares of a
+/// negative amount are those of its magnitude with its sign. For -1002 and the weights 1, 1, 1 and
+/// 1 they are -251, -251, -250 and -250. If the status is not 0, `parts` stays as it is.
+///
+/// `OUTSIDE` if there is not one part for each weight, or if the weights are all 0.
+#[unsafe(no_mangle)]
+pub extern "C" fn cellarcove_shares_by_largest_remainder_i64(
+    amount: i64,
+    weights: *const u64,
+    weights_len: usize,
+    parts: *mut i64,
+    parts_len: usize,
+) -> u32 {
+    let weights = if weights_len == 0 {
+        &[]
+    } else {
+        // SAFETY: the caller promises that the pointer leads to so many items, which do not change.
+        unsafe { core::slice::from_raw_parts(weights, weights_len) }
+    };
+    let parts = if parts_len == 0 {
+        &mut []
+    } else {
+        // SAFETY: the caller promises that the pointer leads to so many items, which nothing else
+        // reads or writes.
+        unsafe { core::slice::from_raw_parts_mut(parts, parts_len) }
+    };
+    match signed_shares_by_largest_remainder(amount, weights, parts) {
         Ok(()) => ANSWER,
         Err(_) => OUTSIDE,
     }

@@ -499,13 +499,7 @@ using u64_congruence = cellarcove_u64_congruence;
 /// The date some days later.
 [[nodiscard]] inline result<date> operator+(const date &a, detail::checked<std::int64_t> days) { return plus_days(a, days); }
 /// The date some days earlier.
-[[nodiscard]] inline result<date> operator-(const date &a, detail::checked<std::int64_t> days) {
-    if (days.value == std::numeric_limits<std::int64_t>::min()) { // its negated number does not fit
-        return (a + std::numeric_limits<std::int64_t>::max()).and_then([](const date &b) { return b + 1; });
-    }
-    days.value = -days.value;
-    return a + days;
-}
+[[nodiscard]] inline result<date> operator-(const date &a, detail::checked<std::int64_t> days) { return minus_days(a, days); }
 /// The days from `b` to `a`.
 [[nodiscard]] inline result<std::int64_t> operator-(const date &a, const date &b) { return days_between(b, a); }
 [[nodiscard]] constexpr bool operator==(const date &a, const date &b) {

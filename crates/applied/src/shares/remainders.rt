@@ -2,9 +2,9 @@
 
 ghost use Rattle.std.specs.Prelude.{◌≡◌, ◌≢◌, ◌↔◌, ◌<◌, ◌≤◌, ◌+◌, ◌-◌, EachIndex, Err, IsOk, OnErr, OnOk, length, slice_index, sum, sum_by};
 ghost use Rattle.num_integer.specs.Only.{IsOnly};
-ghost use Rattle.applied.specs.Shares.{AreSharesByRemainder, CanBeShared, IsNearShare, RoundsShare, count_from, remainder_of, rounded_down};
+ghost use Rattle.applied.specs.Shares.{AreSharesByRemainder, AreSignedSharesByRemainder, CanBeShared, IsNearShare, RoundsShare, count_from, remainder_of, rounded_down, signed_sum};
 
-use crate::shares::{SharesError, total_to_share};
+use crate::shares::{SharesError, total_to_share, with_sign_of};
 
 /// Fills `shares` with the shares of the amount by largest remainders. Each share is its exact share rounded down, or
 /// 1 more. The weights with the largest remainders get 1 more, and of equal remainders the first, so that the shares
@@ -16,7 +16,7 @@ use crate::shares::{SharesError, total_to_share};
 /// `(Ok(()), [0, 1])`, and
 /// `{ let mut parts = [0; 2]; (shares(1, &[1, 99], &mut parts), parts) }` is `(Ok(()), [1, 0])`.
 ///
-/// To share a negative amount, negate the shares of its magnitude.
+/// [`signed_shares_by_largest_remainder`] shares a negative amount.
 ///
 /// The call takes no memory. It passes over the weights at most as often as their sum has binary digits, and three times
 /// more.
@@ -49,6 +49,47 @@ pub fn shares_by_largest_remainder(
     for (i, weight) in weights.iter().enumerate() {
         let (share, next) = rounded_share(amount, *weight, total, bar, left);
         shares[i] = share;
+        left = next;
+    }
+    Ok(())
+}
+
+/// Fills `shares` with the shares of a signed amount by largest remainders: those of its magnitude, as
+/// [`shares_by_largest_remainder`] writes them, each with the sign of the amount. So a negative amount takes back what
+/// the positive one gave.
+/// `{ let mut parts = [0; 4]; (signed_shares_by_largest_remainder(-1002, &[1; 4], &mut parts), parts) }` is
+/// `(Ok(()), [-251, -251, -250, -250])`, and
+/// `{ let mut parts = [0; 4]; (signed_shares_by_largest_remainder(1002, &[1; 4], &mut parts), parts) }` is
+/// `(Ok(()), [251, 251, 250, 250])`.
+///
+/// # Errors
+///
+/// - [`SharesError::DifferentLengths`] if there is not one share for each weight;
+/// - [`SharesError::ZeroWeights`] if there is, and the weights are all 0.
+///
+/// If it returns an error, it writes nothing.
+pub fn signed_shares_by_largest_remainder(
+    amount: i64,
+    weights: &[u64],
+    shares: &mut [i64],
+) -> Result<(), SharesError>
+    ensures possible { IsOk result ↔ CanBeShared weights.now shares.old }
+    ensures different_lengths { (result ≡ Err SharesError.DifferentLengths)
+        ↔ (length shares.old ≢ length weights.now) }
+    ensures zero_weights { (result ≡ Err SharesError.ZeroWeights)
+        ↔ ((length shares.old ≡ length weights.now) × (sum weights.now ≡ 0)) }
+    ensures shares { OnOk result (AreSignedSharesByRemainder amount weights.now shares.new) }
+    ensures only { OnOk result (IsOnly (AreSignedSharesByRemainder amount weights.now) shares.new) }
+    ensures whole { OnOk result (signed_sum shares.new ≡ amount) }
+    ensures unchanged { OnErr result (shares.new ≡ shares.old) }
+{
+    let total = total_to_share(weights, shares)?;
+    let magnitude = amount.unsigned_abs();
+    let (bar, extra) = bar_of(magnitude, weights, total);
+    let mut left = extra;
+    for (i, weight) in weights.iter().enumerate() {
+        let (share, next) = rounded_share(magnitude, *weight, total, bar, left);
+        shares[i] = with_sign_of(amount, share);
         left = next;
     }
     Ok(())

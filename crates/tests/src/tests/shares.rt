@@ -1,7 +1,9 @@
 //! Shares by largest remainders, against fractions of Python.
 
 use super::rows::holds_at;
-use applied::shares::{SharesError, shares_by_largest_remainder};
+use applied::shares::{
+    SharesError, shares_by_largest_remainder, signed_shares_by_largest_remainder,
+};
 
 const MAX: u64 = u64::MAX;
 
@@ -41,6 +43,33 @@ fn largest_remainders(rt: HostRuntime) {
         holds_at(&rt, weights.len() <= parts.len(), row);
         let length = weights.len();
         let shared = shares_by_largest_remainder(amount, weights, &mut parts[..length]);
+        holds_at(&rt, shared.is_ok() && &parts[..length] == expected, row);
+    }
+}
+
+/// A signed amount, weights, and their shares.
+static SIGNED_SHARES: [(i64, &[u64], &[i64]); 7] = [
+    (-1002, &[1, 1, 1, 1], &[-251, -251, -250, -250]),
+    (-2, &[1, 1, 98], &[0, 0, -2]),
+    (-100, &[1, 2], &[-33, -67]),
+    (100, &[1, 2], &[33, 67]),
+    (0, &[3, 5], &[0, 0]),
+    (i64::MIN, &[MAX], &[i64::MIN]),
+    (
+        i64::MIN,
+        &[1, 2],
+        &[-3_074_457_345_618_258_603, -6_148_914_691_236_517_205],
+    ),
+];
+
+#[test]
+fn signed_largest_remainders(rt: HostRuntime) {
+    for row in &SIGNED_SHARES {
+        let &(amount, weights, expected) = row;
+        let mut parts = [0; 4];
+        holds_at(&rt, weights.len() <= parts.len(), row);
+        let length = weights.len();
+        let shared = signed_shares_by_largest_remainder(amount, weights, &mut parts[..length]);
         holds_at(&rt, shared.is_ok() && &parts[..length] == expected, row);
     }
 }
