@@ -48,7 +48,7 @@ mkdir -p mine/src .cargo && printf 'fn main() { assert_eq!(cellarcove::div_floor
 printf '[package]\nname = "mine"\nedition = "2021"\n[dependencies]\ncellarcove = "0"\n' >mine/Cargo.toml
 printf '[source.crates-io]\nreplace-with = "debian"\n[source.debian]\ndirectory = "/usr/share/cargo/registry"\n' >.cargo/config.toml
 (cd mine && cargo run --quiet --offline)
-dpkg --purge librust-cellarcove-dev libcellarcove-c0.4 libcellarcove-dev python3-cellarcove intcalc >/dev/null
+dpkg --purge librust-cellarcove-dev $(dpkg-query -Wf '${Package}\n' 'libcellarcove-c[0-9]*') libcellarcove-dev python3-cellarcove intcalc >/dev/null
 test -z "$(find /usr -name '*cellarcove*' -o -name '*intcalc*')"
 PROGRAM
 }

@@ -18,9 +18,9 @@
 #include <stddef.h>
 #include <stdint.h>
 
-#define CELLARCOVE_VERSION "0.4.0"
+#define CELLARCOVE_VERSION "0.5.0"
 #define CELLARCOVE_VERSION_MAJOR 0
-#define CELLARCOVE_VERSION_MINOR 4
+#define CELLARCOVE_VERSION_MINOR 5
 #define CELLARCOVE_VERSION_PATCH 0
 /** A number that grows with the version: `#if CELLARCOVE_VERSION_NUMBER >= 500` holds from 0.5.0 on. */
 #define CELLARCOVE_VERSION_NUMBER \

@@ -15,7 +15,7 @@ PLACES = {
     'rust/README.md': rf'cellarcove-{NUMBER}', 'rust/num-integer/README.md': rf'cellarcove-{NUMBER}\.crate',
     'bindings/c/cellarcove.h': rf'^#define CELLARCOVE_VERSION "{NUMBER}"$',
     'bindings/js/package.json': rf'^  "version": "{NUMBER}",$', 'bindings/js/table.js': rf"VERSION = '{NUMBER}'",
-    'CHANGELOG.md': rf'^## {NUMBER} \((?!unreleased)',
+    'CITATION.cff': rf'^version: {NUMBER}$', 'CHANGELOG.md': rf'^## {NUMBER} \((?!unreleased)',
     'packaging/debian/control': r'libcellarcove-c(\d+\.\d+)\b', 'packaging/debian/libcellarcove-c{}.install': '',
 }
 
@@ -38,6 +38,13 @@ def tagged(version: str) -> tuple[str, bool]:
     return f'the tag v{version} has another rust/Cargo.toml', found != 1
 
 
+def dated(version: str) -> tuple[str, bool]:
+    """Whether CITATION.cff has the date that CHANGELOG.md gives the version."""
+    found = re.findall(rf'^## {re.escape(version)} \((.*)\)$', (ROOT / 'CHANGELOG.md').read_text(), re.M)
+    cited = re.findall(r'^date-released: (.*)$', (ROOT / 'CITATION.cff').read_text(), re.M)
+    return f'CITATION.cff has the date {cited}, and CHANGELOG.md {found}', found == cited and len(found) == 1
+
+
 def check(_: list[str]) -> bool:
     version = re.findall(CARGO, (ROOT / 'rust/Cargo.toml').read_text(), re.M)[0]
-    return counted([*named(version), tagged(version)])
+    return counted([*named(version), tagged(version), dated(version)])

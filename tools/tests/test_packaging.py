@@ -46,11 +46,17 @@ def test_another_version(tmp_path: Path, monkeypatch: pytest.MonkeyPatch) -> Non
     write(tmp_path, {name: (ROOT / name).read_text() for name in names})
     monkeypatch.setattr(versions, 'ROOT', tmp_path)
     assert all(passed for _, passed in versions.named(version))
-    for name in names[:-2]:
+    assert versions.dated(version)[1]
+    for name in names[:-1]:
         text = (tmp_path / name).read_text()
-        (tmp_path / name).write_text(text.replace(version, '9.9.9', 1))
+        (tmp_path / name).write_text(text.replace(version if version in text else minor, '9.9.9', 1))
         assert [line.split()[0] for line, passed in versions.named(version) if not passed] == [name]
         (tmp_path / name).write_text(text)
+    (tmp_path / names[-1]).unlink()
+    assert [line.split()[0] for line, passed in versions.named(version) if not passed] == names[-1:]
+    cited = (tmp_path / 'CITATION.cff').read_text()
+    (tmp_path / 'CITATION.cff').write_text(re.sub('(?m)^date-released: .*', 'date-released: 2001-01-01', cited))
+    assert not versions.dated(version)[1]
 
 
 def test_bill(tmp_path: Path) -> None:

@@ -38,7 +38,7 @@ fn panic(_: &core::panic::PanicInfo) -> ! {
     }
 }
 
-/// The version of the library, such as 0.4.0.
+/// The version of the library, that of its `Cargo.toml`.
 #[no_mangle]
 pub extern "C" fn cellarcove_version() -> *const c_char {
     concat!(env!("CARGO_PKG_VERSION"), "\0").as_ptr().cast()
