@@ -38,7 +38,7 @@ check 'the links of its pages' tools/cellarcove check packed "$CELLARCOVE"
 if [ -e "$CELLARCOVE/cellarcove.wasm" ]; then
     check "Node $(node --version)" node "${@:3}" --test $tests/test.js
     counted 'random calls' node "${@:3}" $tests/fuzz.js "${2:-0.1}"
-    check 'bundles of esbuild and rollup, if they are there' node --test $tests/bundles.js
+    check 'bundles of esbuild and rollup, if they are there' node "${@:3}" --test $tests/bundles.js
     ! has "${CHROMIUM:-chromium}" 'the page in Chromium' || check 'the page in Chromium' node --test $tests/page.js
 fi
 ! has tsc 'the types of JavaScript' || check 'the types of JavaScript' has_types

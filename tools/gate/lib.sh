@@ -64,6 +64,17 @@ builder() {
     return 1
 }
 
+# without_rt: from here on the path has no `rt`, and all else of its folder.
+without_rt() {
+    local folder program
+    folder=$(dirname "$(command -v rt)") && mkdir -p "$work/programs" || return
+    for program in "$folder"/*; do
+        [ "${program##*/}" = rt ] || ln -s "$program" "$work/programs"
+    done
+    PATH=$(sed "s|:$folder:|:$work/programs:|" <<<":$PATH:" | sed 's/^://; s/:$//')
+    hash -r
+}
+
 # crates_of NAME: the crate and those below it, one a line.
 crates_of() {
     local below

@@ -1,30 +1,32 @@
 #!/usr/bin/env bash
 # Makes the files of a release for cargo, pip, npm and C, and tries each in an empty folder.
 #
-# usage: tools/gate/release.sh [--quick | --slow] [FOLDER]
+# usage: tools/gate/release.sh [--quick | --plain | --slow] [FOLDER]
 #
 # FOLDER, `dist` if none is given, gets the packages for cargo, the wheel and the source distribution for pip, an archive for C
-# and C++, the proved program intcalc, the package for npm, the WebAssembly that Rattle makes, the page on which a call is tried, an
-# archive of the sources, the verdicts of the proofs, a bill of materials and SHA256SUMS, as soon as they are tried, and NOTES.md once all
-# else has passed. They are made of a clean clone of the commit that `.ci/run`
+# and C++, the proved program intcalc, the package for npm with the WebAssembly that Rattle makes too, the page on which a call is
+# tried, an archive of the sources, the verdicts of the proofs, a bill of materials and SHA256SUMS, as soon as they are tried, and
+# NOTES.md once all else has passed. They are made of a clean clone of the commit that `.ci/run`
 # has passed in this checkout, and once more in another folder: both have the same sums. Rattle has made the static library in the gate,
 # or cargo makes it if there is no `rt`. Each file is tried without a net and without `rt`.
 #
 # Then it runs the slow checks side by side: all targets, the second suite of mutants, the first lines of both suites, for plain Rust
 # each guard taken out and 20 small wrong bodies, both programs for 100,000 requests, and where mmdebstrap is there Debian's packages and
 # the oldest compiler. out/slow keeps what each printed, and one that has passed at this commit is not run again: --slow runs them before,
-# and makes no files. --quick leaves them out and calls less at random, and the notes say so.
+# and makes no files. --quick leaves them out and calls less at random, and the notes say so. So does --plain, which needs no `.ci/run`
+# and does not use `rt`: cargo makes all, the files that Rattle makes are left out, and the notes say that nothing was proved.
 set -uo pipefail
 cd "$(dirname "$0")/../.." || exit
 source tools/gate/lib.sh
 
 mode=whole
 case ${1:-} in
-    --quick | --slow) mode=${1#--} && shift ;;
+    --quick | --plain | --slow) mode=${1#--} && shift ;;
     -*) sed -n 's/^# usage: /usage: /p' "$0" >&2 && exit 2 ;;
 esac
 minutes=1
-[ "$mode" != quick ] || minutes=0.05
+case $mode in quick | plain) minutes=0.05 ;; esac
+[ "$mode" != plain ] || ! command -v rt >/dev/null || without_rt
 folder=${1:-dist}
 commit=$(git rev-parse HEAD)
 state="passed: commit $commit, kit $(rt version 2>/dev/null || echo none)"
@@ -41,6 +43,9 @@ stop() { echo "release.sh: $*" >&2 && exit 1; }
 
 # ---- the files
 
+# has_rt: the files that Rattle makes are made too.
+has_rt() { command -v rt >/dev/null; }
+
 # with_address CLONE: if rust/Cargo.toml has the address of the repository, the other packages get it too.
 with_address() {
     local address
@@ -54,7 +59,7 @@ with_address() {
 # clone FOLDER: a clean clone of the commit, with the static library that the gate has built.
 clone() {
     git clone -q . "$1" && git -C "$1" checkout -q "$commit" || return 1
-    if command -v rt >/dev/null; then
+    if has_rt; then
         is_current "$proved" cellarcove_c || { echo "$proved is older than its sources" && return 1; }
         mkdir -p "$1/crates/cellarcove_c/out" && cp "$proved" "$1/$proved"
     fi
@@ -84,21 +89,27 @@ for_c() {
 # without_other_pages PAGE: the page without its links to others of the folder and to those above, which the package lacks.
 without_other_pages() { sed -E 's/\[([^]]*)\]\((\.\.\/)?[A-Z]+\.md[^)]*\)/\1/g' "$1"; }
 
+# proved_wasm: the WebAssembly of the libraries that `rt ci` has proved in this checkout. It is made once, and its name is printed.
+proved_wasm() {
+    has_rt || return 0
+    [ -e "$work/proved/cellarcove.wasm" ] || bindings/js/build --rattle "$work/proved" >&2 || return
+    echo "$work/proved/cellarcove.wasm"
+}
+
 # for_npm CLONE FOLDER: the package for Node and browsers, and the page with the package and the reference beside it.
 for_npm() {
-    local top=cellarcove-try-$version
-    rm -rf "$work/packed" && mkdir -p "$work/packed/package" "$work/packed/$top/try" && "$1/bindings/js/build" "$work/packed/package" &&
+    local top=cellarcove-try-$version wasm
+    wasm=$(proved_wasm) || return
+    rm -rf "$work/packed" && mkdir -p "$work/packed/package" "$work/packed/$top/try" &&
+        "$1/bindings/js/build" "$work/packed/package" ${wasm:+"$wasm"} &&
         cp "$1/docs/try/index.html" "$work"/packed/package/* "$work/packed/$top/try" &&
         cp -r "$1/docs/reference" "$work/packed/$top" && without_other_pages "$1/docs/CONTRACTS.md" >"$work/packed/$top/CONTRACTS.md" && packed package "$2/cellarcove-$version.tgz" && packed "$top" "$2/$top.tar.gz"
 }
 
-# for_wasm FOLDER: the WebAssembly of the libraries that `rt ci` has proved in this checkout.
-for_wasm() { ! command -v rt >/dev/null || { bindings/js/build --rattle "$work/proved" && cp "$work/proved/cellarcove.wasm" "$1/cellarcove-$version-proved.wasm"; }; }
-
 # for_intcalc CLONE FOLDER: the program that the gate has proved and built in this checkout, its manual page, and what shells complete.
 for_intcalc() {
     local top=intcalc-$version-$machine program=crates/intcalc/out/intcalc
-    command -v rt >/dev/null || return 0
+    has_rt || return 0
     is_current "$program" intcalc || { echo "$program is older than its sources" && return 1; }
     rm -rf "$work/packed" && mkdir -p "$work/packed/$top/bin" && cp "$program" "$work/packed/$top/bin" &&
         "$1/tools/cellarcove" make manual "$work/packed/$top/share" && cp "$1"/LICENSE-* "$work/packed/$top" &&
@@ -113,7 +124,7 @@ sources() {
 make_files() {
     local here=$work/$1/clone there=$work/$1/files
     mkdir -p "$there" && clone "$here" && for_cargo "$here" "$there" && for_pip "$here" "$there" && for_c "$here" "$there" &&
-        for_intcalc "$here" "$there" && for_npm "$here" "$there" && for_wasm "$there" && sources "$here" "$there" && (cd "$there" && sha256sum -- *) >"$work/$1/SHA256SUMS"
+        for_intcalc "$here" "$there" && for_npm "$here" "$there" && sources "$here" "$there" && (cd "$there" && sha256sum -- *) >"$work/$1/SHA256SUMS"
 }
 
 # ---- each file, in an empty folder
@@ -143,7 +154,7 @@ verdicts() {
 
 # What is known of the files, whose sums it adds.
 records() {
-    { ! command -v rt >/dev/null || verdicts >"$files/cellarcove-$version-verdicts.txt"; } &&
+    { ! has_rt || verdicts >"$files/cellarcove-$version-verdicts.txt"; } &&
         tools/cellarcove make bill "$files" /usr/share/cargo/registry >"$work/bill" && mv "$work/bill" "$files/cellarcove-$version.spdx.json" &&
         (cd "$files" && sha256sum -- *) >"$work/one/SHA256SUMS"
 }
@@ -182,10 +193,19 @@ tries_intcalc() {
         [ ! -s error ] && grep -q NotFitting page
 }
 
-# tries_javascript [WASM WORD..]: the package passes its tests, with another WebAssembly and words for Node if they are given.
+# tries_javascript: the package passes its tests.
 tries_javascript() {
-    enters "javascript-$#" && bash -e <(lines JavaScript sh) && { [ $# -eq 0 ] || cp "$1" node_modules/cellarcove/cellarcove.wasm; } && lines JavaScript js >mine.mjs &&
-        node "${@:2}" mine.mjs && "$root/tools/gate/check_js.sh" "$PWD/node_modules/cellarcove" "$minutes" "${@:2}"
+    enters javascript && bash -e <(lines JavaScript sh) && lines JavaScript js >mine.mjs && node mine.mjs &&
+        "$root/tools/gate/check_js.sh" "$PWD/node_modules/cellarcove" "$minutes"
+}
+
+# tries_the_proved_wasm: the same line runs with `cellarcove/proved`, and the tests pass where that file is in the place of the other.
+tries_the_proved_wasm() {
+    local flag=--experimental-wasm-memory64
+    enters proved && bash -e <(lines JavaScript sh) && cd node_modules/cellarcove || return
+    lines JavaScript js | sed "s|'cellarcove'|'cellarcove/proved'|" >../../mine.mjs && node $flag ../../mine.mjs &&
+        node $flag --input-type=module -e "import {BUILT_BY} from 'cellarcove/proved'; if (BUILT_BY !== 'rattle') throw BUILT_BY" &&
+        cp cellarcove-proved.wasm cellarcove.wasm && "$root/tools/gate/check_js.sh" "$PWD" "$minutes" $flag
 }
 
 # The page, with the package that lies beside it.
@@ -228,14 +248,17 @@ notes() {
     row "cellarcove-$version.tar.gz" 'the source distribution for pip, which cargo builds'
     row "cellarcove-c-$version-$machine.tar.gz" 'headers and libraries for C and C++, for pkg-config and CMake'
     [ ! -e "$files/intcalc-$version-$machine.tar.gz" ] || row "intcalc-$version-$machine.tar.gz" 'the proved program for the command line, with a manual page'
-    row "cellarcove-$version.tgz" 'the package for npm, of WebAssembly that cargo made'
-    [ ! -e "$files/cellarcove-$version-proved.wasm" ] || row "cellarcove-$version-proved.wasm" 'the WebAssembly that Rattle made, for the same package'
+    row "cellarcove-$version.tgz" "the package for npm, of WebAssembly that cargo made$(! has_rt || echo ', and of that which Rattle made')"
     row "cellarcove-try-$version.tar.gz" 'a page on which a call is tried, for any web server'
     row "cellarcove-$version-source.tar.gz" 'all sources'
     [ ! -e "$files/cellarcove-$version-verdicts.txt" ] || row "cellarcove-$version-verdicts.txt" 'what `rt verdict` says of each crate'
     row "cellarcove-$version.spdx.json" 'a bill of materials'
-    printf '\n`.ci/run` has passed:\n\n'
-    grep -E '^(rt: ok|gate: |check_[a-z_]+\.sh: )' out/passed | sed 's/^/- /'
+    if [ "$mode" = plain ]; then
+        printf '\n`.ci/run` was not asked for: nothing of these files was proved here, and Rattle made none of them.\n'
+    else
+        printf '\n`.ci/run` has passed:\n\n'
+        grep -E '^(rt: ok|gate: |check_[a-z_]+\.sh: )' out/passed | sed 's/^/- /'
+    fi
     printf '\nWhat was tried of these files:\n\n'
     sed 's/^/- /' "$work/said"
     [ "$mode" = whole ] || printf -- '- %s: left out\n' \
@@ -299,7 +322,7 @@ if [ "$mode" = slow ]; then
     finish
     exit
 fi
-grep -q "^gate: commit $commit," out/passed 2>/dev/null || stop "\`.ci/run\` has not passed at $commit in this checkout"
+[ "$mode" = plain ] || grep -q "^gate: commit $commit," out/passed 2>/dev/null || stop "\`.ci/run\` has not passed at $commit in this checkout"
 [ -z "$(git tag --list "v$version")" ] || [ "$(git rev-parse "v$version^{commit}")" = "$commit" ] || stop "the tag v$version is that of another commit"
 [[ $(grep -m 1 "^## " CHANGELOG.md) = "## $version ("* ]] || stop "CHANGELOG.md does not begin with version $version, which rust/Cargo.toml has"
 is_free "$folder" || stop "$folder is not empty"
@@ -314,8 +337,7 @@ tried 'the source distribution is installed, and its tests pass' alone tries_the
 [ ! -e "$files/intcalc-$version-$machine.tar.gz" ] || tried 'the program prints what its page shows, and has a manual page' alone tries_intcalc
 tried 'programs in C and C++ are built by the lines of README.md and docs/C.md, and by pkg-config' alone tries_c
 tried 'the package for npm is installed by the line of README.md, tested, compared with C and called at random' alone tries_javascript
-[ ! -e "$files/cellarcove-$version-proved.wasm" ] || tried 'so is the package with the WebAssembly that Rattle made' alone \
-    tries_javascript "cellarcove-$version-proved.wasm" --experimental-wasm-memory64
+! has_rt || tried 'so is the WebAssembly that Rattle made, as cellarcove/proved' alone tries_the_proved_wasm
 tried 'the page is served, and calls are tried on it' alone tries_the_page
 tried 'the sources are those of the commit' alone tries_the_sources
 tried 'the links of the pages lead to files of the same package' links_of_pages
