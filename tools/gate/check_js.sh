@@ -1,5 +1,5 @@
 #!/usr/bin/env bash
-# Makes the package for JavaScript, and calls it from Node, from bundles and, on the page docs/try, from Chromium. Prints a line for each check and for
+# Makes the package for JavaScript, and calls it from Node, from bundles and, on the page docs/try, from Chromium and Firefox. Prints a line for each check and for
 # each program that the machine lacks, and a count at the end.
 #
 # usage: tools/gate/check_js.sh [FOLDER [MINUTES [WORD..]]]
@@ -38,8 +38,10 @@ check 'the links of its pages' tools/cellarcove check packed "$CELLARCOVE"
 if [ -e "$CELLARCOVE/cellarcove.wasm" ]; then
     check "Node $(node --version)" node "${@:3}" --test $tests/test.js
     counted 'random calls' node "${@:3}" $tests/fuzz.js "${2:-0.1}"
-    check 'bundles of esbuild and rollup, if they are there' node "${@:3}" --test $tests/bundles.js
+    for name in esbuild rollup webpack; do has $name "bundles of $name" || true; done
+    check 'bundles of those that are there' node "${@:3}" --test $tests/bundles.js
     ! has "${CHROMIUM:-chromium}" 'the page in Chromium' || check 'the page in Chromium' node --test $tests/page.js
+    ! has "${FIREFOX:-firefox-esr}" 'the page in Firefox' || BROWSER=firefox check 'the page in Firefox' node --test $tests/page.js
 fi
 ! has tsc 'the types of JavaScript' || check 'the types of JavaScript' has_types
 finish

@@ -2,7 +2,8 @@
 # Installs the packages of Debian that the gate needs and that this machine lacks: for plain Rust the sources of num-integer and
 # num-traits, of the packages that depend on them and whose tests are run, and of serde; for the tools pytest, mypy and shellcheck; for
 # wheels hatchling, with numpy, pandas and dask for its tests; for 32 bits and for WebAssembly compilers, one of them with the sources of its library; and if Node is there, for
-# JavaScript the compiler of TypeScript and Chromium. With --all it installs what the other targets of a release and the theorems in Coq need too.
+# JavaScript the compiler of TypeScript, Chromium, Firefox, and what bundles. With --all it installs what the other targets of a release and
+# the theorems in Coq need too, and what makes clean roots of Debian.
 # Nothing else installs anything. Without the rights of root it says what is missing.
 #
 # usage: tools/gate/install_packages.sh [--all]
@@ -30,9 +31,12 @@ command -v i686-linux-gnu-gcc >/dev/null || missing+=(gcc-i686-linux-gnu libc6-d
 if command -v node >/dev/null; then
     compgen -G "$HOME/.rustup/toolchains/*/lib/rustlib/*/bin/rust-lld" >/dev/null || compgen -G '/usr/lib/llvm-*/bin/wasm-ld' >/dev/null || missing+=(lld-19)
     command -v tsc >/dev/null || missing+=(node-typescript)
-    command -v chromium >/dev/null || missing+=(chromium)
+    for name in chromium firefox-esr esbuild rollup; do
+        command -v "$name" >/dev/null || missing+=("$name")
+    done
 fi
 if [ "${1:-}" = --all ]; then
+    command -v mmdebstrap >/dev/null || missing+=(mmdebstrap)
     command -v coqc >/dev/null || missing+=(coq libcoq-mathcomp-ssreflect libcoq-mathcomp-algebra)
     command -v qemu-arm-static >/dev/null || missing+=(qemu-user-static)
     command -v clang++-19 >/dev/null || missing+=(clang-19 libc++-19-dev libc++abi-19-dev)

@@ -1,7 +1,7 @@
-// Bundles a program with esbuild and with rollup, and runs it.   node --test bindings/js/tests/bundles.js
+// Bundles a program with esbuild, with rollup and with webpack, and runs it.   node --test bindings/js/tests/bundles.js
 import assert from 'node:assert/strict';
 import {execFileSync, spawnSync} from 'node:child_process';
-import {copyFileSync, mkdirSync, mkdtempSync, readFileSync, rmSync, symlinkSync, writeFileSync} from 'node:fs';
+import {copyFileSync, existsSync, mkdirSync, mkdtempSync, readFileSync, rmSync, symlinkSync, writeFileSync} from 'node:fs';
 import {tmpdir} from 'node:os';
 import {join} from 'node:path';
 import {after, test} from 'node:test';
@@ -48,6 +48,20 @@ test('rollup', {skip: !has('rollup')}, () => {
   for (const [line, name, format] of [[CALL(path('inline.js')), 'g.mjs', 'es'], [CALL(path('inline.js')), 'h.cjs', 'cjs'], [CALL(path('cellarcove.js')), 'i.mjs', 'es']]) {
     const file = bundled(line, name, rollup('-f', format)), text = readFileSync(file, 'utf8');
     assert.equal(printed(file).stdout, '6\n', name);
+    assert.ok(text.includes('gcd_i64') && !text.includes('chinese_remainder') && !text.includes('binomial'), name);
+  }
+});
+
+test('webpack', {skip: !has('webpack')}, () => {
+  for (const [from, target, format] of [['cellarcove', 'node', 'commonjs2'], ['cellarcove', 'node', 'module'], ['cellarcove/inline', 'web', 'var'], ['cellarcove/proved', 'node', 'module']]) {
+    const name = `${from.replace('/', '-')}-${format}`, isModule = format === 'module', file = join(work, name, isModule ? 'main.mjs' : 'main.cjs');
+    writeFileSync(join(work, 'main.js'), CALL(from));
+    writeFileSync(join(work, 'webpack.config.cjs'), `module.exports = ${JSON.stringify({mode: 'production', target, entry: './main.js', experiments: {outputModule: isModule},
+      output: {path: join(work, name), filename: isModule ? 'main.mjs' : 'main.cjs', library: {type: format, ...format === 'var' && {name: 'bundle'}}}})};`);
+    if (from === 'cellarcove/proved' && !existsSync(join(folder, 'cellarcove-proved.wasm'))) continue;
+    execFileSync('webpack', ['--config', 'webpack.config.cjs'], {cwd: work, stdio: 'ignore'});
+    assert.equal(printed(file).stdout, '6\n', name);
+    const text = readFileSync(file, 'utf8');
     assert.ok(text.includes('gcd_i64') && !text.includes('chinese_remainder') && !text.includes('binomial'), name);
   }
 });

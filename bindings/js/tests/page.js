@@ -1,13 +1,11 @@
-// Types into the page docs/try in a headless Chromium, and reads.   node --test bindings/js/tests/page.js
+// Types into the page docs/try in a headless browser, and reads.   [BROWSER=firefox] node --test bindings/js/tests/page.js
 import assert from 'node:assert/strict';
-import {spawn} from 'node:child_process';
-import {once} from 'node:events';
-import {existsSync, mkdtempSync, readFileSync, rmSync} from 'node:fs';
+import {existsSync, readFileSync} from 'node:fs';
 import {createServer} from 'node:http';
-import {tmpdir} from 'node:os';
 import {join, resolve} from 'node:path';
 import {after, before, test} from 'node:test';
 import {fileURLToPath} from 'node:url';
+import {opened} from './browser.js';
 
 const folder = resolve(process.env.CELLARCOVE ?? fileURLToPath(new URL('..', import.meta.url)));
 const docs = existsSync(join(folder, 'index.html')) ? join(folder, '..') : fileURLToPath(new URL('../../../docs', import.meta.url));
@@ -44,31 +42,8 @@ const server = createServer(({url}, response) => {
   }
 });
 
-// The protocol of the browser's own tools, over a pipe: each message ends with a zero.
-const profile = mkdtempSync(join(tmpdir(), 'page-'));
-const browser = spawn(process.env.CHROMIUM ?? 'chromium', ['--headless', '--no-sandbox', '--disable-gpu', '--remote-debugging-pipe', `--user-data-dir=${profile}`],
-  {stdio: ['ignore', 'ignore', 'ignore', 'pipe', 'pipe']});
-const waiting = new Map(), errors = [];
-let rest = '', session;
-browser.stdio[4].on('data', (data) => {
-  const messages = (rest + data).split('\0');
-  rest = messages.pop();
-  for (const {id, result, error, method, params} of messages.map((it) => JSON.parse(it))) {
-    if (method === 'Runtime.exceptionThrown') errors.push(params.exceptionDetails.exception?.description);
-    if (error) waiting.get(id)?.reject(new Error(error.message));
-    else waiting.get(id)?.resolve(result);
-  }
-});
-const send = (method, params = {}) => new Promise((done, failed) => {
-  const id = waiting.size + 1;
-  waiting.set(id, {resolve: done, reject: failed});
-  browser.stdio[3].write(`${JSON.stringify({id, method, params, sessionId: session})}\0`);
-});
-const evaluate = async (expression) => (await send('Runtime.evaluate', {expression, awaitPromise: true, returnByValue: true})).result.value;
-const key = async (name, code) => {
-  for (const type of ['rawKeyDown', 'keyUp']) await send('Input.dispatchKeyEvent', {type, key: name, code: name, windowsVirtualKeyCode: code});
-};
-const type = (text) => send('Input.insertText', {text});
+let browser;
+const evaluate = (expression) => browser.evaluate(expression);
 const textOf = (id) => evaluate(`document.getElementById('${id}').innerText`);
 
 /** Waits until an expression is true. */
@@ -82,39 +57,24 @@ async function until(expression) {
 
 before(async () => {
   await new Promise((done) => server.listen(0, '127.0.0.1', done));
-  const {targetId} = await send('Target.createTarget', {url: 'about:blank'});
-  ({sessionId: session} = await send('Target.attachToTarget', {targetId, flatten: true}));
-  await send('Runtime.enable');
-  await send('Page.enable');
-  await send('Page.navigate', {url: `http://127.0.0.1:${server.address().port}/try/`});
+  browser = await opened();
+  await browser.visit(`http://127.0.0.1:${server.address().port}/try/`);
   await until(`document.querySelector('#contract pre') !== null`);
 });
 
 after(async () => {
-  const ended = once(browser, 'exit');
-  browser.kill();
-  await ended;
+  await browser?.close();
   server.close();
-  // Other processes of the browser may write a file into the folder while it is removed, so that it isn't empty.
-  for (let tries = 1; tries <= 50; tries++) {
-    try {
-      rmSync(profile, {recursive: true, force: true});
-      return;
-    } catch (error) {
-      if (tries === 50) throw error;
-      await new Promise((done) => setTimeout(done, 100));
-    }
-  }
 });
 
 test('numbers are typed by keyboard alone', async () => {
   assert.equal(await evaluate('document.activeElement.id'), 'call');
-  await key('Tab', 9);
-  await type('12');
-  await key('Tab', 9);
-  await type('18');
+  await browser.tab();
+  await browser.type('12');
+  await browser.tab();
+  await browser.type('18');
   assert.equal(await textOf('result'), 'lcm(12, 18) = 36');
-  await type('x');
+  await browser.type('x');
   assert.equal(await textOf('result'), '“18x” is no integer');
 });
 
@@ -201,5 +161,5 @@ test('each export returns what it does on x86-64', {skip: !process.env.SUMS}, as
 });
 
 test('the page asks for no file that is missing, and has no error', () => {
-  assert.deepEqual([missing, errors], [[], []]);
+  assert.deepEqual([missing, browser.errors], [[], []]);
 });
