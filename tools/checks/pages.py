@@ -32,7 +32,7 @@ BLOCK = re.compile(r'^ *```(rust|antt|crates|console)\n(.*?)(?:^ *```$|\Z)', re.
 IMPORT = re.compile(r'(?:pub )?((?:ghost )?use .*);')
 CODE = re.compile(r'^ *```.*?^ *```$|`[^`\n]*`', re.M | re.S)
 LINK = re.compile(r'\]\(([^()\s]+)\)')
-COPIED = re.compile(r'^cp -r \S*crates/\{(.*)\} ', re.M)     # crates that a page says to copy
+COPIED = re.compile(r'^ *cp -r \S*crates/\{(.*)\} ', re.M)     # crates that a page says to copy
 HEADING = re.compile(r'^#{1,6} (.*)$', re.M)
 NAMED = re.compile(r'((?:`\w+`(?:,| and|, and)? )*(?:of )?)`(crates/[\w/]+\.(?:rt|antt))`')
 MESSAGE = re.compile(r'[a-z`].* .*')
@@ -263,7 +263,7 @@ def check(_: list[str]) -> bool:
     crates = {path.name for path in (ROOT / 'crates').iterdir()}
     return counted(itertools.chain(compare(), look(LINKED, 'leads nowhere', broken_links),
                                    look(ALONE, 'leads out of its package', links_to_others),
-                                   look(('README.md',), 'is not enough', lambda page: lacking_lines(page.read_text(), crates)),
+                                   look(('docs/RATTLE.md',), 'is not enough', lambda page: lacking_lines(page.read_text(), crates)),
                                    look(PAGES, 'is not there', lambda page: absent_names(page.read_text(), texts)), errors()))
 
 

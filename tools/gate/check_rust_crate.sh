@@ -9,7 +9,7 @@ set -uo pipefail
 cd "$(dirname "$0")/../.." || exit
 source tools/gate/lib.sh
 registry=/usr/share/cargo/registry
-originals=(num-integer num-traits serde serde_json)
+originals=(num-integer num-traits num-rational serde serde_json)
 dependents=(num-bigint num-rational bigdecimal num num-iter chrono)
 export CARGO_TARGET_DIR=${CARGO_TARGET_DIR:-$work/target}
 # Nothing is built twice or debugged, so cargo writes less.
@@ -165,7 +165,7 @@ if has_packages "${originals[@]}"; then
     check_tests 'those of its library' at upstream cargo test --lib
     check_tests 'those of averages' at upstream cargo test --test average
     check_tests 'those of roots' at upstream cargo test --test roots
-    check_tests 'what num-integer returns on the front page' at compare cargo test --test front_page
+    check_tests 'what num-integer and num-rational return on the front page' at compare cargo test --test front_page
     check_tests 'and without overflow checks' \
         at compare cargo test --test front_page --release --config profile.release.overflow-checks=false
     check "the checksums of compare, $(sums crates/replay/src/tests/list.rt | wc -l) lines" checksums
