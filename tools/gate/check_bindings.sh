@@ -45,6 +45,24 @@ has_no_state() {
     ! nm "$archive" | awk 'NF == 3 && $2 ~ /[BbDd]/' | grep .
 }
 
+# A program with one call has at most 2,000 bytes of text if the linker drops what is not called, and 80,000 if it does not.
+is_dropped() {
+    local text flag
+    printf '#include <cellarcove.h>\nint main(int count, char **words) { return words == 0 || cellarcove_gcd_u64((uint64_t)count, 12).status; }\n' >"$work/one.c"
+    for flag in --gc-sections,2000 --no-gc-sections,80000; do
+        cc -O2 -I bindings/c "$work/one.c" "$archive" "-Wl,${flag%,*}" -o "$work/one" && text=$(size "$work/one" | awk 'NR == 2 { print $1 }') &&
+            echo "$flag: $text" && [ "$text" -le "${flag#*,}" ] || return 1
+    done
+}
+
+# without_exceptions COMPILER: the header for C++ is compiled so, and a value that is not there aborts.
+without_exceptions() {
+    echo '#include "cellarcove.hpp"
+    int main(int count, char **) { return cellarcove::lcm(1ll << 62, count).value() != 1ll << 62; }' >"$work/plain.cpp" &&
+        "$1" -std=c++17 -fno-exceptions -fno-rtti -Wall -Wextra -Wpedantic -Werror -I bindings/c "$work/plain.cpp" "$archive" -o "$work/plain" &&
+        "$work/plain" x && ! "$work/plain" x x
+}
+
 # runs CALLER COMPILER FLAG..: the caller, built so, finds every result right.
 runs() {
     "${@:2}" -Wall -Wextra -Wpedantic -Werror -I bindings/c "bindings/c/$1" -x none "$archive" -o "$work/caller" && "$work/caller"
@@ -75,6 +93,7 @@ cpp_with() {
     check "C++20 with $1" runs test.cpp "$1" -std=c++20 -Wconversion -O1 -x c++
     check "what does not compile in C++ with $1" rejects_conversions "$1"
     check "an older C++ with $1" rejects_older_cpp "$1"
+    check "C++ without exceptions with $1" without_exceptions "$1"
     check "the example of the page in C++ with $1" page_holds docs/C.md cpp "$1" -std=c++17
     check "the header for C in C++ with $1" runs test.c "$1" -std=c++17 -O0 -x c++
 }
@@ -255,6 +274,7 @@ looks_at() {
     check 'no state' has_no_state
     if has cc C; then
         check 'the hidden symbols' hides_its_calls
+        check 'the size of a program with one call' is_dropped
         check "the statuses of $calls calls" returns_its_statuses
         counted 'the examples in the comments' returns_its_examples
     fi

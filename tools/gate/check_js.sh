@@ -19,6 +19,15 @@ has_types() {
         tsc --noEmit --strict --target es2022 --module es2022 --moduleResolution node "$work/types.ts"
 }
 
+# What a page loads of the package is less than 50 kB with gzip, as docs/JAVASCRIPT.md says.
+is_small() {
+    local name bytes=0
+    for name in cellarcove.js file.js load.js runtime.js table.js cellarcove.wasm; do
+        bytes=$((bytes + $(gzip -9 -c "$CELLARCOVE/$name" | wc -c))) || return 1
+    done
+    echo "$bytes bytes with gzip" && [ "$bytes" -gt 0 ] && [ "$bytes" -lt 50000 ]
+}
+
 # What this machine returns, for Node and for the page to compare.
 sums() {
     bindings/build && tools/cellarcove make checksums >"$work/checksums.c" &&
@@ -33,6 +42,7 @@ if [ $# -gt 0 ]; then
     check "what $(wc -l <"$SUMS") exports return in Node, 20,000 times each" same "${@:3}"
 else
     check 'the package for JavaScript' bindings/js/build "$CELLARCOVE"
+    counted 'what a page loads' is_small
 fi
 check 'the links of its pages' tools/cellarcove check packed "$CELLARCOVE"
 if [ -e "$CELLARCOVE/cellarcove.wasm" ]; then
