@@ -1,6 +1,8 @@
-"""Makes docs/LANGUAGES.md: each call of the libraries, and its name in each language, or why a language lacks it."""
+"""Makes docs/LANGUAGES.md: for each language the call of each task, and then every call of the
+libraries, with its name in each language, or why a language lacks it."""
 import re
-from collections.abc import Iterator
+from collections.abc import Container, Iterable, Iterator
+from typing import NamedTuple
 
 from tools import ROOT
 from tools.bindings.exports import EXPORTS, filled, listed
@@ -8,8 +10,11 @@ from tools.bindings.javascript import camel
 from tools.bindings.python import ALIASES, RENAMED
 
 CHECKED = re.compile(r'\bchecked::')
+RATIO = 'ratio64::Ratio::'
+CRATES = ('bounded_integers', 'calendar', 'modular', 'ratio64')
 TRAITS = ('Integer::', 'Average::', 'Roots::')  # whose methods are free functions too
-BY_TRAIT = {'fraction_cmp': 'Ord of `Ratio`', 'fraction_from_text': 'FromStr of `Ratio`', 'date_from_text': 'FromStr of `Date`'}
+BY_TRAIT = {'fraction_cmp': '`Ord` of `Ratio`', 'fraction_from_text': '`FromStr` of `Ratio`',
+            'date_from_text': '`FromStr` of `Date`'}
 NAMED = {'date_from_text': ('date_from_text', 'Date.fromisoformat, date_from_text',
                             'PlainDate.from`, `dateFromText')}  # their names in C++, in Python and in JavaScript
 
@@ -32,44 +37,119 @@ def in_rattle(path: str) -> str:
         file = next(file for file in sorted(ROOT.glob('crates/*/src/**/*.rt')) if 'checked' in str(file) and f'pub fn {others[0]}<' in file.read_text())
         crate, _, *modules = file.relative_to(ROOT / 'crates').with_suffix('').parts
         return '::'.join([crate, *modules[:modules.index('checked') + 1], *others])
-    if first in ('bounded_integers', 'calendar', 'modular', 'ratio64'):
+    return by_rule(path) if first != 'counted' else f'num_integer::{path}'
+
+
+def by_rule(path: str) -> str:
+    """The path in Rattle, as the page says it of most calls."""
+    first, *others = path.split('::')
+    if first in CRATES or ' ' in path:
         return path
-    return f'applied::{path}' if first.islower() and others and first != 'counted' else f'num_integer::{path}'
+    return f'applied::{path}' if first.islower() and others else f'num_integer::{path}'
 
 
-def rows() -> list[tuple[str, ...]]:
-    """The cells of each row."""
+class Row(NamedTuple):
+    """A call by its paths in Rust and in Rattle, and its names: in C without the type, with the
+    types, and those that other languages have beside it. Without an export there are words."""
+    rust: str
+    rattle: str
+    c: str = ''
+    types: tuple[str, ...] = ()
+    cpp: str = ''
+    python: str = ''
+    javascript: str = ''
+    words: str = ''
+
+
+def rows() -> list[Row]:
+    """A row of each call. Those below a path that has one reason share a row."""
     names, reasons = listed('languages.txt', ' = '), listed('languages.txt', ': ')
-    forms, used, made = EXPORTS().forms(), set[str](), list[tuple[str, ...]]()
+    forms, used, made = EXPORTS().forms(), set[str](), list[Row]()
     for whole in sorted(paths(), key=lambda path: CHECKED.sub('', path)):
         path = CHECKED.sub('', whole)
-        reason = next((found for found in (path, *(prefix for prefix in reasons if prefix.endswith('::') and path.startswith(prefix))) if found in reasons), '')
-        last = path.split('::')[-1]
-        export, *others = names.get(path, 'fraction_' + last.removeprefix('checked_') if path.startswith('ratio64::Ratio::') else last).split(' | ')
-        assert reason or export in forms, f'{path}: tools/bindings/languages.txt says neither its export nor why it has none'
-        if reason not in used:  # a reason of several calls has one row
-            shown = reason.removesuffix('::') if reason.endswith('::') else whole
-            made.append((f'`{in_rattle(whole).replace(whole, shown)}`', f'`cellarcove::{shown}`', *(('', '', '', '', reasons[reason]) if reason else cells(export, *others))))
+        reason = reason_of(path, reasons)
+        if reason in used:
+            continue
+        export, *others = names.get(path, default_of(path)).split(' | ')
+        assert reason or export in forms, (
+            f'{path}: tools/bindings/languages.txt says neither its export nor why it has none')
+        shown = reason.removesuffix('::') if reason.endswith('::') else whole
+        rattle = in_rattle(whole).replace(whole, shown)
+        made.append(Row(shown, rattle, words=reasons[reason]) if reason
+                    else row(shown, rattle, export, *others))
         used |= {reason} if reason else {path, export}
-    made += [(where, where, *cells(export, *NAMED.get(export, ()))) for export, where in BY_TRAIT.items()]
+    made += [row(where, where, export, *NAMED.get(export, ())) for export, where in BY_TRAIT.items()]
     unknown = (names.keys() | reasons.keys()) - used
     lost = forms.keys() - used - BY_TRAIT.keys()
-    assert not unknown and not lost, f'tools/bindings/languages.txt: no such call {sorted(unknown)}, no row of {sorted(lost)}'
+    assert not unknown and not lost, (f'tools/bindings/languages.txt: no such call '
+                                      f'{sorted(unknown)}, no row of {sorted(lost)}')
     return made
 
 
-def cells(export: str, in_cpp: str = '', in_python: str = '', in_javascript: str = '',
-          more: str = '') -> tuple[str, str, str, str, str]:
-    """The names of an export in C, in C++, in Python and in JavaScript, which are the same if no
-    others are given, and more words."""
-    forms = [form.form for form in EXPORTS().forms()[export] if form.form]
-    c = export + (f'_{{{",".join(forms)}}}' if len(forms) > 1 else f'_{forms[0]}' if forms else '')
-    python = in_python or ', '.join([RENAMED.get(export, export), *(alias for alias, name in ALIASES.items() if name == export)])
-    return f'`{c}`', f'`{in_cpp or export}`', f'`{python}`', f'`{in_javascript or camel(export)}`', more
+def reason_of(path: str, reasons: Container[str]) -> str:
+    """The path, or the longest beginning of it, of which languages.txt has a reason."""
+    parts = path.split('::')
+    begun = ('::'.join(parts[:count]) + '::' for count in range(len(parts) - 1, 0, -1))
+    return next((each for each in (path, *begun) if each in reasons), '')
+
+
+def default_of(path: str) -> str:
+    """The export of a call, if languages.txt doesn't say another one."""
+    last = path.split('::')[-1]
+    return 'fraction_' + last.removeprefix('checked_') if path.startswith(RATIO) else last
+
+
+def row(rust: str, rattle: str, export: str, in_cpp: str = '', in_python: str = '',
+        in_javascript: str = '', words: str = '') -> Row:
+    """The row of an export. Its names in other languages are the same if no others are given."""
+    types = tuple(form.form for form in EXPORTS().forms()[export] if form.form)
+    aliases = [alias for alias, name in ALIASES.items() if name == export]
+    python = in_python or ', '.join([RENAMED.get(export, export), *aliases])
+    return Row(rust, rattle, export, types, in_cpp or export, python,
+               in_javascript or camel(export), words)
+
+
+def code(names: str) -> str:
+    """Names with commas between them, each as code."""
+    return ', '.join(f'`{name.strip("`")}`' for name in names.split(', ') if name)
+
+
+def of_c(each: Row) -> str:
+    """The cell of a call in C and C++, with the types in C, or what to use instead."""
+    if not each.c:
+        return each.words
+    others = [name for name in each.cpp.split(', ') if name != each.c]
+    types = f' {", ".join(each.types)}' if each.types else ''
+    return f'`{each.c}`{types}' + (f'; C++ {code(", ".join(others))}' if others else '')
+
+
+def of_three(each: Row) -> str:
+    """The cell of a call in C, C++ and Python."""
+    others = [name for name in each.python.split(', ') if name != each.c]
+    words = f'; {each.words}' if each.c and each.words else ''
+    return of_c(each) + (f'; Python {code(", ".join(others))}' if others else '') + words
+
+
+def path_of(name: str) -> str:
+    """A path as code, or the words on a trait."""
+    return name if ' ' in name else f'`{name}`'
+
+
+def table(*rows_of: Iterable[str]) -> str:
+    return '\n'.join(f'| {" | ".join(cells)} |' for cells in rows_of)
 
 
 def page() -> str:
     made = rows()
-    of = {row[1].strip('`').removeprefix('cellarcove::'): row for row in made}
-    tasks = [(task, *of[path.strip('`')]) for task, path in listed('tasks.txt', ' = ').items()]
-    return filled('languages.md', **{part: '\n'.join(f'| {" | ".join(cells)} |' for cells in table) for part, table in (('tasks', tasks), ('rows', made))})
+    of = {each.rust: each for each in made}
+    tasks = [(task, of[path]) for task, path in listed('tasks.txt', ' = ').items()]
+    moved = [each for each in made if each.rattle != by_rule(each.rust)]
+    return filled(
+        'languages.md',
+        rust=table(*((task, path_of(each.rust)) for task, each in tasks)),
+        c=table(*((task, of_c(each)) for task, each in tasks)),
+        python=table(*((task, code(each.python) or each.words) for task, each in tasks)),
+        javascript=table(*((task, code(each.javascript) or each.words) for task, each in tasks)),
+        rattle=table(*((task, path_of(each.rattle)) for task, each in tasks)),
+        rows=table(*((path_of(each.rust), of_three(each), code(each.javascript)) for each in made)),
+        checked=table(*((path_of(each.rust), path_of(each.rattle)) for each in moved)))
