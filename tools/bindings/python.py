@@ -79,8 +79,8 @@ def object_of(call: Call) -> str:
     items = [f'{OBJECTS[kind]}(r{path})' for path, kind in results(call)]
     if call.result in whole or len(items) == 1:
         return whole.get(call.result, items[0])
-    maker = next((f'object_of({name}, ' for end, (name, _) in CLASSES.items() if end in call.result), 'tuple_of(')
-    return f'{maker}{len(items)}, (PyObject *[]){{{", ".join(items)}}})'
+    made = f'Py_BuildValue("({"N" * len(items)})", {", ".join(items)})'
+    return next((f'object_of({name}, {made})' for end, (name, _) in CLASSES.items() if end in call.result), made)
 
 
 def form_text(call: Call) -> str:
@@ -183,8 +183,8 @@ def list_text(name: str, forms: list[Call]) -> str:
         passed = ', '.join('of.items, (size_t)of.count' if parameter.item else f'other.{form.form[0]}' for parameter in form.parameters)
         return filled('list_case.c', type=c_type(form.result), symbol=form.symbol, passed=passed, object=OBJECTS[form.form])
     signed = f'\n    if (of.is_signed) {{\n{case(forms[0])}    }}\n' if len(forms) == 2 else ''
-    return filled('list.c', name=name, parameters='PyObject *const *args, Py_ssize_t given' if count > 1 else 'PyObject *object',
-                  taken=f'args, given, {count}' if count > 1 else '&object, 1, 1', place=str(place), width=str(width),
+    parsed = f'!PyArg_ParseTuple(object, "OO:{name}", &given[0], &given[1]) || ' * (count > 1)
+    return filled('list.c', name=name, parsed=parsed, place=str(place), other=str(1 - place), width=str(width),
                   has_signed='true' if len(forms) == 2 else 'false', signed=signed, unsigned=case(forms[-1]))
 
 
@@ -192,16 +192,17 @@ def written_text(name: str, call: Call) -> str:
     """The function of a call that writes unsigned numbers, whose other parameters are unsigned numbers before it."""
     last = len(call.parameters) - 1
     assert call.parameters[-1].is_written and {parameter.item or parameter.kind for parameter in call.parameters} == {'u64'}, call
+    read = ', '.join(f'read_unsigned, &numbers[{k}]' for k in range(last + 1))
     return filled('written.c', name=name, symbol=call.symbol, asked=ASKED[name], count=str(last + 1), last=str(last),
-                  passed=', '.join(f'numbers[{k}].u' for k in range(last)))
+                  letters='O&' * (last + 1), read=read, passed=', '.join(f'numbers[{k}].u' for k in range(last)))
 
 
 def method(name: str, forms: list[Call]) -> str:
     lines = f'{signature(name, forms)}\n--\n\n{docstring(name, forms)}'.replace('\\', '\\\\').replace('"', '\\"').split('\n')
     doc = '\n    '.join(f'"{line}\\n"' for line in lines)
     named = not forms[0].has_slice or len(forms[0].taken) < len(forms[0].parameters)
-    flags = 'METH_FASTCALL | METH_KEYWORDS' if named else 'METH_FASTCALL' if len(forms[0].parameters) > 1 else 'METH_O'
-    cast = '' if flags == 'METH_O' else '(PyCFunction)(void (*)(void))'
+    flags = 'METH_FASTCALL | METH_KEYWORDS' if named else 'METH_VARARGS' if len(forms[0].parameters) > 1 else 'METH_O'
+    cast = '(PyCFunction)(void (*)(void))' * named
     return f'    {{"{name}", {cast}py_{name}, {flags},\n    {doc}}},\n'
 
 
@@ -222,7 +223,9 @@ def calls_c() -> str:
             text += ''.join(map(form_text, forms)) + call_text(name, forms)
     methods = ''.join(method(name, forms) for name, forms in named)
     methods += ''.join(method(alias, dict(named)[name]).replace(f'py_{alias}', f'py_{name}') for alias, name in ALIASES.items())
-    return filled('calls.c', calls=text, methods=methods)
+    public = [*(name for name, _ in named), *ALIASES]
+    return filled('calls.c', calls=text, methods=methods, strings='s' * len(public),
+                  names='\n        '.join(textwrap.wrap(quoted(public), 92)))
 
 
 PYTHON = {'Fraction': '_Fraction', 'Date': '_Date'}

@@ -1,23 +1,27 @@
 """Proved integer arithmetic, fractions and dates.
 
-If all numbers of a call are at least 0, they lie below 2**64, and otherwise from -2**63 to 2**63 - 1. If they lie from 0 to
-2**63 - 1, the result may be negative. Those of `extended_gcd`, the parts of fractions, years, numbers of days, and how many
-days or months are added, are always from -2**63 to 2**63 - 1; those of `multinomial`, `rank`, `choice_of_rank`,
-`is_perfect_power` and `shares_by_largest_remainder`, weights and exponents are always from 0 to 2**64 - 1, and degrees and
-places from 0 to 2**32 - 1. The exponent of a fraction is from -2**31 to 2**31 - 1. A month, a week, a day of the month or of
-the week, and its count, are from 0 to 255, and a day of the year is from 0 to 2**16 - 1.
+If all numbers of a call are at least 0, they lie below 2**64, and otherwise from -2**63 to
+2**63 - 1. If they lie from 0 to 2**63 - 1, the result may be negative. Those of `extended_gcd`, the
+parts of fractions, years, numbers of days, and how many days or months are added, are always from
+-2**63 to 2**63 - 1; those of `multinomial`, `rank`, `choice_of_rank`, `is_perfect_power` and
+`shares_by_largest_remainder`, weights and exponents are always from 0 to 2**64 - 1, and degrees and
+places from 0 to 2**32 - 1. The exponent of a fraction is from -2**31 to 2**31 - 1. A month, a week,
+a day of the month or of the week, and its count, are from 0 to 255, and a day of the year is from 0
+to 2**16 - 1.
 
-A number out of its range raises `OverflowError`, and what is no integer raises `TypeError`. So `days_in_month` raises
-`Refused` for month 13 and `OverflowError` for month 256, and `Date` raises `Refused` for both.
+A number out of its range raises `OverflowError`, and what is no integer raises `TypeError`. So
+`days_in_month` raises `Refused` for month 13 and `OverflowError` for month 256, and `Date` raises
+`Refused` for both.
 
-If a call has no result, it raises `Refused`, a `ValueError` that has the status. If the reason is that a divisor, a modulus
-or a denominator is 0, it is `DivisionByZero`, which is a `ZeroDivisionError` too. If the reason is that the result does not
-fit, it is `NotFitting`, which is an `OverflowError` too.
+If a call has no result, it raises `Refused`, a `ValueError` that has the status. If the reason is
+that a divisor, a modulus or a denominator is 0, it is `DivisionByZero`, which is a
+`ZeroDivisionError` too. If the reason is that the result does not fit, it is `NotFitting`, which is
+an `OverflowError` too.
 
-Each number of a call may be an array of 64-bit numbers: a buffer, such as an `array.array` or an array of numpy. The call
-returns arrays of the same length, and then the array of the statuses, if it has statuses: an element of status 0 has a
-result. What is true or false is a `memoryview` of bools, which numpy takes for a mask. If one of the arrays is of numpy,
-the results are arrays of numpy. The GIL is free meanwhile.
+Each number of a call may be a column: an array of numpy or of dask, a `Series` of pandas, or a
+buffer such as an `array.array`. The call returns columns. An element that has no result raises;
+with `errors='mask'` it is missing, and with `errors='status'` the call returns the statuses after
+the result. The GIL is free meanwhile.
 """
 
 from __future__ import annotations
@@ -34,8 +38,8 @@ from ._calls import *
 
 __version__ = _calls.VERSION
 __all__ = [
-    'BUILT_BY', 'Date', 'DivisionByZero', 'ExtendedGcd', 'IsoWeek', 'NotFitting', 'Refused', 'Solutions', 'Status',
-    'SupportsColumn', 'SupportsDate', 'SupportsFraction', 'Weekday',
+    'BUILT_BY', 'Date', 'DivisionByZero', 'ExtendedGcd', 'IsoWeek', 'NotFitting', 'Refused',
+    'Solutions', 'Status', 'SupportsColumn', 'SupportsDate', 'SupportsFraction', 'Weekday',
 ]
 __all__ += _calls.__all__
 
@@ -43,8 +47,8 @@ BUILT_BY = _calls.BUILT_BY
 """The compiler that made the calls: `rattle` or `cargo`."""
 
 _RANGES = {
-    'q': 'from -2**63 to 2**63 - 1', 'Q': 'from 0 to 2**64 - 1', 'I': 'from 0 to 2**32 - 1', 'i': 'from -2**31 to 2**31 - 1',
-    'H': 'from 0 to 2**16 - 1', 'B': 'from 0 to 255',
+    'q': 'from -2**63 to 2**63 - 1', 'Q': 'from 0 to 2**64 - 1', 'I': 'from 0 to 2**32 - 1',
+    'i': 'from -2**31 to 2**31 - 1', 'H': 'from 0 to 2**16 - 1', 'B': 'from 0 to 255',
 }
 _SHOWN = 10**40  # a number in a message is below this
 _Index = Union[int, tuple[int, ...]]
@@ -96,14 +100,19 @@ class Refused(ValueError):
         return self.args[2] if len(self.args) > 1 else None
 
     def __str__(self) -> str:
-        others = '' if self.index is None else f', in the element {self.index}; {self.count} in all have no result'
-        return f'{self.status.name}: {self._reasons[self.status]}{others}'
+        words = f'{self.status.name}: {self._reasons[self.status]}'
+        if self.index is None:
+            return words
+        return f'{words}, in the element {self.index}; {self.count} in all have no result'
 
 
 class DivisionByZero(Refused, ZeroDivisionError):
     """A call has no result, since a divisor, a modulus or a denominator is 0."""
 
-    _reasons = Refused._reasons | {Status.OUTSIDE: 'the divisor is 0', Status.BAD_MODULUS: 'a modulus is 0'}
+    _reasons = Refused._reasons | {
+        Status.OUTSIDE: 'the divisor is 0',
+        Status.BAD_MODULUS: 'a modulus is 0',
+    }
 
 
 class NotFitting(Refused, OverflowError):
@@ -131,7 +140,8 @@ class SupportsDate(Protocol):
 
 
 class SupportsColumn(Protocol):
-    """A column: an array of numpy or of dask, or a `Series` of pandas. An `array.array` and a `memoryview` are columns too."""
+    """A column: an array of numpy or of dask, or a `Series` of pandas. An `array.array` and a
+    `memoryview` are columns too."""
 
     @property
     def dtype(self) -> Any: ...
@@ -170,8 +180,8 @@ class IsoWeek(NamedTuple):
 class Weekday(enum.Enum):
     """A day of the week. Its `value` is its number in ISO 8601, from 1 for Monday to 7 for Sunday.
 
-    A parameter `weekday` takes either. It is no `int`, and raises `TypeError` if it is compared with one, since `weekday` of
-    `datetime.date` counts from 0.
+    A parameter `weekday` takes either. It is no `int`, and raises `TypeError` if it is compared
+    with one, since `weekday` of `datetime.date` counts from 0.
     """
 
     MONDAY = 1
@@ -184,7 +194,10 @@ class Weekday(enum.Enum):
 
     def __eq__(self, other: object) -> bool:
         if isinstance(other, SupportsIndex):
-            raise TypeError(f'a Weekday is no number: compare it with a Weekday, such as {self}, or compare its value, which is from 1 to 7')
+            raise TypeError(
+                f'a Weekday is no number: compare it with a Weekday, such as {self}, '
+                'or compare its value, which is from 1 to 7'
+            )
         return self is other
 
     __hash__ = enum.Enum.__hash__
@@ -196,35 +209,17 @@ class _Tuple(tuple[int, ...]):
     __slots__ = ()
 
 
-class Date:
-    """A date of the proleptic Gregorian calendar, of any year from -2**63 to 2**63 - 1. The year before year 1 is year 0.
+class Date(_calls._BaseDate):
+    """A date of the proleptic Gregorian calendar, of any year from -2**63 to 2**63 - 1. The year
+    before year 1 is year 0.
 
-    Raises `Refused` with `NO_DATE` if there is no such date. Dates are in the order of their days. `date + days` is a date, and
-    `date - other` the number of days between two.
+    Raises `Refused` with `NO_DATE` if there is no such date. Dates are in the order of their days.
+    `date + days` is a date, and `date - other` the number of days between two.
     """
 
-    __slots__ = __match_args__ = ('year', 'month', 'day')
+    __slots__ = ()
+    __match_args__ = ('year', 'month', 'day')
     __array_ufunc__ = None  # an operator with an array of numpy is an error, or that of this class
-
-    year: int
-    month: int
-    day: int
-
-    def __new__(cls, year: SupportsIndex, month: SupportsIndex, day: SupportsIndex) -> Date:
-        if not type(year) is type(month) is type(day) is int:
-            year, month, day = map(operator.index, (year, month, day))
-        try:
-            made = _calls.plus_days((year, month, day), 0)
-        except OverflowError:
-            if not -2**63 <= year < 2**63:
-                raise
-            raise Refused(Status.NO_DATE) from None
-        if cls is Date:
-            return made
-        date = object.__new__(cls)
-        for part in cls.__match_args__:
-            object.__setattr__(date, part, getattr(made, part))
-        return date
 
     def __setattr__(self, name: str, value: object) -> NoReturn:
         raise AttributeError(f'a date does not change: {name} is set by `replace`')
@@ -238,66 +233,6 @@ class Date:
     def __repr__(self) -> str:
         return f'{type(self).__qualname__}(year={self.year}, month={self.month}, day={self.day})'
 
-    def __hash__(self) -> int:
-        return hash((self.year, self.month, self.day))
-
-    def __eq__(self, other: object) -> bool:
-        if not isinstance(other, Date):
-            return NotImplemented
-        return self.day == other.day and self.month == other.month and self.year == other.year
-
-    def __lt__(self, other: Date) -> bool:
-        if not isinstance(other, Date):
-            return NotImplemented
-        return (self.year, self.month, self.day) < (other.year, other.month, other.day)
-
-    def __le__(self, other: Date) -> bool:
-        if not isinstance(other, Date):
-            return NotImplemented
-        return (self.year, self.month, self.day) <= (other.year, other.month, other.day)
-
-    def __gt__(self, other: Date) -> bool:
-        if not isinstance(other, Date):
-            return NotImplemented
-        return (self.year, self.month, self.day) > (other.year, other.month, other.day)
-
-    def __ge__(self, other: Date) -> bool:
-        if not isinstance(other, Date):
-            return NotImplemented
-        return (self.year, self.month, self.day) >= (other.year, other.month, other.day)
-
-    def __add__(self, days: SupportsIndex) -> Date:
-        if type(days) is int:
-            return _calls.plus_days(self, days)
-        count = _count_of_days(days)
-        if count is None:
-            return NotImplemented
-        return _calls.plus_days(self, count)
-
-    __radd__ = __add__
-
-    @overload
-    def __sub__(self, other: SupportsIndex) -> Date: ...
-    @overload
-    def __sub__(self, other: SupportsDate) -> int: ...
-    def __sub__(self, other: Any) -> Date | int:
-        if _is_date(other):
-            days: int = _calls.days_between(other, self)
-            return days
-        count = _count_of_days(other)
-        if count is None:
-            return NotImplemented
-        return _calls.minus_days(self, count)
-
-    def __rsub__(self, other: SupportsDate) -> int:
-        if not _is_date(other):
-            return NotImplemented
-        return _calls.days_between(self, other)
-
-    def __str__(self) -> str:
-        year = f'{self.year:04}' if 0 <= self.year <= 9999 else f'{self.year:+05}'
-        return f'{year}-{self.month:02}-{self.day:02}'
-
     def __format__(self, spec: str) -> str:
         """The date as `isoformat` writes it, padded, or as `strftime` if the text has a `%`."""
         return self.strftime(spec) if '%' in spec else format(str(self), spec)
@@ -308,22 +243,34 @@ class Date:
 
     @classmethod
     def fromisoformat(cls, text: str) -> Date:
-        """The date that `isoformat` writes so. Raises `Refused` with `NO_DATE`, a `ValueError`, if there is none."""
+        """The date that `isoformat` writes so. Raises `Refused` with `NO_DATE`, a `ValueError`, if
+        there is none."""
         date = _calls.date_from_text(text)
         return date if cls is Date else cls(date.year, date.month, date.day)
 
     def strftime(self, format: str) -> str:
-        """What `datetime.date.strftime` writes. Raises `OverflowError` if the year is not from 1 to 9999."""
+        """What `datetime.date.strftime` writes. Raises `OverflowError` if the year is not from 1 to
+        9999."""
         return self.to_date().strftime(format)
 
-    def replace(self, year: SupportsIndex | None = None, month: SupportsIndex | None = None, day: SupportsIndex | None = None) -> Date:
+    def replace(
+        self,
+        year: SupportsIndex | None = None,
+        month: SupportsIndex | None = None,
+        day: SupportsIndex | None = None,
+    ) -> Date:
         """The date with another year, month or day."""
-        return type(self)(self.year if year is None else year, self.month if month is None else month, self.day if day is None else day)
+        return type(self)(
+            self.year if year is None else year,
+            self.month if month is None else month,
+            self.day if day is None else day,
+        )
 
     __replace__ = replace
 
     def weekday(self) -> Weekday:
-        """The day of the week. That of `datetime.date` is a number from 0 for Monday to 6 for Sunday."""
+        """The day of the week. That of `datetime.date` is a number from 0 for Monday to 6 for
+        Sunday."""
         return _WEEKDAYS[_calls.weekday_of_date(self) - 1]
 
     def isoweekday(self) -> int:
@@ -336,14 +283,17 @@ class Date:
         return cls(date.year, date.month, date.day)
 
     def to_date(self) -> datetime.date:
-        """The same date for `datetime`. Raises `OverflowError` if the year is not from 1 to 9999."""
-        if not datetime.MINYEAR <= self.year <= datetime.MAXYEAR:
-            raise OverflowError(f'year {self.year} is not from {datetime.MINYEAR} to {datetime.MAXYEAR}')
+        """The same date for `datetime`. Raises `OverflowError` if the year is not from 1 to
+        9999."""
+        first, last = datetime.MINYEAR, datetime.MAXYEAR
+        if not first <= self.year <= last:
+            raise OverflowError(f'year {self.year} is not from {first} to {last}')
         return datetime.date(self.year, self.month, self.day)
 
 
 def _count_of_days(value: Any) -> int | None:
-    """The number of days that an operator has beside a date: an integer, or a `timedelta64[D]` of numpy."""
+    """The number of days that an operator has beside a date: an integer, or a `timedelta64[D]` of
+    numpy."""
     if _columns.is_column(value):
         return None
     try:
@@ -355,27 +305,51 @@ def _count_of_days(value: Any) -> int | None:
 
 def _is_date(value: object) -> bool:
     """Whether what an operator has beside a date is a date too."""
-    return isinstance(value, (Date, datetime.date)) or _columns.unit(value) == 'M8[D]' and not _columns.is_column(value)
+    return (
+        isinstance(value, (Date, datetime.date))
+        or _columns.unit(value) == 'M8[D]'
+        and not _columns.is_column(value)
+    )
+
+
+def _add(date: Date, days: Any) -> Any:
+    """A date plus what is no `int`."""
+    count = _count_of_days(days)
+    return NotImplemented if count is None else _calls.plus_days(date, count)
+
+
+def _subtract(a: Any, b: Any) -> Any:
+    """What an operator makes of a date, and of what is no other `Date` and no `int`."""
+    if _is_date(a) and _is_date(b):
+        return _calls.days_between(b, a)
+    count = _count_of_days(b) if isinstance(a, Date) else None
+    return NotImplemented if count is None else _calls.plus_days(a, -count)
 
 
 _WEEKDAYS = tuple(Weekday)
 
 
-def _refusal(status: int, by_zero: bool, index: _Index | None = None, count: int | None = None) -> Refused:
-    kind = NotFitting if status == Status.NOT_FITTING else DivisionByZero if status == Status.ZERO_DENOMINATOR or by_zero else Refused
+def _refusal(
+    status: int, by_zero: bool, index: _Index | None = None, count: int | None = None
+) -> Refused:
+    if status == Status.NOT_FITTING:
+        return NotFitting(status, index, count)
+    kind = DivisionByZero if status == Status.ZERO_DENOMINATOR or by_zero else Refused
     return kind(status, index, count)
 
 
 def _out_of_range(number: SupportsIndex, kind: str, place: int | None = None) -> OverflowError:
     number = operator.index(number)
     shown = str(number) if abs(number) < _SHOWN else f'a number of {number.bit_length()} bits'
-    return OverflowError(f'{shown} is not {_RANGES[kind]}' + ('' if place is None else f', in the element {place}'))
+    words = f'{shown} is not {_RANGES[kind]}'
+    return OverflowError(words if place is None else f'{words}, in the element {place}')
 
 
 _columns.refusal, _columns.out_of_range = _refusal, _out_of_range
-_columns.classes = {'Weekday': Weekday, 'ExtendedGcd': ExtendedGcd, 'Solutions': Solutions, 'IsoWeek': IsoWeek}
-_calls._install({
-    'refusal': _refusal, 'out_of_range': _out_of_range, 'call': _columns.call, 'items': _columns.items, 'Fraction': Fraction,
-    'Decimal': Decimal, 'Tuple': _Tuple, 'Date': Date, 'ExtendedGcd': ExtendedGcd, 'Solutions': Solutions, 'IsoWeek': IsoWeek,
-    'Weekday': Weekday,
-})
+_columns.classes = {
+    'Weekday': Weekday, 'ExtendedGcd': ExtendedGcd, 'Solutions': Solutions, 'IsoWeek': IsoWeek,
+}
+_calls._install(
+    _refusal, _out_of_range, _columns.call, _columns.items, _add, _subtract, Fraction, Decimal,
+    _Tuple, Date, ExtendedGcd, Solutions, IsoWeek, Weekday,
+)

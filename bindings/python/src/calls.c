@@ -5,9 +5,10 @@
 
 static PyObject *py_gcd_of(PyObject *module, PyObject *object) {
     (void)module;
+    PyObject *given[2] = {object, NULL};
     list of;
     cell other;
-    if (!read_list("gcd_of", &object, 1, 1, 0, 1, true, &of, &other)) {
+    if (!read_list("gcd_of", given[0], given[1], 1, true, &of, &other)) {
         return NULL;
     }
     if (of.is_signed) {
@@ -28,9 +29,10 @@ static PyObject *py_gcd_of(PyObject *module, PyObject *object) {
 
 static PyObject *py_lcm_of(PyObject *module, PyObject *object) {
     (void)module;
+    PyObject *given[2] = {object, NULL};
     list of;
     cell other;
-    if (!read_list("lcm_of", &object, 1, 1, 0, 1, true, &of, &other)) {
+    if (!read_list("lcm_of", given[0], given[1], 1, true, &of, &other)) {
         return NULL;
     }
     if (of.is_signed) {
@@ -51,9 +53,10 @@ static PyObject *py_lcm_of(PyObject *module, PyObject *object) {
 
 static PyObject *py_multinomial(PyObject *module, PyObject *object) {
     (void)module;
+    PyObject *given[2] = {object, NULL};
     list of;
     cell other;
-    if (!read_list("multinomial", &object, 1, 1, 0, 1, false, &of, &other)) {
+    if (!read_list("multinomial", given[0], given[1], 1, false, &of, &other)) {
         return NULL;
     }
     {
@@ -65,11 +68,12 @@ static PyObject *py_multinomial(PyObject *module, PyObject *object) {
     }
 }
 
-static PyObject *py_rank(PyObject *module, PyObject *const *args, Py_ssize_t given) {
+static PyObject *py_rank(PyObject *module, PyObject *object) {
     (void)module;
+    PyObject *given[2] = {object, NULL};
     list of;
     cell other;
-    if (!read_list("rank", args, given, 2, 0, 1, false, &of, &other)) {
+    if (!PyArg_ParseTuple(object, "OO:rank", &given[0], &given[1]) || !read_list("rank", given[0], given[1], 1, false, &of, &other)) {
         return NULL;
     }
     {
@@ -81,26 +85,24 @@ static PyObject *py_rank(PyObject *module, PyObject *const *args, Py_ssize_t giv
     }
 }
 
-static PyObject *py_choice_of_rank(PyObject *module, PyObject *const *args, Py_ssize_t given) {
+static PyObject *py_choice_of_rank(PyObject *module, PyObject *args) {
     (void)module;
     cell numbers[3];
-    if (!unsigned_numbers("choice_of_rank", args, given, 3, numbers)) {
+    if (!PyArg_ParseTuple(args, "O&O&O&:choice_of_rank", read_unsigned, &numbers[0], read_unsigned, &numbers[1], read_unsigned, &numbers[2])) {
         return NULL;
     }
     if (!is_below_binomial(numbers[0].u, numbers[1].u, numbers[2].u)) {
         return refused(CELLARCOVE_OUTSIDE, false);
     }
-    uint64_t *written = room_for(numbers[2].u);
-    if (written == NULL) {
+    cell *room = room_for(numbers[2].u);
+    if (room == NULL) {
         return NULL;
     }
     uint32_t status;
     Py_BEGIN_ALLOW_THREADS
-    status = cellarcove_choice_of_rank_u64(numbers[0].u, numbers[1].u, written, (size_t)numbers[2].u);
+    status = cellarcove_choice_of_rank_u64(numbers[0].u, numbers[1].u, &room->u, (size_t)numbers[2].u);
     Py_END_ALLOW_THREADS
-    PyObject *result = status == CELLARCOVE_ANSWER ? tuple_of_numbers(written, (Py_ssize_t)numbers[2].u, false) : refused(status, false);
-    PyMem_Free(written);
-    return result;
+    return written(room, numbers[2].u, status, false);
 }
 
 static const call call_shares = {"shares", 2, {"amount", "weights"}, "nl", NULL, NULL, NULL, NULL, NULL};
@@ -117,11 +119,12 @@ static PyObject *py_shares_by_largest_remainder(PyObject *module, PyObject *cons
     return divided(&call_shares_by_largest_remainder, args, given, names, cellarcove_shares_by_largest_remainder_i64, cellarcove_shares_by_largest_remainder_u64);
 }
 
-static PyObject *py_next_common_solution_of(PyObject *module, PyObject *const *args, Py_ssize_t given) {
+static PyObject *py_next_common_solution_of(PyObject *module, PyObject *object) {
     (void)module;
+    PyObject *given[2] = {object, NULL};
     list of;
     cell other;
-    if (!read_list("next_common_solution_of", args, given, 2, 1, 2, true, &of, &other)) {
+    if (!PyArg_ParseTuple(object, "OO:next_common_solution_of", &given[0], &given[1]) || !read_list("next_common_solution_of", given[1], given[0], 2, true, &of, &other)) {
         return NULL;
     }
     if (of.is_signed) {
@@ -143,34 +146,31 @@ static PyObject *py_next_common_solution_of(PyObject *module, PyObject *const *a
 static PyObject *py_fraction_from_text(PyObject *module, PyObject *object) {
     (void)module;
     const char *bytes;
-    size_t count;
-    PyObject *text = bytes_of("fraction_from_text", object, &bytes, &count);
-    if (text == NULL) {
+    Py_ssize_t count;
+    if (!read_text("fraction_from_text", object, &bytes, &count)) {
         return NULL;
     }
-    cellarcove_fraction_answer r = cellarcove_fraction_from_text(bytes, count);
-    Py_DECREF(text);
+    cellarcove_fraction_answer r = cellarcove_fraction_from_text(bytes, (size_t)count);
     return r.status == CELLARCOVE_ANSWER ? fraction_of(r.value) : refused(r.status, r.status == CELLARCOVE_ZERO_DENOMINATOR);
 }
 
 static PyObject *py_date_from_text(PyObject *module, PyObject *object) {
     (void)module;
     const char *bytes;
-    size_t count;
-    PyObject *text = bytes_of("date_from_text", object, &bytes, &count);
-    if (text == NULL) {
+    Py_ssize_t count;
+    if (!read_text("date_from_text", object, &bytes, &count)) {
         return NULL;
     }
-    cellarcove_date_answer r = cellarcove_date_from_text(bytes, count);
-    Py_DECREF(text);
+    cellarcove_date_answer r = cellarcove_date_from_text(bytes, (size_t)count);
     return r.status == CELLARCOVE_ANSWER ? date_of(r.date) : refused(r.status, r.status == CELLARCOVE_ZERO_DENOMINATOR);
 }
 
 static PyObject *py_sum_of(PyObject *module, PyObject *object) {
     (void)module;
+    PyObject *given[2] = {object, NULL};
     list of;
     cell other;
-    if (!read_list("sum_of", &object, 1, 1, 0, 1, true, &of, &other)) {
+    if (!read_list("sum_of", given[0], given[1], 1, true, &of, &other)) {
         return NULL;
     }
     if (of.is_signed) {
@@ -285,7 +285,7 @@ static PyObject *one_div_rem_i64(const cell *a, uint32_t *status) {
         *status = r.status;
         return NULL;
     }
-    return tuple_of(2, (PyObject *[]){PyLong_FromLongLong(r.quotient), PyLong_FromLongLong(r.remainder)});
+    return Py_BuildValue("(NN)", PyLong_FromLongLong(r.quotient), PyLong_FromLongLong(r.remainder));
 }
 
 static const form form_div_rem_i64 = {"qq", one_div_rem_i64};
@@ -296,7 +296,7 @@ static PyObject *one_div_rem_u64(const cell *a, uint32_t *status) {
         *status = r.status;
         return NULL;
     }
-    return tuple_of(2, (PyObject *[]){PyLong_FromUnsignedLongLong(r.quotient), PyLong_FromUnsignedLongLong(r.remainder)});
+    return Py_BuildValue("(NN)", PyLong_FromUnsignedLongLong(r.quotient), PyLong_FromUnsignedLongLong(r.remainder));
 }
 
 static const form form_div_rem_u64 = {"QQ", one_div_rem_u64};
@@ -465,7 +465,7 @@ static PyObject *one_div_mod_floor_i64(const cell *a, uint32_t *status) {
         *status = r.status;
         return NULL;
     }
-    return tuple_of(2, (PyObject *[]){PyLong_FromLongLong(r.quotient), PyLong_FromLongLong(r.remainder)});
+    return Py_BuildValue("(NN)", PyLong_FromLongLong(r.quotient), PyLong_FromLongLong(r.remainder));
 }
 
 static const form form_div_mod_floor_i64 = {"qq", one_div_mod_floor_i64};
@@ -476,7 +476,7 @@ static PyObject *one_div_mod_floor_u64(const cell *a, uint32_t *status) {
         *status = r.status;
         return NULL;
     }
-    return tuple_of(2, (PyObject *[]){PyLong_FromUnsignedLongLong(r.quotient), PyLong_FromUnsignedLongLong(r.remainder)});
+    return Py_BuildValue("(NN)", PyLong_FromUnsignedLongLong(r.quotient), PyLong_FromUnsignedLongLong(r.remainder));
 }
 
 static const form form_div_mod_floor_u64 = {"QQ", one_div_mod_floor_u64};
@@ -495,7 +495,7 @@ static PyObject *one_product_div_mod_floor_i64(const cell *a, uint32_t *status) 
         *status = r.status;
         return NULL;
     }
-    return tuple_of(2, (PyObject *[]){PyLong_FromLongLong(r.quotient), PyLong_FromLongLong(r.remainder)});
+    return Py_BuildValue("(NN)", PyLong_FromLongLong(r.quotient), PyLong_FromLongLong(r.remainder));
 }
 
 static const form form_product_div_mod_floor_i64 = {"qqq", one_product_div_mod_floor_i64};
@@ -506,7 +506,7 @@ static PyObject *one_product_div_mod_floor_u64(const cell *a, uint32_t *status) 
         *status = r.status;
         return NULL;
     }
-    return tuple_of(2, (PyObject *[]){PyLong_FromUnsignedLongLong(r.quotient), PyLong_FromUnsignedLongLong(r.remainder)});
+    return Py_BuildValue("(NN)", PyLong_FromUnsignedLongLong(r.quotient), PyLong_FromUnsignedLongLong(r.remainder));
 }
 
 static const form form_product_div_mod_floor_u64 = {"QQQ", one_product_div_mod_floor_u64};
@@ -675,7 +675,7 @@ static PyObject *one_gcd_lcm_i64(const cell *a, uint32_t *status) {
         *status = r.status;
         return NULL;
     }
-    return tuple_of(2, (PyObject *[]){PyLong_FromLongLong(r.gcd), PyLong_FromLongLong(r.lcm)});
+    return Py_BuildValue("(NN)", PyLong_FromLongLong(r.gcd), PyLong_FromLongLong(r.lcm));
 }
 
 static const form form_gcd_lcm_i64 = {"qq", one_gcd_lcm_i64};
@@ -686,7 +686,7 @@ static PyObject *one_gcd_lcm_u64(const cell *a, uint32_t *status) {
         *status = r.status;
         return NULL;
     }
-    return tuple_of(2, (PyObject *[]){PyLong_FromUnsignedLongLong(r.gcd), PyLong_FromUnsignedLongLong(r.lcm)});
+    return Py_BuildValue("(NN)", PyLong_FromUnsignedLongLong(r.gcd), PyLong_FromUnsignedLongLong(r.lcm));
 }
 
 static const form form_gcd_lcm_u64 = {"QQ", one_gcd_lcm_u64};
@@ -705,7 +705,7 @@ static PyObject *one_extended_gcd_i64(const cell *a, uint32_t *status) {
         *status = r.status;
         return NULL;
     }
-    return object_of(class_gcd, 3, (PyObject *[]){PyLong_FromLongLong(r.gcd), PyLong_FromLongLong(r.x), PyLong_FromLongLong(r.y)});
+    return object_of(class_gcd, Py_BuildValue("(NNN)", PyLong_FromLongLong(r.gcd), PyLong_FromLongLong(r.x), PyLong_FromLongLong(r.y)));
 }
 
 static const form form_extended_gcd_i64 = {"qq", one_extended_gcd_i64};
@@ -745,7 +745,7 @@ static PyObject *py_is_coprime(PyObject *module, PyObject *const *args, Py_ssize
 static PyObject *one_reduced_i64(const cell *a, uint32_t *status) {
     cellarcove_i64_pair r = cellarcove_reduced_i64((int64_t)a[0].i, (int64_t)a[1].i);
     (void)status;
-    return tuple_of(2, (PyObject *[]){PyLong_FromLongLong(r.first), PyLong_FromLongLong(r.second)});
+    return Py_BuildValue("(NN)", PyLong_FromLongLong(r.first), PyLong_FromLongLong(r.second));
 }
 
 static const form form_reduced_i64 = {"qq", one_reduced_i64};
@@ -753,7 +753,7 @@ static const form form_reduced_i64 = {"qq", one_reduced_i64};
 static PyObject *one_reduced_u64(const cell *a, uint32_t *status) {
     cellarcove_u64_pair r = cellarcove_reduced_u64((uint64_t)a[0].u, (uint64_t)a[1].u);
     (void)status;
-    return tuple_of(2, (PyObject *[]){PyLong_FromUnsignedLongLong(r.first), PyLong_FromUnsignedLongLong(r.second)});
+    return Py_BuildValue("(NN)", PyLong_FromUnsignedLongLong(r.first), PyLong_FromUnsignedLongLong(r.second));
 }
 
 static const form form_reduced_u64 = {"QQ", one_reduced_u64};
@@ -968,7 +968,7 @@ static PyObject *one_sqrt_rem_i64(const cell *a, uint32_t *status) {
         *status = r.status;
         return NULL;
     }
-    return tuple_of(2, (PyObject *[]){PyLong_FromLongLong(r.root), PyLong_FromLongLong(r.rest)});
+    return Py_BuildValue("(NN)", PyLong_FromLongLong(r.root), PyLong_FromLongLong(r.rest));
 }
 
 static const form form_sqrt_rem_i64 = {"q", one_sqrt_rem_i64};
@@ -979,7 +979,7 @@ static PyObject *one_sqrt_rem_u64(const cell *a, uint32_t *status) {
         *status = r.status;
         return NULL;
     }
-    return tuple_of(2, (PyObject *[]){PyLong_FromUnsignedLongLong(r.root), PyLong_FromUnsignedLongLong(r.rest)});
+    return Py_BuildValue("(NN)", PyLong_FromUnsignedLongLong(r.root), PyLong_FromUnsignedLongLong(r.rest));
 }
 
 static const form form_sqrt_rem_u64 = {"Q", one_sqrt_rem_u64};
@@ -1148,7 +1148,7 @@ static PyObject *one_place_of_i64(const cell *a, uint32_t *status) {
         *status = r.status;
         return NULL;
     }
-    return tuple_of(2, (PyObject *[]){PyLong_FromLongLong(r.page), PyLong_FromLongLong(r.place)});
+    return Py_BuildValue("(NN)", PyLong_FromLongLong(r.page), PyLong_FromLongLong(r.place));
 }
 
 static const form form_place_of_i64 = {"qq", one_place_of_i64};
@@ -1159,7 +1159,7 @@ static PyObject *one_place_of_u64(const cell *a, uint32_t *status) {
         *status = r.status;
         return NULL;
     }
-    return tuple_of(2, (PyObject *[]){PyLong_FromUnsignedLongLong(r.page), PyLong_FromUnsignedLongLong(r.place)});
+    return Py_BuildValue("(NN)", PyLong_FromUnsignedLongLong(r.page), PyLong_FromUnsignedLongLong(r.place));
 }
 
 static const form form_place_of_u64 = {"QQ", one_place_of_u64};
@@ -1208,7 +1208,7 @@ static PyObject *one_range_of_page_i64(const cell *a, uint32_t *status) {
         *status = r.status;
         return NULL;
     }
-    return tuple_of(2, (PyObject *[]){PyLong_FromLongLong(r.first), PyLong_FromLongLong(r.end)});
+    return Py_BuildValue("(NN)", PyLong_FromLongLong(r.first), PyLong_FromLongLong(r.end));
 }
 
 static const form form_range_of_page_i64 = {"qqq", one_range_of_page_i64};
@@ -1219,7 +1219,7 @@ static PyObject *one_range_of_page_u64(const cell *a, uint32_t *status) {
         *status = r.status;
         return NULL;
     }
-    return tuple_of(2, (PyObject *[]){PyLong_FromUnsignedLongLong(r.first), PyLong_FromUnsignedLongLong(r.end)});
+    return Py_BuildValue("(NN)", PyLong_FromUnsignedLongLong(r.first), PyLong_FromUnsignedLongLong(r.end));
 }
 
 static const form form_range_of_page_u64 = {"QQQ", one_range_of_page_u64};
@@ -1238,7 +1238,7 @@ static PyObject *one_range_of_part_i64(const cell *a, uint32_t *status) {
         *status = r.status;
         return NULL;
     }
-    return tuple_of(2, (PyObject *[]){PyLong_FromLongLong(r.first), PyLong_FromLongLong(r.end)});
+    return Py_BuildValue("(NN)", PyLong_FromLongLong(r.first), PyLong_FromLongLong(r.end));
 }
 
 static const form form_range_of_part_i64 = {"qqq", one_range_of_part_i64};
@@ -1249,7 +1249,7 @@ static PyObject *one_range_of_part_u64(const cell *a, uint32_t *status) {
         *status = r.status;
         return NULL;
     }
-    return tuple_of(2, (PyObject *[]){PyLong_FromUnsignedLongLong(r.first), PyLong_FromUnsignedLongLong(r.end)});
+    return Py_BuildValue("(NN)", PyLong_FromUnsignedLongLong(r.first), PyLong_FromUnsignedLongLong(r.end));
 }
 
 static const form form_range_of_part_u64 = {"QQQ", one_range_of_part_u64};
@@ -1568,7 +1568,7 @@ static PyObject *one_solutions_i64(const cell *a, uint32_t *status) {
         *status = r.status;
         return NULL;
     }
-    return object_of(class_solutions, 2, (PyObject *[]){PyLong_FromLongLong(r.first), PyLong_FromLongLong(r.step)});
+    return object_of(class_solutions, Py_BuildValue("(NN)", PyLong_FromLongLong(r.first), PyLong_FromLongLong(r.step)));
 }
 
 static const form form_solutions_i64 = {"qqq", one_solutions_i64};
@@ -1579,7 +1579,7 @@ static PyObject *one_solutions_u64(const cell *a, uint32_t *status) {
         *status = r.status;
         return NULL;
     }
-    return object_of(class_solutions, 2, (PyObject *[]){PyLong_FromUnsignedLongLong(r.first), PyLong_FromUnsignedLongLong(r.step)});
+    return object_of(class_solutions, Py_BuildValue("(NN)", PyLong_FromUnsignedLongLong(r.first), PyLong_FromUnsignedLongLong(r.step)));
 }
 
 static const form form_solutions_u64 = {"QQQ", one_solutions_u64};
@@ -1598,7 +1598,7 @@ static PyObject *one_chinese_remainder_i64(const cell *a, uint32_t *status) {
         *status = r.status;
         return NULL;
     }
-    return object_of(class_solutions, 2, (PyObject *[]){PyLong_FromLongLong(r.first), PyLong_FromLongLong(r.step)});
+    return object_of(class_solutions, Py_BuildValue("(NN)", PyLong_FromLongLong(r.first), PyLong_FromLongLong(r.step)));
 }
 
 static const form form_chinese_remainder_i64 = {"qqqq", one_chinese_remainder_i64};
@@ -1609,7 +1609,7 @@ static PyObject *one_chinese_remainder_u64(const cell *a, uint32_t *status) {
         *status = r.status;
         return NULL;
     }
-    return object_of(class_solutions, 2, (PyObject *[]){PyLong_FromUnsignedLongLong(r.first), PyLong_FromUnsignedLongLong(r.step)});
+    return object_of(class_solutions, Py_BuildValue("(NN)", PyLong_FromUnsignedLongLong(r.first), PyLong_FromUnsignedLongLong(r.step)));
 }
 
 static const form form_chinese_remainder_u64 = {"QQQQ", one_chinese_remainder_u64};
@@ -2470,7 +2470,7 @@ static PyObject *one_iso_week(const cell *a, uint32_t *status) {
         *status = r.status;
         return NULL;
     }
-    return object_of(class_week, 2, (PyObject *[]){PyLong_FromLongLong(r.year), PyLong_FromLong(r.week)});
+    return object_of(class_week, Py_BuildValue("(NN)", PyLong_FromLongLong(r.year), PyLong_FromLong(r.week)));
 }
 
 static const form form_iso_week = {"qBB", one_iso_week};
@@ -3247,7 +3247,7 @@ static PyMethodDef methods[] = {
     "336\n"
     ">>> falling(2, 3)\n"
     "0\n"},
-    {"rank", (PyCFunction)(void (*)(void))py_rank, METH_FASTCALL,
+    {"rank", py_rank, METH_VARARGS,
     "rank($module, choice, n, /)\n"
     "--\n"
     "\n"
@@ -3259,7 +3259,7 @@ static PyMethodDef methods[] = {
     "\n"
     ">>> rank([0, 2, 3], 5)\n"
     "2\n"},
-    {"choice_of_rank", (PyCFunction)(void (*)(void))py_choice_of_rank, METH_FASTCALL,
+    {"choice_of_rank", py_choice_of_rank, METH_VARARGS,
     "choice_of_rank($module, rank, n, count, /)\n"
     "--\n"
     "\n"
@@ -3587,7 +3587,7 @@ static PyMethodDef methods[] = {
     "21\n"
     ">>> next_common_solution(0, 1, 2**62 + 1, 1, 2**62)\n"
     "1\n"},
-    {"next_common_solution_of", (PyCFunction)(void (*)(void))py_next_common_solution_of, METH_FASTCALL,
+    {"next_common_solution_of", py_next_common_solution_of, METH_VARARGS,
     "next_common_solution_of($module, start, congruences, /)\n"
     "--\n"
     "\n"
@@ -4389,12 +4389,36 @@ static PyMethodDef methods[] = {
     "\n"
     ">>> isqrt(99)\n"
     "9\n"},
-    {"_install", install, METH_O, NULL},
+    {"_install", install, METH_VARARGS, NULL},
     {NULL, NULL, 0, NULL},
 };
 
 static int execute(PyObject *module) {
-    return take_calls() != 0 || intern_names() != 0 || add_words(module, methods) != 0 ? -1 : 0;
+    return prepare(module, Py_BuildValue("[sssssssssssssssssssssssssssssssssssssssssssssssssssssssssssssssssssssssssssssssssssssssssssssssssssssssssssssssssssssss]",
+        "checked_sum", "checked_difference", "checked_product", "div_rem", "div_floor", "div_ceil",
+        "div_round", "div_round_even", "mod_floor", "div_mod_floor", "product_div_mod_floor",
+        "next_multiple_of", "prev_multiple_of", "is_multiple_of", "gcd", "lcm", "gcd_lcm",
+        "extended_gcd", "is_coprime", "reduced", "gcd_of", "lcm_of", "average_floor",
+        "average_ceil", "sqrt", "cbrt", "nth_root", "is_square", "is_power", "is_perfect_power",
+        "sqrt_rem", "ilog", "binomial", "multinomial", "factorial", "falling", "rank",
+        "choice_of_rank", "shares", "shares_by_largest_remainder", "pages", "place_of", "item_at",
+        "range_of_page", "range_of_part", "align_up", "padding", "residue", "negation_modulo",
+        "sum_modulo", "difference_modulo", "product_modulo", "power_modulo", "inverse_modulo",
+        "quotient_modulo", "solutions", "chinese_remainder", "next_congruent", "previous_congruent",
+        "count_congruent", "next_common_solution", "next_common_solution_of", "next_meeting",
+        "count_times", "fraction_new", "fraction_add", "fraction_sub", "fraction_mul",
+        "fraction_div", "fraction_recip", "fraction_neg", "fraction_abs", "fraction_pow",
+        "fraction_times", "fraction_cmp", "limit_denominator", "fraction_floor", "fraction_ceil",
+        "fraction_trunc", "fraction_fract", "fraction_round", "fraction_floor_times",
+        "fraction_ceil_times", "fraction_round_times", "fraction_floor_to", "fraction_ceil_to",
+        "fraction_round_to", "fraction_round_even_times", "fraction_round_even_to",
+        "fraction_to_decimal", "date_from_day", "day_from_date", "plus_days", "days_between",
+        "plus_months", "months_between", "years_between", "date_from_year_day", "iso_week",
+        "date_from_iso_week", "easter", "weekday", "weekday_of_date", "first_weekday_on_or_after",
+        "last_weekday_on_or_before", "nth_weekday_of_month", "last_weekday_of_month",
+        "is_leap_year", "days_in_year", "weeks_in_year", "days_in_month", "day_of_year",
+        "fraction_from_text", "date_from_text", "product_div_round", "product_div_round_even",
+        "sum_of", "comb", "isqrt"));
 }
 
 static PyModuleDef_Slot slots[] = {{Py_mod_exec, (void *)execute}, {0, NULL}};

@@ -1,13 +1,16 @@
 /* Runs the calls of calls.c for numbers. What is no number, such as an array, goes to a function of
  * the package. calls.c has a table of the calls and includes this file.
  *
- * A parameter is a number, a fraction or a date; its numbers are cells. A call has a form for signed
- * numbers, one for unsigned ones, or one form alone. */
+ * A parameter is a number, a fraction or a date; its numbers are cells. A call has a form for
+ * signed numbers, one for unsigned ones, or one form alone. */
 #define Py_LIMITED_API 0x03090000
 #define PY_SSIZE_T_CLEAN
 #include <Python.h>
 #include <stdbool.h>
+#include <stddef.h>
+#include <stdio.h>
 #include <string.h>
+#include <structmember.h>
 
 #include "cellarcove.h"
 
@@ -16,7 +19,7 @@
 #define METH_FASTCALL 0x0080
 #endif
 
-enum { MAX_PARAMETERS = 6, MAX_CELLS = 6, MAX_RESULTS = 4, MAX_PLACES = 18 };
+enum { MAX_PARAMETERS = 6, MAX_CELLS = 6 };
 
 /* The number of a cell. */
 typedef union {
@@ -36,113 +39,21 @@ typedef struct {
     const char *name;
     Py_ssize_t count;
     const char *names[MAX_PARAMETERS];
-    const char *shapes;         /* of the parameters: a number, a day of the week, a fraction or a date */
-    const bool *divides;        /* whether the call divides by the number of a cell */
-    const bool *follows;        /* whether a cell has the type of the form */
+    const char *shapes;  /* of the parameters: a number, a day of the week, a fraction or a date */
+    const bool *divides; /* whether the call divides by the number of a cell */
+    const bool *follows; /* whether a cell has the type of the form */
     const form *only, *forms_i64, *forms_u64;
 } call;
 
 /* What the package installs. */
 static PyObject *refusal, *out_of_range, *new_fraction, *new_decimal, *call_of_others, *items_of;
+static PyObject *add_others, *subtract_others, *class_tuple;
 static PyObject *class_date, *class_gcd, *class_solutions, *class_week, *class_weekday;
 static newfunc new_tuple;
-static allocfunc new_date;
-static PyObject *name_numerator, *name_denominator, *name_year, *name_month, *name_day, *name_value;
 
-/* ---- results ---- */
-
-/* Sets the items of a tuple, which are given away. It is false if there is no tuple, or not each item. */
-static bool fill(PyObject *tuple, Py_ssize_t count, PyObject **items) {
-    bool right = tuple != NULL;
-    for (Py_ssize_t k = 0; k < count; k++) {
-        if (items[k] == NULL || tuple == NULL) {
-            right = false;
-            Py_XDECREF(items[k]);
-        } else {
-            PyTuple_SetItem(tuple, k, items[k]);
-        }
-    }
-    return right;
-}
-
-/* A tuple of items that are given away. */
-static PyObject *tuple_of(Py_ssize_t count, PyObject **items) {
-    PyObject *tuple = PyTuple_New(count);
-    if (!fill(tuple, count, items)) {
-        Py_CLEAR(tuple);
-    }
-    return tuple;
-}
-
-/* The arguments of `tuple.__new__`, which are a tuple of so many items. Those of the call before are
- * filled again, as `zip` does, unless something else has them. */
-static PyObject *arguments(Py_ssize_t count) {
-    static PyObject *kept[MAX_RESULTS];
-    PyObject *args = kept[count];
-    if (args == NULL || Py_REFCNT(args) > 1 || Py_REFCNT(PyTuple_GetItem(args, 0)) > 1) {
-        PyObject *items = PyTuple_New(count);
-        args = tuple_of(1, &items);
-        Py_XDECREF(kept[count]);
-        kept[count] = args;
-    }
-    Py_XINCREF(args);
-    return args;
-}
-
-/* An object of a class whose base is a tuple, of items that are given away. */
-static PyObject *object_of(PyObject *class, Py_ssize_t count, PyObject **items) {
-    PyObject *args = arguments(count), *result = NULL;
-    if (fill(args == NULL ? NULL : PyTuple_GetItem(args, 0), count, items)) {
-        result = new_tuple((PyTypeObject *)class, args, NULL);
-    }
-    Py_XDECREF(args);
-    return result;
-}
-
-/* Sets an attribute of a date to an object that is given away, past the method that forbids it. */
-static bool set(PyObject *date, PyObject *name, PyObject *value) {
-    bool right = value != NULL && PyObject_GenericSetAttr(date, name, value) == 0;
-    Py_XDECREF(value);
-    return right;
-}
-
-static PyObject *date_of(cellarcove_date date) {
-    PyObject *result = new_date((PyTypeObject *)class_date, 0);
-    if (result != NULL && !(set(result, name_year, PyLong_FromLongLong(date.year)) &&
-                            set(result, name_month, PyLong_FromLong(date.month)) &&
-                            set(result, name_day, PyLong_FromLong(date.day_of_month)))) {
-        Py_CLEAR(result);
-    }
-    return result;
-}
-
-static PyObject *fraction_of(cellarcove_fraction fraction) {
-    PyObject *num = PyLong_FromLongLong(fraction.num), *den = PyLong_FromLongLong(fraction.den);
-    PyObject *result = NULL;
-    if (num != NULL && den != NULL) {
-        result = PyObject_CallFunctionObjArgs(new_fraction, num, den, NULL);
-    }
-    Py_XDECREF(num);
-    Py_XDECREF(den);
-    return result;
-}
-
-/* The decimal number of its sign, its integer part, and its digits after the point, which are `places`. */
-static PyObject *decimal_of(cellarcove_decimal_answer r, uint32_t places) {
-    char digits[MAX_PLACES + 1];
-    for (uint32_t k = places; k-- > 0; r.part /= 10) {
-        digits[k] = (char)('0' + r.part % 10);
-    }
-    digits[places] = '\0';
-    PyObject *text = PyUnicode_FromFormat("%s%llu.%s", r.is_negative ? "-" : "",
-                                          (unsigned long long)r.whole, digits);
-    PyObject *result = NULL;
-    if (text != NULL) {
-        result = PyObject_CallFunctionObjArgs(new_decimal, text, NULL);
-        Py_DECREF(text);
-    }
-    return result;
-}
+/* The names of the parts of an object that is a fraction, a date or a day of the week. */
+static const char *const parts[] = {"numerator", "denominator", "year", "month", "day", "value"};
+static PyObject *names_of_parts[6];
 
 /* ---- errors ---- */
 
@@ -157,54 +68,41 @@ static PyObject *raised(PyObject *error) {
 
 /* Raises the error for a status. */
 static PyObject *refused(uint32_t status, bool by_zero) {
-    return raised(PyObject_CallFunction(refusal, "IO", (unsigned)status, by_zero ? Py_True : Py_False));
+    return raised(
+        PyObject_CallFunction(refusal, "IO", (unsigned)status, by_zero ? Py_True : Py_False));
 }
 
 /* Raises that a number is out of the range of a type. */
-static int beyond(PyObject *number, char kind) {
-    raised(PyObject_CallFunction(out_of_range, "OC", number, (int)kind));
-    return -1;
+static PyObject *beyond(PyObject *number, char kind) {
+    return raised(PyObject_CallFunction(out_of_range, "OC", number, (int)kind));
 }
 
 /* ---- numbers ---- */
 
-/* Whether an object is an `int`. */
-static bool is_int(PyObject *object) { return Py_TYPE(object) == &PyLong_Type || PyLong_Check(object); }
-
 /* Whether an object is an integer, and no array, which may have `__index__` too. */
 static bool is_integer(PyObject *object) {
-    return is_int(object) || (PyIndex_Check(object) && !PySequence_Check(object));
+    return PyLong_Check(object) || (PyIndex_Check(object) && !PySequence_Check(object));
 }
 
-/* Reads an `int` above 2**63 - 1 into a cell. It is 1, or 2 if the number fits no 64 bits. */
-static int large(PyObject *number, cell *to) {
-    to->u = PyLong_AsUnsignedLongLong(number);
-    if (to->u == UINT64_MAX && PyErr_Occurred()) {
-        PyErr_Clear();
-        return 2;
-    }
-    return 1;
-}
-
-/* Reads an `int` into a cell. It is 1 if the number is above 2**63 - 1, and 2 if it fits no 64 bits. */
-static inline int read_int(PyObject *number, cell *to) {
-    int overflow;
-    to->i = PyLong_AsLongLongAndOverflow(number, &overflow);
-    return overflow == 0 ? 0 : overflow < 0 ? 2 : large(number, to);
-}
-
-/* Reads an integer as `read_int` does. It is -1 after an error. */
+/* Reads an integer into a cell. It is 1 if the number is above 2**63 - 1, 2 if it is 2**64 or
+ * above, 3 if it is below -2**63, and -1 after an error. */
 static inline int integer(PyObject *object, cell *to) {
-    if (Py_TYPE(object) == &PyLong_Type) {
-        return read_int(object, to);
-    }
-    PyObject *number = PyNumber_Index(object);
+    bool is_exact = Py_TYPE(object) == &PyLong_Type;
+    PyObject *number = is_exact ? object : PyNumber_Index(object);
+    int overflow;
     if (number == NULL) {
         return -1;
     }
-    int said = read_int(number, to);
-    Py_DECREF(number);
-    return said;
+    to->i = PyLong_AsLongLongAndOverflow(number, &overflow);
+    if (overflow > 0) {
+        to->u = PyLong_AsUnsignedLongLong(number);
+        overflow = PyErr_Occurred() ? 2 : 1;
+        PyErr_Clear();
+    }
+    if (!is_exact) {
+        Py_DECREF(number);
+    }
+    return overflow < 0 ? 3 : overflow;
 }
 
 static inline bool fits(const cell *number, int said, char kind) {
@@ -219,17 +117,162 @@ static inline bool fits(const cell *number, int said, char kind) {
 }
 
 /* Whether an integer that was read is negative. */
-static bool is_negative(PyObject *object, const cell *number, int said) {
-    if (said != 2) {
-        return said == 0 && number->i < 0;
+static inline bool is_negative(const cell *number, int said) {
+    return said == 3 || (said == 0 && number->i < 0);
+}
+
+/* ---- results ---- */
+
+/* An object of a class whose base is a tuple, of a tuple that is given away. */
+static PyObject *object_of(PyObject *class, PyObject *items) {
+    PyObject *args = items == NULL ? NULL : PyTuple_Pack(1, items), *result = NULL;
+    if (args != NULL) {
+        result = new_tuple((PyTypeObject *)class, args, NULL);
+        Py_DECREF(args);
     }
-    PyObject *integer = PyNumber_Index(object), *zero = PyLong_FromLong(0);
-    bool result = integer != NULL && zero != NULL && PyObject_RichCompareBool(integer, zero, Py_LT) == 1;
-    PyErr_Clear();
-    Py_XDECREF(integer);
-    Py_XDECREF(zero);
+    Py_XDECREF(items);
     return result;
 }
+
+static PyObject *fraction_of(cellarcove_fraction fraction) {
+    return PyObject_CallFunction(new_fraction, "LL", (long long)fraction.num,
+                                 (long long)fraction.den);
+}
+
+/* The decimal number of its sign, its integer part, and its digits after the point, which are
+ * `places`. If those are 0 there is no digit. */
+static PyObject *decimal_of(cellarcove_decimal_answer r, uint32_t places) {
+    char text[64];
+    snprintf(text, sizeof text, "%s%llu.%.*llu", r.is_negative ? "-" : "",
+             (unsigned long long)r.whole, (int)places, (unsigned long long)r.part);
+    return PyObject_CallFunction(new_decimal, "s", text);
+}
+
+/* ---- dates ---- */
+
+/* A date. The class of dates of the package is below that of `date_spec`. */
+typedef struct {
+    PyObject_HEAD
+    cellarcove_date date;
+} date_object;
+
+static PyObject *base_of_dates;
+
+static inline bool is_date(PyObject *object) {
+    return PyObject_TypeCheck(object, (PyTypeObject *)base_of_dates);
+}
+
+static inline cellarcove_date in(PyObject *date) { return ((date_object *)date)->date; }
+
+static PyObject *date_as(PyTypeObject *class, cellarcove_date date) {
+    PyObject *result = PyType_GenericAlloc(class, 0);
+    if (result != NULL) {
+        ((date_object *)result)->date = date;
+    }
+    return result;
+}
+
+static PyObject *date_of(cellarcove_date date) { return date_as((PyTypeObject *)class_date, date); }
+
+static PyObject *date_new(PyTypeObject *class, PyObject *args, PyObject *named) {
+    static char *names[] = {"year", "month", "day", NULL};
+    PyObject *given[3];
+    cell cells[3];
+    bool fit = true;
+    if (!PyArg_ParseTupleAndKeywords(args, named, "OOO:Date", names, &given[0], &given[1],
+                                     &given[2])) {
+        return NULL;
+    }
+    for (int k = 0; k < 3; k++) {
+        int said = integer(given[k], &cells[k]);
+        if (said < 0 || (k == 0 && said != 0)) {
+            return said < 0 ? NULL : beyond(given[k], 'q');
+        }
+        fit &= k == 0 || fits(&cells[k], said, 'B');
+    }
+    cellarcove_date date = {cells[0].i, (uint8_t)cells[1].u, (uint8_t)cells[2].u};
+    fit = fit && cellarcove_plus_days(date, 0).status == CELLARCOVE_ANSWER;
+    return fit ? date_as(class, date) : refused(CELLARCOVE_NO_DATE, false);
+}
+
+/* The date so many days later, or the error. */
+static PyObject *date_later(PyObject *date, int64_t days) {
+    cellarcove_date_answer r = cellarcove_plus_days(in(date), days);
+    return r.status == CELLARCOVE_ANSWER ? date_of(r.date) : refused(r.status, false);
+}
+
+/* Whether an object is an `int` that is a number of days, and no other one. */
+static bool is_days(PyObject *object, cell *days) {
+    return Py_TYPE(object) == &PyLong_Type && integer(object, days) == 0 && days->i != INT64_MIN;
+}
+
+/* `date + days` or `days + date`. */
+static PyObject *date_add(PyObject *a, PyObject *b) {
+    PyObject *date = is_date(a) ? a : b, *other = is_date(a) ? b : a;
+    cell days;
+    return is_days(other, &days) ? date_later(date, days.i)
+                                 : PyObject_CallFunctionObjArgs(add_others, date, other, NULL);
+}
+
+/* `date - date` or `date - days`. */
+static PyObject *date_subtract(PyObject *a, PyObject *b) {
+    cell days;
+    if (is_date(a) && is_days(b, &days)) {
+        return date_later(a, -days.i);
+    }
+    if (!is_date(a) || !is_date(b)) {
+        return PyObject_CallFunctionObjArgs(subtract_others, a, b, NULL);
+    }
+    cellarcove_i64_answer r = cellarcove_days_between(in(b), in(a));
+    return r.status == CELLARCOVE_ANSWER ? PyLong_FromLongLong(r.value) : refused(r.status, false);
+}
+
+/* The order of dates is that of their years, and then of their days. */
+static PyObject *date_compare(PyObject *object, PyObject *other, int operator) {
+    if (!is_date(other)) {
+        Py_RETURN_NOTIMPLEMENTED;
+    }
+    cellarcove_date a = in(object), b = in(other);
+    int days = (a.month - b.month) * 32 + a.day_of_month - b.day_of_month;
+    int order = a.year != b.year ? (a.year < b.year ? -1 : 1) : days;
+    Py_RETURN_RICHCOMPARE(order, 0, operator);
+}
+
+static Py_hash_t date_hash(PyObject *date) {
+    uint64_t days = (uint64_t)in(date).year * 512 + in(date).month * 32U + in(date).day_of_month;
+    return (Py_hash_t)days == -1 ? -2 : (Py_hash_t)days;
+}
+
+static PyObject *date_text(PyObject *object) {
+    cellarcove_date date = in(object);
+    char text[64];
+    bool is_near = 0 <= date.year && date.year <= 9999;
+    snprintf(text, sizeof text, is_near ? "%04lld-%02d-%02d" : "%+05lld-%02d-%02d",
+             (long long)date.year, date.month, date.day_of_month);
+    return PyUnicode_FromString(text);
+}
+
+static PyMemberDef date_members[] = {
+    {"year", T_LONGLONG, offsetof(date_object, date.year), READONLY, NULL},
+    {"month", T_UBYTE, offsetof(date_object, date.month), READONLY, NULL},
+    {"day", T_UBYTE, offsetof(date_object, date.day_of_month), READONLY, NULL},
+    {NULL, 0, 0, 0, NULL},
+};
+
+static PyType_Slot date_slots[] = {
+    {Py_tp_doc, "_BaseDate(year, month, day)\n--\n\n"},
+    {Py_tp_members, date_members},
+    {Py_tp_new, (void *)date_new},
+    {Py_tp_richcompare, (void *)date_compare},
+    {Py_tp_hash, (void *)date_hash},
+    {Py_tp_str, (void *)date_text},
+    {Py_nb_add, (void *)date_add},
+    {Py_nb_subtract, (void *)date_subtract},
+    {0, NULL},
+};
+
+static PyType_Spec date_spec = {"cellarcove._calls._BaseDate", sizeof(date_object), 0,
+                                Py_TPFLAGS_DEFAULT | Py_TPFLAGS_BASETYPE, date_slots};
 
 /* ---- calls of numbers ---- */
 
@@ -242,29 +285,29 @@ static Py_ssize_t misfit(const form *f, const cell *cells, const int *said, Py_s
     return k;
 }
 
-/* Runs a call of numbers. If no number is negative it is the unsigned form, and the signed one if the
- * result of that does not fit, as a negative one does not. */
-static PyObject *run_one(const call *c, PyObject *const *objects, Py_ssize_t count) {
-    cell cells[MAX_CELLS];
+/* Runs a call of numbers: those of the objects, or of the cells where there is none. If no number
+ * is negative it is the unsigned form, and the signed one if the result of that does not fit, as a
+ * negative one does not. */
+static PyObject *run_one(const call *c, PyObject *const *objects, cell *cells, Py_ssize_t count) {
     int said[MAX_CELLS];
     bool negative = false, by_zero = false;
     for (Py_ssize_t k = 0; k < count; k++) {
-        said[k] = integer(objects[k], &cells[k]);
+        said[k] = objects[k] == NULL ? 0 : integer(objects[k], &cells[k]);
         if (said[k] < 0) {
             return NULL;
         }
-        negative |= c->follows[k] && is_negative(objects[k], &cells[k], said[k]);
+        negative |= c->follows[k] && is_negative(&cells[k], said[k]);
         by_zero |= c->divides[k] && said[k] == 0 && cells[k].i == 0;
     }
     const form *f = c->only != NULL ? c->only : negative ? c->forms_i64 : c->forms_u64;
     Py_ssize_t place = misfit(f, cells, said, count);
     if (place < count) {
-        beyond(objects[place], f->cells[place]);
-        return NULL;
+        return beyond(objects[place], f->cells[place]);
     }
     uint32_t status = 0;
     PyObject *result = f->one(cells, &status);
-    if (status == CELLARCOVE_NOT_FITTING && f == c->forms_u64 && misfit(c->forms_i64, cells, said, count) == count) {
+    if (status == CELLARCOVE_NOT_FITTING && f == c->forms_u64 &&
+        misfit(c->forms_i64, cells, said, count) == count) {
         status = 0;
         result = c->forms_i64->one(cells, &status);
     }
@@ -272,146 +315,161 @@ static PyObject *run_one(const call *c, PyObject *const *objects, Py_ssize_t cou
 }
 
 /* Binds a named argument to its parameter, or adds it to the others. */
-static int bind_name(const call *c, PyObject *name, PyObject *value, PyObject **bound, PyObject **others) {
+static bool bind_name(const call *c, PyObject *name, PyObject *value, PyObject **bound,
+                      PyObject **others) {
     Py_ssize_t p = 0;
     while (p < c->count && PyUnicode_CompareWithASCIIString(name, c->names[p]) != 0) {
         p++;
     }
     if (p < c->count && bound[p] != NULL) {
         PyErr_Format(PyExc_TypeError, "%s() was given %U twice", c->name, name);
-        return -1;
+        return false;
     }
     if (p < c->count) {
         bound[p] = value;
-        return 0;
+        return true;
     }
     if (*others == NULL) {
         *others = PyDict_New();
     }
-    return *others == NULL ? -1 : PyDict_SetItem(*others, name, value);
+    return *others != NULL && PyDict_SetItem(*others, name, value) == 0;
 }
 
-/* The arguments of a call in the order of its parameters, which are borrowed, and the other named ones. */
-static int bind(const call *c, PyObject *const *args, Py_ssize_t count, PyObject *names, PyObject **bound,
-                PyObject **others) {
-    Py_ssize_t keywords = names == NULL ? 0 : PyTuple_Size(names);
+/* The arguments of a call in the order of its parameters, which are borrowed, and the other named
+ * ones. It is false after an error. */
+static bool bind(const call *c, PyObject *const *args, Py_ssize_t count, PyObject *names,
+                 PyObject **bound, PyObject **others) {
+    Py_ssize_t keywords = names == NULL ? 0 : PyTuple_Size(names), p = 0;
     if (count > c->count) {
-        PyErr_Format(PyExc_TypeError, "%s() takes %zd arguments and was given %zd", c->name, c->count, count);
-        return -1;
+        PyErr_Format(PyExc_TypeError, "%s() takes %zd arguments and was given %zd", c->name,
+                     c->count, count);
+        return false;
     }
-    for (Py_ssize_t p = 0; p < c->count; p++) {
+    for (; p < c->count; p++) {
         bound[p] = p < count ? args[p] : NULL;
     }
     for (Py_ssize_t k = 0; k < keywords; k++) {
-        if (bind_name(c, PyTuple_GetItem(names, k), args[count + k], bound, others) != 0) {
-            return -1;
-        }
-    }
-    for (Py_ssize_t p = 0; p < c->count; p++) {
-        if (bound[p] == NULL) {
-            PyErr_Format(PyExc_TypeError, "%s() was given no %s", c->name, c->names[p]);
-            return -1;
-        }
-    }
-    return 0;
-}
-
-static void release(PyObject **objects, Py_ssize_t count) {
-    while (count > 0) {
-        Py_DECREF(objects[--count]);
-    }
-}
-
-/* The integers of a fraction or a date, which are owned: those of a tuple, or of the attributes of
- * another object. It is false if there are none, and perhaps after an error. */
-static bool parts(PyObject *object, char shape, PyObject **cells) {
-    PyObject *const names[2][3] = {{name_numerator, name_denominator, NULL}, {name_year, name_month, name_day}};
-    Py_ssize_t count = shape == 'f' ? 2 : 3;
-    bool is_tuple = PyTuple_Check(object);
-    if (is_tuple && PyTuple_Size(object) != count) {
-        return false;
-    }
-    for (Py_ssize_t k = 0; k < count; k++) {
-        cells[k] = is_tuple ? PyTuple_GetItem(object, k) : PyObject_GetAttr(object, names[shape != 'f'][k]);
-        if (is_tuple) {
-            Py_INCREF(cells[k]);
-        }
-        if (cells[k] == NULL || !is_integer(cells[k])) {
-            release(cells, k + (cells[k] != NULL));
+        if (!bind_name(c, PyTuple_GetItem(names, k), args[count + k], bound, others)) {
             return false;
         }
+    }
+    for (p = 0; p < c->count && bound[p] != NULL; p++) {
+    }
+    if (p < c->count) {
+        PyErr_Format(PyExc_TypeError, "%s() was given no %s", c->name, c->names[p]);
+    }
+    return p == c->count;
+}
+
+/* The numbers of a call: objects, which are owned, or NULL for one that is in its cell. */
+typedef struct {
+    PyObject *objects[MAX_CELLS];
+    cell cells[MAX_CELLS];
+    Py_ssize_t count;
+} numbers;
+
+/* Adds an integer, which is given away. It is false if it is none. */
+static bool add(numbers *to, PyObject *object) {
+    if (object == NULL || !is_integer(object)) {
+        Py_XDECREF(object);
+        return false;
+    }
+    to->objects[to->count++] = object;
+    return true;
+}
+
+static bool add_date(numbers *to, cellarcove_date date) {
+    const int64_t cells[3] = {date.year, date.month, date.day_of_month};
+    for (int k = 0; k < 3; k++) {
+        to->cells[to->count].i = cells[k];
+        to->objects[to->count++] = NULL;
     }
     return true;
 }
 
-/* The objects of the cells, which are owned, and how many there are. It is -1 if a parameter is not
- * made of integers, and perhaps after an error. */
-static Py_ssize_t cells_of(const call *c, PyObject *const *bound, PyObject **objects) {
-    Py_ssize_t cells = 0;
-    for (Py_ssize_t p = 0; p < c->count; p++) {
-        char shape = c->shapes[p];
-        bool named = shape == 'w' && (PyObject *)Py_TYPE(bound[p]) == class_weekday;
-        if (named || shape == 'n' || shape == 'w') {
-            objects[cells] = named ? PyObject_GetAttr(bound[p], name_value) : is_integer(bound[p]) ? bound[p] : NULL;
-            if (objects[cells] == NULL) {
-                release(objects, cells);
-                return -1;
-            }
-            if (!named) {
-                Py_INCREF(objects[cells]);
-            }
-            cells += 1;
-        } else if (parts(bound[p], shape, &objects[cells])) {
-            cells += shape == 'f' ? 2 : 3;
-        } else {
-            release(objects, cells);
-            return -1;
+/* Adds the integers of a tuple, or of the attributes of another object. It is false if there are
+ * none, and perhaps after an error. */
+static bool add_parts(numbers *to, PyObject *object, PyObject *const *names, Py_ssize_t count) {
+    bool is_tuple = PyTuple_Check(object), right = !is_tuple || PyTuple_Size(object) == count;
+    for (Py_ssize_t k = 0; right && k < count; k++) {
+        PyObject *part = is_tuple ? PyTuple_GetItem(object, k) : PyObject_GetAttr(object, names[k]);
+        if (is_tuple) {
+            Py_INCREF(part);
         }
+        right = add(to, part);
     }
-    return cells;
+    return right;
+}
+
+/* Adds the numbers of an argument. It is false if it is not made of integers, and perhaps after an
+ * error. */
+static bool add_argument(numbers *to, PyObject *object, char shape) {
+    if (shape == 'd' && is_date(object)) {
+        return add_date(to, in(object));
+    }
+    switch (shape) {
+    case 'f': return add_parts(to, object, &names_of_parts[0], 2);
+    case 'd': return add_parts(to, object, &names_of_parts[2], 3);
+    default:
+        if (shape == 'w' && (PyObject *)Py_TYPE(object) == class_weekday) {
+            return add_parts(to, object, &names_of_parts[5], 1);
+        }
+        Py_INCREF(object);
+        return add(to, object);
+    }
+}
+
+/* Adds those of all arguments. */
+static bool add_arguments(numbers *to, const call *c, PyObject *const *bound) {
+    Py_ssize_t p = 0;
+    while (p < c->count && add_argument(to, bound[p], c->shapes[p])) {
+        p++;
+    }
+    return p == c->count;
 }
 
 /* Whether the arguments are one `int` for each parameter, in their order. */
 static bool are_ints(const call *c, PyObject *const *args, Py_ssize_t count, PyObject *names) {
+    Py_ssize_t p = 0;
     if (names != NULL || count != c->count) {
         return false;
     }
-    for (Py_ssize_t p = 0; p < count; p++) {
-        if (strchr("nw", c->shapes[p]) == NULL || Py_TYPE(args[p]) != &PyLong_Type) {
-            return false;
-        }
+    while (p < count && (c->shapes[p] == 'n' || c->shapes[p] == 'w') &&
+           Py_TYPE(args[p]) == &PyLong_Type) {
+        p++;
     }
-    return true;
+    return p == count;
 }
 
 /* The call by the package, which takes what is no number. */
 static PyObject *run_others(const call *c, PyObject *const *bound, PyObject *others) {
-    PyObject *arguments = PyTuple_New(c->count), *result = NULL;
-    for (Py_ssize_t p = 0; arguments != NULL && p < c->count; p++) {
+    PyObject *given = PyTuple_New(c->count);
+    for (Py_ssize_t p = 0; given != NULL && p < c->count; p++) {
         Py_INCREF(bound[p]);
-        PyTuple_SetItem(arguments, p, bound[p]);
+        PyTuple_SetItem(given, p, bound[p]);
     }
-    if (arguments != NULL) {
-        result = PyObject_CallFunction(call_of_others, "sOO", c->name, arguments, others == NULL ? Py_None : others);
-        Py_DECREF(arguments);
-    }
-    return result;
+    others = others == NULL ? Py_None : others;
+    return given == NULL ? NULL
+                         : PyObject_CallFunction(call_of_others, "sNO", c->name, given, others);
 }
 
 static PyObject *run(const call *c, PyObject *const *args, Py_ssize_t count, PyObject *names) {
-    PyObject *bound[MAX_PARAMETERS], *objects[MAX_CELLS] = {NULL}, *others = NULL, *result = NULL;
+    PyObject *bound[MAX_PARAMETERS], *others = NULL, *result = NULL;
+    numbers found;
+    found.count = 0;
     if (are_ints(c, args, count, names)) {
-        return run_one(c, args, count);
+        return run_one(c, args, found.cells, count);
     }
-    if (bind(c, args, count, names, bound, &others) == 0) {
-        Py_ssize_t cells = others == NULL ? cells_of(c, bound, objects) : -1;
-        if (cells >= 0) {
-            result = run_one(c, objects, cells);
-            release(objects, cells);
+    if (bind(c, args, count, names, bound, &others)) {
+        if (others == NULL && add_arguments(&found, c, bound)) {
+            result = run_one(c, found.objects, found.cells, found.count);
         } else if (!PyErr_Occurred() || PyErr_ExceptionMatches(PyExc_AttributeError)) {
             PyErr_Clear();
             result = run_others(c, bound, others);
         }
+    }
+    while (found.count > 0) {
+        Py_XDECREF(found.objects[--found.count]);
     }
     Py_XDECREF(others);
     return result;
@@ -421,46 +479,47 @@ static PyObject *run(const call *c, PyObject *const *args, Py_ssize_t count, PyO
 
 /* The items of a list. */
 typedef struct {
-    cell *copy;         /* those of an iterable, or NULL */
-    PyObject *bytes;    /* those of an array, or NULL */
+    cell *copy;      /* those of an iterable, or NULL */
+    PyObject *bytes; /* those of an array, or NULL */
     const void *items;
     Py_ssize_t count;
-    Py_ssize_t width;   /* of an item: a number, or a residue and a modulus */
+    Py_ssize_t width; /* of an item: a number, or a residue and a modulus */
     bool is_signed;
 } list;
+
+/* Room for so many numbers. */
+static void *room_for(uint64_t count) {
+    void *room = NULL;
+    if (count < PY_SSIZE_T_MAX / sizeof(cell)) {
+        room = PyMem_Malloc((size_t)(count + 1) * sizeof(cell));
+    }
+    return room == NULL ? PyErr_NoMemory() : room;
+}
 
 static void free_list(list *of) {
     PyMem_Free(of->copy);
     Py_XDECREF(of->bytes);
 }
 
-/* Copies the `int`s of a list. They are signed if one of them is negative, or a number beside the list. */
-static bool copy_list(PyObject *objects, bool has_signed, bool negative, list *to) {
-    Py_ssize_t count = PyList_Size(objects), k = 0;
-    to->copy = PyMem_Malloc(((size_t)count + 1) * (sizeof *to->copy + 1));
-    if (to->copy == NULL) {
-        PyErr_NoMemory();
-        return false;
-    }
-    signed char *said = (signed char *)(to->copy + count + 1);
-    for (; k < count; k++) {
+/* Copies the integers of a list, as signed numbers or as unsigned ones. If one is negative, and
+ * there is a form for signed numbers, it begins again. It is false after an error. */
+static bool copy_list(PyObject *objects, bool has_signed, list *to) {
+    Py_ssize_t count = PyList_Size(objects);
+    to->copy = room_for((uint64_t)count);
+    for (Py_ssize_t k = 0; to->copy != NULL && k < count; k++) {
         PyObject *number = PyList_GetItem(objects, k);
-        said[k] = (signed char)integer(number, &to->copy[k]);
-        if (said[k] < 0) {
-            return false;
-        }
-        negative |= is_negative(number, &to->copy[k], said[k]);
-    }
-    to->is_signed = has_signed && negative;
-    for (k = 0; k < count; k++) {
+        int said = integer(number, &to->copy[k]);
         char kind = to->is_signed ? 'q' : 'Q';
-        if (!fits(&to->copy[k], said[k], kind)) {
-            return beyond(PyList_GetItem(objects, k), kind) == 0;
+        if (has_signed && !to->is_signed && is_negative(&to->copy[k], said)) {
+            to->is_signed = true;
+            k = -1;
+        } else if (said < 0 || (!fits(&to->copy[k], said, kind) && beyond(number, kind) == NULL)) {
+            return false;
         }
     }
     to->items = to->copy;
     to->count = count / to->width;
-    return true;
+    return to->copy != NULL;
 }
 
 static bool are_exact_ints(PyObject *object) {
@@ -473,66 +532,53 @@ static bool are_exact_ints(PyObject *object) {
 
 /* Takes the items of a list. The package makes them of what is no list of numbers: a list, or of an
  * array a pair of its bytes and of whether they are signed. */
-static bool take_list(PyObject *object, const char *name, bool has_signed, bool negative, list *to) {
+static bool take_list(const char *name, PyObject *object, bool has_signed, list *to) {
     PyObject *made = object;
     if (to->width == 1 && are_exact_ints(object)) {
         Py_INCREF(made);
     } else {
-        made = PyObject_CallFunction(items_of, "sOnO", name, object, to->width, has_signed ? Py_True : Py_False);
+        made = PyObject_CallFunction(items_of, "sOnO", name, object, to->width,
+                                     has_signed ? Py_True : Py_False);
     }
-    bool is_array = made != NULL && PyTuple_Check(made), right = made != NULL;
-    if (is_array) {
+    if (made != NULL && PyTuple_Check(made)) {
         to->bytes = PyTuple_GetItem(made, 0);
         Py_INCREF(to->bytes);
         to->items = PyBytes_AsString(to->bytes);
         to->count = PyBytes_Size(to->bytes) / (Py_ssize_t)sizeof(cell);
         to->is_signed = PyTuple_GetItem(made, 1) == Py_True;
-    } else if (made != NULL) {
-        right = copy_list(made, has_signed, negative, to);
+    } else if (made == NULL || !copy_list(made, has_signed, to)) {
+        free_list(to);
+        Py_CLEAR(made);
     }
     Py_XDECREF(made);
-    if (!right) {
-        free_list(to);
-    }
-    return right;
+    return made != NULL;
 }
 
-/* Whether a call is given as many arguments as it has parameters. */
-static bool has_count(const char *name, Py_ssize_t given, Py_ssize_t count) {
-    if (given != count) {
-        PyErr_Format(PyExc_TypeError, "%s() takes %zd arguments, and %zd were given", name, count, given);
-    }
-    return given == count;
-}
-
-/* Reads the list of a call, which is the argument at a place, and the one number that may be beside it. */
-static bool read_list(const char *name, PyObject *const *args, Py_ssize_t given, Py_ssize_t count,
-                      Py_ssize_t place, Py_ssize_t width, bool has_signed, list *to, cell *other) {
-    PyObject *number = count > 1 && given == count ? args[1 - place] : NULL;
-    int said = 0;
+/* Reads the list of a call, and the number that may be beside it. Without one it is NULL. */
+static bool read_list(const char *name, PyObject *object, PyObject *number, Py_ssize_t width,
+                      bool has_signed, list *to, cell *other) {
+    int said = number == NULL ? 0 : integer(number, other);
     *to = (list){.width = width};
-    if (!has_count(name, given, count)) {
+    if (said < 0) {
         return false;
     }
-    if (number != NULL && (said = integer(number, other)) < 0) {
-        return false;
-    }
-    bool negative = number != NULL && is_negative(number, other, said);
-    if (!take_list(args[place], name, has_signed, negative, to)) {
+    to->is_signed = has_signed && number != NULL && is_negative(other, said);
+    if (!take_list(name, object, has_signed, to)) {
         return false;
     }
     char kind = to->is_signed ? 'q' : 'Q';
-    if (number != NULL && !fits(other, said, kind)) {
+    bool fit = number == NULL || fits(other, said, kind) || beyond(number, kind) != NULL;
+    if (!fit) {
         free_list(to);
-        return beyond(number, kind) == 0;
     }
-    return true;
+    return fit;
 }
 
-/* The result of a call with a list, which is freed: the object, which is given away, or the error for a status. */
+/* The result of a call with a list, which is freed: the object, which is given away, or the error
+ * for a status. */
 static PyObject *of_list(list *of, uint32_t status, PyObject *result) {
     bool by_zero = false;
-    for (Py_ssize_t k = 1; k < of->count * of->width && of->width > 1; k += of->width) {
+    for (Py_ssize_t k = 1; of->width > 1 && k < of->count * of->width; k += of->width) {
         by_zero |= of->copy[k].u == 0;
     }
     free_list(of);
@@ -544,39 +590,33 @@ static PyObject *of_list(list *of, uint32_t status, PyObject *result) {
 }
 
 /* A call of two numbers with another count of them: that of a list. */
-static PyObject *of_any_count(PyObject *(*of)(PyObject *, PyObject *), const char *name, PyObject *const *args, Py_ssize_t count,
-                              PyObject *names) {
+static PyObject *of_any_count(PyCFunction of, const char *name, PyObject *const *args,
+                              Py_ssize_t count, PyObject *names) {
     if (names != NULL) {
-        PyErr_Format(PyExc_TypeError, "%s() takes %U with two arrays", name, PyTuple_GetItem(names, 0));
-        return NULL;
+        return PyErr_Format(PyExc_TypeError, "%s() takes two arrays with names", name);
     }
-    PyObject *numbers = PyList_New(0), *result = NULL;
+    PyObject *numbers = PyList_New(count);
     for (Py_ssize_t k = 0; numbers != NULL && k < count; k++) {
         if (PySequence_Check(args[k])) {
-            PyErr_Format(PyExc_TypeError, "%s() takes arrays two at a time, and %zd arguments were given", name, count);
+            PyErr_Format(PyExc_TypeError, "%s() takes arrays two at a time, and not %zd", name,
+                         count);
             Py_CLEAR(numbers);
-        } else if (PyList_Append(numbers, args[k]) != 0) {
-            Py_CLEAR(numbers);
+        } else {
+            Py_INCREF(args[k]);
+            PyList_SetItem(numbers, k, args[k]);
         }
     }
-    if (numbers != NULL) {
-        result = of(NULL, numbers);
-        Py_DECREF(numbers);
-    }
+    PyObject *result = numbers == NULL ? NULL : of(NULL, numbers);
+    Py_XDECREF(numbers);
     return result;
 }
 
 /* ---- numbers that a call writes ---- */
 
-/* Reads the arguments of a call, which are unsigned numbers. */
-static bool unsigned_numbers(const char *name, PyObject *const *args, Py_ssize_t given, Py_ssize_t count, cell *numbers) {
-    for (Py_ssize_t k = 0; has_count(name, given, count) && k < count; k++) {
-        int said = integer(args[k], &numbers[k]);
-        if (said < 0 || (!fits(&numbers[k], said, 'Q') && beyond(args[k], 'Q') != 0)) {
-            return false;
-        }
-    }
-    return given == count;
+/* Reads an unsigned number into a cell, for `PyArg_ParseTuple`. */
+static int read_unsigned(PyObject *object, void *to) {
+    int said = integer(object, to);
+    return said >= 0 && (fits(to, said, 'Q') || beyond(object, 'Q') != NULL);
 }
 
 /* Whether a number is below the binomial coefficient, which may not fit. */
@@ -585,60 +625,58 @@ static bool is_below_binomial(uint64_t number, uint64_t n, uint64_t k) {
     return ways.status != CELLARCOVE_ANSWER || number < ways.value;
 }
 
-/* Room for so many numbers. */
-static uint64_t *room_for(uint64_t count) {
-    uint64_t *room = count < PY_SSIZE_T_MAX / sizeof *room ? PyMem_Malloc((size_t)(count + 1) * sizeof *room) : NULL;
-    if (room == NULL) {
-        PyErr_NoMemory();
-    }
-    return room;
-}
-
-static PyObject *tuple_of_numbers(const uint64_t *numbers, Py_ssize_t count, bool is_signed) {
+static PyObject *tuple_of(const cell *numbers, Py_ssize_t count, bool is_signed) {
     PyObject *tuple = PyTuple_New(count);
     for (Py_ssize_t k = 0; tuple != NULL && k < count; k++) {
-        PyObject *number = is_signed ? PyLong_FromLongLong(((const int64_t *)numbers)[k]) : PyLong_FromUnsignedLongLong(numbers[k]);
-        if (number == NULL) {
+        PyObject *number = is_signed ? PyLong_FromLongLong(numbers[k].i)
+                                     : PyLong_FromUnsignedLongLong(numbers[k].u);
+        if (number == NULL || PyTuple_SetItem(tuple, k, number) != 0) {
             Py_CLEAR(tuple);
-        } else {
-            PyTuple_SetItem(tuple, k, number);
         }
     }
     return tuple;
 }
 
-/* A call that writes a part of a number for each item of a list of weights, or the call by the package,
- * which takes arrays. It has a form for a negative number, or none. */
+/* A tuple of the numbers that a call has written, which are freed, or the error for a status. */
+static PyObject *written(cell *numbers, uint64_t count, uint32_t status, bool is_signed) {
+    PyObject *result = status == CELLARCOVE_ANSWER ? tuple_of(numbers, (Py_ssize_t)count, is_signed)
+                                                   : refused(status, false);
+    PyMem_Free(numbers);
+    return result;
+}
+
+typedef uint32_t by_signed(int64_t, const uint64_t *, size_t, int64_t *, size_t);
+typedef uint32_t by_unsigned(uint64_t, const uint64_t *, size_t, uint64_t *, size_t);
+
+/* A call that writes a part of a number for each item of a list of weights, or the call by the
+ * package, which takes arrays. It has a form for a negative number, or none. */
 static PyObject *divided(const call *c, PyObject *const *args, Py_ssize_t given, PyObject *names,
-                         uint32_t (*of_signed)(int64_t, const uint64_t *, size_t, int64_t *, size_t),
-                         uint32_t (*of_unsigned)(uint64_t, const uint64_t *, size_t, uint64_t *, size_t)) {
+                         by_signed *of_signed, by_unsigned *of_unsigned) {
     PyObject *bound[MAX_PARAMETERS], *others = NULL, *result = NULL;
     list of = {.width = 1};
     cell amount;
-    if (bind(c, args, given, names, bound, &others) != 0) {
-        Py_XDECREF(others);
-        return NULL;
-    }
-    int said = others == NULL && is_integer(bound[0]) ? integer(bound[0], &amount) : 2;
-    bool negative = is_negative(bound[0], &amount, said);
-    if (others != NULL || !fits(&amount, said, negative && of_signed != NULL ? 'q' : 'Q') || !are_exact_ints(bound[1])) {
-        result = PyErr_Occurred() ? NULL : run_others(c, bound, others);
+    bool right = bind(c, args, given, names, bound, &others);
+    bool quick =
+        right && others == NULL && Py_TYPE(bound[0]) == &PyLong_Type && are_exact_ints(bound[1]);
+    int said = quick ? integer(bound[0], &amount) : 2;
+    bool negative = is_negative(&amount, said);
+    if (!fits(&amount, said, negative && of_signed != NULL ? 'q' : 'Q')) {
+        result = right ? run_others(c, bound, others) : NULL;
         Py_XDECREF(others);
         return result;
     }
-    if (!take_list(bound[1], c->name, false, false, &of)) {
+    if (!take_list(c->name, bound[1], false, &of)) {
         return NULL;
     }
     size_t count = (size_t)of.count;
-    uint64_t *parts = room_for(count);
+    cell *parts = room_for(count);
     if (parts != NULL) {
         uint32_t status;
         Py_BEGIN_ALLOW_THREADS
-        status = negative ? of_signed(amount.i, of.items, count, (int64_t *)parts, count)
-                          : of_unsigned(amount.u, of.items, count, parts, count);
+        status = negative ? of_signed(amount.i, of.items, count, &parts->i, count)
+                          : of_unsigned(amount.u, of.items, count, &parts->u, count);
         Py_END_ALLOW_THREADS
-        result = status == CELLARCOVE_ANSWER ? tuple_of_numbers(parts, of.count, negative) : refused(status, false);
-        PyMem_Free(parts);
+        result = written(parts, count, status, negative);
     }
     free_list(&of);
     return result;
@@ -646,96 +684,66 @@ static PyObject *divided(const call *c, PyObject *const *args, Py_ssize_t given,
 
 /* ---- texts ---- */
 
-/* The bytes of a text in UTF-8, which are owned. */
-static PyObject *bytes_of(const char *name, PyObject *text, const char **bytes, size_t *count) {
+/* Reads a text. It is false after an error. */
+static bool read_text(const char *name, PyObject *text, const char **bytes, Py_ssize_t *count) {
     if (!PyUnicode_Check(text)) {
         PyErr_Format(PyExc_TypeError, "%s() takes a str", name);
-        return NULL;
+        return false;
     }
-    PyObject *encoded = PyUnicode_AsUTF8String(text);
-    if (encoded != NULL) {
-        *bytes = PyBytes_AsString(encoded);
-        *count = (size_t)PyBytes_Size(encoded);
-    }
-    return encoded;
+    return PyArg_Parse(text, "s#", bytes, count);
 }
 
 /* ---- the module ---- */
 
-static int keep(PyObject *from, const char *name, PyObject **to) {
-    PyObject *object = PyDict_GetItemString(from, name);
-    if (object == NULL) {
-        PyErr_Format(PyExc_KeyError, "%s", name);
-        return -1;
-    }
-    Py_INCREF(object);
-    Py_XDECREF(*to);
-    *to = object;
-    return 0;
-}
-
-/* Says that the calls are taken, if they are: the objects that they keep are those of one life of one
- * interpreter. That one has a mark in its dictionary. */
+/* Says that the calls are taken, if they are: the objects that they keep are those of one life of
+ * one interpreter. That one has a mark in its dictionary. */
 static int take_calls(void) {
     static bool taken;
     PyObject *marks = PyInterpreterState_GetDict(PyInterpreterState_Get());
     if (marks == NULL || (taken && PyDict_GetItemString(marks, "cellarcove") == NULL)) {
-        PyErr_SetString(PyExc_ImportError, "another interpreter of this process has imported cellarcove");
+        PyErr_SetString(PyExc_ImportError,
+                        "another interpreter of this process has imported cellarcove");
         return -1;
     }
     taken = true;
     return PyDict_SetItemString(marks, "cellarcove", Py_True);
 }
 
-/* Installs the classes of the package, from a dictionary. */
-static PyObject *install(PyObject *module, PyObject *from) {
+/* Keeps what the package installs, which is the tuple of the arguments. */
+static PyObject *install(PyObject *module, PyObject *args) {
+    static PyObject *kept;
     (void)module;
-    if (!PyDict_Check(from)) {
-        PyErr_SetString(PyExc_TypeError, "no dictionary");
+    if (!PyArg_ParseTuple(args, "OOOOOOOOOOOOOO", &refusal, &out_of_range, &call_of_others,
+                          &items_of, &add_others, &subtract_others, &new_fraction, &new_decimal,
+                          &class_tuple, &class_date, &class_gcd, &class_solutions, &class_week,
+                          &class_weekday)) {
         return NULL;
     }
-    static PyObject *class_tuple;
-    if (keep(from, "refusal", &refusal) || keep(from, "out_of_range", &out_of_range) ||
-        keep(from, "call", &call_of_others) || keep(from, "items", &items_of) ||
-        keep(from, "Fraction", &new_fraction) || keep(from, "Decimal", &new_decimal) ||
-        keep(from, "Tuple", &class_tuple) || keep(from, "Date", &class_date) ||
-        keep(from, "ExtendedGcd", &class_gcd) || keep(from, "Solutions", &class_solutions) ||
-        keep(from, "IsoWeek", &class_week) || keep(from, "Weekday", &class_weekday)) {
-        return NULL;
-    }
-    /* `tuple.__new__` without its test of the class, and how a date gets its memory. The stable ABI of
-     * 3.9 gives the slots of classes that Python makes. */
+    Py_INCREF(args);
+    Py_XDECREF(kept);
+    kept = args;
+    /* `tuple.__new__` without its test of the class. The stable ABI of 3.9 gives the slots of
+     * classes that Python makes. */
     void *slot = PyType_GetSlot((PyTypeObject *)class_tuple, Py_tp_new);
     memcpy(&new_tuple, &slot, sizeof slot);
-    slot = PyType_GetSlot((PyTypeObject *)class_date, Py_tp_alloc);
-    memcpy(&new_date, &slot, sizeof slot);
     Py_RETURN_NONE;
 }
 
-/* Adds the version, the compiler of the calls, and the list of the calls, whose names begin with no underscore. */
-static int add_words(PyObject *module, const PyMethodDef *methods) {
-    PyObject *all = PyList_New(0);
-    for (; all != NULL && methods->ml_name != NULL; methods++) {
-        PyObject *name = methods->ml_name[0] == '_' ? NULL : PyUnicode_FromString(methods->ml_name);
-        if (name != NULL && PyList_Append(all, name) != 0) {
-            Py_CLEAR(all);
-        }
-        Py_XDECREF(name);
+/* Adds the names of the calls, the version, the compiler of the calls, and the class below that of
+ * dates. That one stays when the package is imported again. */
+static int prepare(PyObject *module, PyObject *all) {
+    bool right =
+        take_calls() == 0 && all != NULL && PyModule_AddObject(module, "__all__", all) == 0;
+    for (int k = 0; k < 6 && right; k++) {
+        right = (names_of_parts[k] = PyUnicode_InternFromString(parts[k])) != NULL;
     }
-    if (all == NULL || PyErr_Occurred() || PyModule_AddObject(module, "__all__", all) != 0) {
-        Py_XDECREF(all);
-        return -1;
+    if (base_of_dates == NULL) {
+        base_of_dates = PyType_FromSpec(&date_spec);
     }
-    return PyModule_AddStringConstant(module, "VERSION", CELLARCOVE_VERSION) ||
-           PyModule_AddStringConstant(module, "BUILT_BY", cellarcove_built_by());
-}
-
-static int intern_names(void) {
-    name_numerator = PyUnicode_InternFromString("numerator");
-    name_denominator = PyUnicode_InternFromString("denominator");
-    name_year = PyUnicode_InternFromString("year");
-    name_month = PyUnicode_InternFromString("month");
-    name_day = PyUnicode_InternFromString("day");
-    name_value = PyUnicode_InternFromString("value");
-    return name_numerator && name_denominator && name_year && name_month && name_day && name_value ? 0 : -1;
+    Py_XINCREF(base_of_dates);
+    right = right && base_of_dates != NULL &&
+            PyModule_AddObject(module, "_BaseDate", base_of_dates) == 0 &&
+            PyModule_AddStringConstant(module, "VERSION", CELLARCOVE_VERSION) == 0 &&
+            PyModule_AddStringConstant(module, "BUILT_BY", cellarcove_built_by()) == 0;
+    return right ? 0 : -1;
 }

@@ -1,5 +1,5 @@
-/* Makes the ufuncs of ufuncs.c, which has their loops and a table of them and includes this file. numpy
- * gives a loop aligned numbers of its types, so many bytes apart. */
+/* Makes the ufuncs of ufuncs.c, which has their loops and a table of them and includes this file.
+ * numpy gives a loop aligned numbers of its types, so many bytes apart. */
 #define Py_LIMITED_API 0x03090000
 #define NPY_NO_DEPRECATED_API NPY_1_7_API_VERSION
 #define NO_IMPORT_ARRAY
@@ -59,8 +59,9 @@ static int add_ufuncs(PyObject *module, const ufunc *made, size_t count) {
     }
     for (size_t k = 0; k < count; k++) {
         const ufunc *u = &made[k];
-        PyObject *object = PyUFunc_FromFuncAndDataAndSignature(u->loops, u->data, (char *)(uintptr_t)u->types, u->forms,
-                                                               u->taken, u->returned, PyUFunc_None, u->name, NULL, 0, u->signature);
+        PyObject *object = PyUFunc_FromFuncAndDataAndSignature(
+            u->loops, u->data, (char *)(uintptr_t)u->types, u->forms, u->taken, u->returned,
+            PyUFunc_None, u->name, NULL, 0, u->signature);
         if (object == NULL || PyModule_AddObject(module, u->name, object) != 0) {
             Py_XDECREF(object);
             return -1;

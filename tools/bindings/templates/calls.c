@@ -7,12 +7,13 @@
 
 static PyMethodDef methods[] = {
 {methods}
-    {"_install", install, METH_O, NULL},
+    {"_install", install, METH_VARARGS, NULL},
     {NULL, NULL, 0, NULL},
 };
 
 static int execute(PyObject *module) {
-    return take_calls() != 0 || intern_names() != 0 || add_words(module, methods) != 0 ? -1 : 0;
+    return prepare(module, Py_BuildValue("[{strings}]",
+        {names}));
 }
 
 static PyModuleDef_Slot slots[] = {{Py_mod_exec, (void *)execute}, {0, NULL}};

@@ -1,8 +1,9 @@
-static PyObject *py_{name}(PyObject *module, {parameters}) {
+static PyObject *py_{name}(PyObject *module, PyObject *object) {
     (void)module;
+    PyObject *given[2] = {object, NULL};
     list of;
     cell other;
-    if (!read_list("{name}", {taken}, {place}, {width}, {has_signed}, &of, &other)) {
+    if ({parsed}!read_list("{name}", given[{place}], given[{other}], {width}, {has_signed}, &of, &other)) {
         return NULL;
     }{signed}
     {
