@@ -78,10 +78,23 @@ class Refused(ValueError):
         Status.BAD_MODULUS: 'a modulus is not positive',
         Status.NO_DATE: 'there is no such date',
     }
+    _reasons_of_text = {
+        Status.OUTSIDE: 'a text of a fraction is 3, -3 or 3/4, with at most 38 digits in a number; '
+        "for a decimal pass Decimal('0.19'), or Fraction('0.19')",
+        Status.NO_DATE: 'a text of a date is 2026-11-28, -0001-12-31 or +12000-04-02, of a day that '
+        'there is',
+    }
 
-    def __init__(self, status: int, index: _Index | None = None, count: int | None = None) -> None:
+    def __init__(
+        self,
+        status: int,
+        index: _Index | None = None,
+        count: int | None = None,
+        of_text: bool = False,
+    ) -> None:
         # the arguments of an exception are what `pickle` and `copy` make it of again
-        super().__init__(Status(status), *(() if index is None else (index, count)))
+        others = () if index is None else (index, count)
+        super().__init__(Status(status), *((index, count, of_text) if of_text else others))
 
     @property
     def status(self) -> Status:
@@ -100,7 +113,8 @@ class Refused(ValueError):
         return self.args[2] if len(self.args) > 1 else None
 
     def __str__(self) -> str:
-        words = f'{self.status.name}: {self._reasons[self.status]}'
+        reasons = self._reasons_of_text if self.args[3:] else self._reasons
+        words = f'{self.status.name}: {reasons[self.status]}'
         if self.index is None:
             return words
         return f'{words}, in the element {self.index}; {self.count} in all have no result'
@@ -330,12 +344,16 @@ _WEEKDAYS = tuple(Weekday)
 
 
 def _refusal(
-    status: int, by_zero: bool, index: _Index | None = None, count: int | None = None
+    status: int,
+    by_zero: bool,
+    index: _Index | None = None,
+    count: int | None = None,
+    of_text: bool = False,
 ) -> Refused:
     if status == Status.NOT_FITTING:
         return NotFitting(status, index, count)
     kind = DivisionByZero if status == Status.ZERO_DENOMINATOR or by_zero else Refused
-    return kind(status, index, count)
+    return kind(status, index, count, of_text and status in Refused._reasons_of_text)
 
 
 def _out_of_range(number: SupportsIndex, kind: str, place: int | None = None) -> OverflowError:

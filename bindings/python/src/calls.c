@@ -151,7 +151,7 @@ static PyObject *py_fraction_from_text(PyObject *module, PyObject *object) {
         return NULL;
     }
     cellarcove_fraction_answer r = cellarcove_fraction_from_text(bytes, (size_t)count);
-    return r.status == CELLARCOVE_ANSWER ? fraction_of(r.value) : refused(r.status, r.status == CELLARCOVE_ZERO_DENOMINATOR);
+    return r.status == CELLARCOVE_ANSWER ? fraction_of(r.value) : refused_text(r.status);
 }
 
 static PyObject *py_date_from_text(PyObject *module, PyObject *object) {
@@ -162,7 +162,7 @@ static PyObject *py_date_from_text(PyObject *module, PyObject *object) {
         return NULL;
     }
     cellarcove_date_answer r = cellarcove_date_from_text(bytes, (size_t)count);
-    return r.status == CELLARCOVE_ANSWER ? date_of(r.date) : refused(r.status, r.status == CELLARCOVE_ZERO_DENOMINATOR);
+    return r.status == CELLARCOVE_ANSWER ? date_of(r.date) : refused_text(r.status);
 }
 
 static PyObject *py_sum_of(PyObject *module, PyObject *object) {

@@ -72,6 +72,12 @@ static PyObject *refused(uint32_t status, bool by_zero) {
         PyObject_CallFunction(refusal, "IO", (unsigned)status, by_zero ? Py_True : Py_False));
 }
 
+/* The same of a text. */
+static PyObject *refused_text(uint32_t status) {
+    return raised(PyObject_CallFunction(refusal, "IOOOO", (unsigned)status, Py_False, Py_None,
+                                        Py_None, Py_True));
+}
+
 /* Raises that a number is out of the range of a type. */
 static PyObject *beyond(PyObject *number, char kind) {
     return raised(PyObject_CallFunction(out_of_range, "OC", number, (int)kind));

@@ -6,6 +6,6 @@ static PyObject *py_{name}(PyObject *module, PyObject *object) {
         return NULL;
     }
     {kind} r = {symbol}(bytes, (size_t)count);
-    return r.status == CELLARCOVE_ANSWER ? {result} : refused(r.status, r.status == CELLARCOVE_ZERO_DENOMINATOR);
+    return r.status == CELLARCOVE_ANSWER ? {result} : refused_text(r.status);
 }
 
