@@ -1,8 +1,8 @@
-"""What hatchling cannot know: it makes the extensions of src/calls.c and src/ufuncs.c and the archive of the calls, and puts what they are
-made of into a source distribution.
+"""What hatchling cannot know: it makes the extensions of src/calls.c and src/ufuncs.c and the
+archive of the calls, and puts what they are made of into a source distribution.
 
-The archive is the one that `bindings/build` makes, or the one that the variable CELLARCOVE_ARCHIVE names. A source distribution has a
-copy of what it needs in `vendor`.
+The archive is the one that `bindings/build` makes, or the one that the variable CELLARCOVE_ARCHIVE
+names. A source distribution has a copy of what it needs in `vendor`.
 """
 
 from __future__ import annotations
@@ -25,19 +25,26 @@ from hatchling.metadata import spec
 HERE = pathlib.Path(__file__).resolve().parent
 VENDOR = HERE / 'vendor'
 ROOT = VENDOR if VENDOR.is_dir() else HERE.parents[1]
-VERSION = re.findall(r'^#define CELLARCOVE_VERSION "(.*)"', (ROOT / 'bindings/c/cellarcove.h').read_text(), re.M)[0]
-VENDORED = ('bindings/build', 'bindings/cargo', 'bindings/c/cellarcove.h', 'rust/Cargo.toml', 'rust/README.md', 'rust/build.rs', 'rust/src',
-            'rust/c/Cargo.toml', 'rust/c/Cargo.lock', 'rust/c/build.rs', 'rust/c/src')
+HEADER = (ROOT / 'bindings/c/cellarcove.h').read_text()
+VERSION = re.findall(r'^#define CELLARCOVE_VERSION "(.*)"', HEADER, re.M)[0]
+VENDORED = (
+    'bindings/build', 'bindings/cargo', 'bindings/c/cellarcove.h', 'rust/Cargo.toml',
+    'rust/README.md', 'rust/build.rs', 'rust/src', 'rust/c/Cargo.toml', 'rust/c/Cargo.lock',
+    'rust/c/build.rs', 'rust/c/src',
+)
 
 
 if spec.DEFAULT_METADATA_VERSION < '2.4':
-    # an old hatchling, such as Debian's, writes the fields of the licence, and not the version of the metadata that has them
+    # an old hatchling, such as Debian's, writes the fields of the licence, and not the version of
+    # the metadata that has them
     made_before = spec.get_core_metadata_constructors()[spec.DEFAULT_METADATA_VERSION]
 
     def metadata(*args: Any, **named: Any) -> str:
         return re.sub('(?<=^Metadata-Version: ).*', '2.4', made_before(*args, **named), count=1)
+
+    constructors = {spec.DEFAULT_METADATA_VERSION: metadata}
     for module in (sdist, wheel):
-        setattr(module, 'get_core_metadata_constructors', lambda: {spec.DEFAULT_METADATA_VERSION: metadata})
+        setattr(module, 'get_core_metadata_constructors', lambda: constructors)
 
 
 def archive() -> str:
@@ -48,23 +55,45 @@ def archive() -> str:
     return named or str(ROOT / 'bindings/out/libcellarcove_c.a')
 
 
-def link(source: str, to: pathlib.Path, calls: str, *folders: str) -> None:
+def headers() -> list[str]:
+    """The folders of the headers that the extensions need: those of Python, of numpy for the
+    ufuncs, and of the calls."""
+    python = sysconfig.get_path('include')
+    try:
+        import numpy  # noqa: PLC0415
+    except ImportError:
+        sys.exit('cellarcove is built with numpy: install numpy (python3-numpy of Debian)')
+    for file, package in (
+        (f'{python}/Python.h', 'python3-dev'),
+        (f'{numpy.get_include()}/numpy/ufuncobject.h', 'python3-numpy-dev'),
+    ):
+        if not os.path.isfile(file):
+            sys.exit(f'cellarcove is built with {file}: install {package} of Debian')
+    return [python, numpy.get_include(), f'{ROOT}/bindings/c']
+
+
+def link(source: str, to: pathlib.Path, calls: str) -> None:
     """Makes an extension. A function that the stable ABI of 3.9 has not is not declared."""
-    compiler = os.environ.get('CC', 'cc'), os.environ.get('CFLAGS', '-O2')
     shared = '-bundle -undefined dynamic_lookup' if sys.platform == 'darwin' else '-shared'
     alone = '-Wl,--as-needed,--exclude-libs,ALL' if sys.platform == 'linux' else ''
-    found = [f'-I{folder}' for folder in (sysconfig.get_path('include'), f'{ROOT}/bindings/c', *folders)]
-    subprocess.run([*shlex.split(' '.join((*compiler, shared))), '-std=c11', '-fPIC', '-fvisibility=hidden',
-                    '-Werror=implicit-function-declaration', *found, HERE / 'src' / source, calls,
-                    *shlex.split(f'{alone} {os.environ.get("LDFLAGS", "")}'), '-o', to], check=True)
+    command = f'{os.environ.get("CC", "cc")} {os.environ.get("CFLAGS", "-O2")} {shared}'
+    subprocess.run([
+        *shlex.split(command), '-std=c11', '-fPIC', '-fvisibility=hidden',
+        '-Werror=implicit-function-declaration', *(f'-I{folder}' for folder in headers()),
+        HERE / 'src' / source, calls, *shlex.split(f'{alone} {os.environ.get("LDFLAGS", "")}'),
+        '-o', to,
+    ], check=True)
 
 
 def platform_of(extensions: list[pathlib.Path]) -> str:
-    """The platform of the tag: by the rules of manylinux if the extensions need no more than glibc 2.17."""
-    platform, text = re.sub('[-.]', '_', sysconfig.get_platform()), b''.join(file.read_bytes() for file in extensions)
-    versions = [tuple(map(int, found.split(b'.'))) for found in re.findall(rb'\0GLIBC_([\d.]+)', text)]
-    libraries = set(re.findall(rb'\0(lib[\w+-]+\.so[.\d]*)', text))
-    if not platform.startswith('linux_') or not versions or max(versions) > (2, 17) or libraries - {b'libc.so.6', b'libm.so.6'}:
+    """The platform of the tag: by the rules of manylinux if the extensions need no more than glibc
+    2.17."""
+    platform = re.sub('[-.]', '_', sysconfig.get_platform())
+    text = b''.join(file.read_bytes() for file in extensions)
+    needed = re.findall(rb'\0GLIBC_([\d.]+)', text)
+    versions = [tuple(map(int, found.split(b'.'))) for found in needed]
+    libraries = set(re.findall(rb'\0(lib[\w+-]+\.so[.\d]*)', text)) - {b'libc.so.6', b'libm.so.6'}
+    if not platform.startswith('linux_') or not versions or max(versions) > (2, 17) or libraries:
         return platform
     machine = platform.removeprefix('linux_')
     return f'manylinux2014_{machine}.manylinux_2_17_{machine}'
@@ -75,26 +104,32 @@ class CustomBuildHook(BuildHookInterface[Any]):
         self.folder = tempfile.TemporaryDirectory()
         made = pathlib.Path(self.folder.name)
         if self.target_name == 'sdist':
-            words = ['cargo', 'vendor', '--quiet', '--versioned-dirs', '--manifest-path', f'{made}/rust/c/Cargo.toml']
-            registry = '/usr/share/cargo/registry'
-            shutil.copytree(ROOT / 'rust', made / 'rust', ignore=shutil.ignore_patterns('target'))
-            if os.path.isdir(registry):         # Debian has other versions than Cargo.lock
-                (made / 'rust/c/Cargo.lock').unlink()
-                words += ['--offline', '--respect-source-config', '--config', 'source.crates-io.replace-with="debian"',
-                          '--config', f'source.debian.directory="{registry}"']
-            subprocess.run([*words, f'{made}/registry'], check=True, stdout=subprocess.DEVNULL)
-            included = build_data['force_include']
-            included |= {f'{made}/registry': 'vendor/registry', **{str(ROOT / name): f'vendor/{name}' for name in VENDORED}}
+            self.vendor(made)
+            names = {str(ROOT / name): f'vendor/{name}' for name in VENDORED}
+            build_data['force_include'] |= {f'{made}/registry': 'vendor/registry', **names}
             return
-        import numpy  # whose headers the ufuncs need
-
+        headers()  # so that what is missing is said first
         folder, calls = HERE / 'cellarcove' if version == 'editable' else made, archive()
         extensions = [folder / f'_{name}.abi3.so' for name in ('calls', 'ufuncs')]
-        link('calls.c', extensions[0], calls)
-        link('ufuncs.c', extensions[1], calls, numpy.get_include())
+        for file, source in zip(extensions, ('calls.c', 'ufuncs.c')):
+            link(source, file, calls)
         build_data |= {'pure_python': False, 'tag': f'cp39-abi3-{platform_of(extensions)}'}
         if version != 'editable':
-            build_data['force_include'] |= {str(file): f'cellarcove/{file.name}' for file in extensions}
+            names = {str(file): f'cellarcove/{file.name}' for file in extensions}
+            build_data['force_include'] |= names
+
+    def vendor(self, made: pathlib.Path) -> None:
+        """The sources of the packages for cargo, in a folder of their own."""
+        words = ['cargo', 'vendor', '--quiet', '--versioned-dirs', '--manifest-path']
+        words += [f'{made}/rust/c/Cargo.toml']
+        registry = '/usr/share/cargo/registry'
+        shutil.copytree(ROOT / 'rust', made / 'rust', ignore=shutil.ignore_patterns('target'))
+        if os.path.isdir(registry):  # Debian has other versions than Cargo.lock
+            (made / 'rust/c/Cargo.lock').unlink()
+            words += ['--offline', '--respect-source-config', '--config']
+            words += ['source.crates-io.replace-with="debian"', '--config']
+            words += [f'source.debian.directory="{registry}"']
+        subprocess.run([*words, f'{made}/registry'], check=True, stdout=subprocess.DEVNULL)
 
     def finalize(self, version: str, build_data: dict[str, Any], artifact_path: str) -> None:
         self.folder.cleanup()

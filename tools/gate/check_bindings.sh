@@ -164,6 +164,13 @@ wheel_of() { rm -rf "$2" && CELLARCOVE_ARCHIVE=$1 "$builder" -m pip wheel "${off
 
 makes_a_wheel() { wheel_of "$archive" "$work/wheel" bindings/python; }
 
+# Where there is no numpy, there is no wheel, and what to install is said.
+says_what_a_wheel_needs() {
+    mkdir -p "$work/no_numpy" && echo 'raise ImportError' >"$work/no_numpy/numpy.py" &&
+        ! PYTHONPATH=$work/no_numpy wheel_of "$archive" "$work/refused_wheel" bindings/python >"$work/refused" 2>&1 &&
+        grep -F 'install numpy (python3-numpy of Debian)' "$work/refused"
+}
+
 # with_package SCRIPT WORD..: the script runs with the package of the wheel, in an empty folder, by the Python of the variable `python`,
 # or else by the one that made the wheel, which has numpy.
 with_package() { (cd "$work/empty_folder" && PYTHONPATH=$work/site PYTHONDONTWRITEBYTECODE=1 "${python:-$builder}" "$@"); }
@@ -286,6 +293,7 @@ python_calls() {
     [ -n "$builder" ] || { echo 'Python: skipped, since no Python has hatchling and pip'; return; }
     languages=$((languages + 1))
     check 'the wheel' makes_a_wheel
+    check 'what a wheel needs' says_what_a_wheel_needs
     check 'Python' passes_its_tests
     "$builder" -c 'import pandas, distributed' 2>/dev/null || echo "columns of pandas and dask: skipped, since $builder has not both"
     counted 'Python of other versions' passes_on_other_pythons

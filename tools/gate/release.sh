@@ -76,7 +76,9 @@ for_cargo() {
 
 # for_pip CLONE FOLDER: the wheel and the source distribution.
 for_pip() {
-    (cd "$1/bindings/python" && "$(builder)" -m hatchling build -t wheel -t sdist -d "$2")
+    local python
+    python=$(builder) || { echo 'no Python has hatchling, numpy and pip: run tools/gate/install_packages.sh' && return 1; }
+    (cd "$1/bindings/python" && "$python" -m hatchling build -t wheel -t sdist -d "$2")
 }
 
 # for_c CLONE FOLDER: the headers, the libraries, what pkg-config and CMake read, and the licences.
