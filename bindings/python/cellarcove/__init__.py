@@ -337,7 +337,7 @@ def _subtract(a: Any, b: Any) -> Any:
     if _is_date(a) and _is_date(b):
         return _calls.days_between(b, a)
     count = _count_of_days(b) if isinstance(a, Date) else None
-    return NotImplemented if count is None else _calls.plus_days(a, -count)
+    return NotImplemented if count is None else _calls.minus_days(a, count)
 
 
 _WEEKDAYS = tuple(Weekday)

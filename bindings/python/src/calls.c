@@ -4394,7 +4394,7 @@ static PyMethodDef methods[] = {
 };
 
 static int execute(PyObject *module) {
-    return prepare(module, Py_BuildValue("[sssssssssssssssssssssssssssssssssssssssssssssssssssssssssssssssssssssssssssssssssssssssssssssssssssssssssssssssssssssss]",
+    return prepare(module, Py_BuildValue("[ssssssssssssssssssssssssssssssssssssssssssssssssssssssssssssssssssssssssssssssssssssssssssssssssssssssssssssssssssssssss]",
         "checked_sum", "checked_difference", "checked_product", "div_rem", "div_floor", "div_ceil",
         "div_round", "div_round_even", "mod_floor", "div_mod_floor", "product_div_mod_floor",
         "next_multiple_of", "prev_multiple_of", "is_multiple_of", "gcd", "lcm", "gcd_lcm",
@@ -4412,13 +4412,13 @@ static int execute(PyObject *module) {
         "fraction_trunc", "fraction_fract", "fraction_round", "fraction_floor_times",
         "fraction_ceil_times", "fraction_round_times", "fraction_floor_to", "fraction_ceil_to",
         "fraction_round_to", "fraction_round_even_times", "fraction_round_even_to",
-        "fraction_to_decimal", "date_from_day", "day_from_date", "plus_days", "days_between",
-        "plus_months", "months_between", "years_between", "date_from_year_day", "iso_week",
-        "date_from_iso_week", "easter", "weekday", "weekday_of_date", "first_weekday_on_or_after",
-        "last_weekday_on_or_before", "nth_weekday_of_month", "last_weekday_of_month",
-        "is_leap_year", "days_in_year", "weeks_in_year", "days_in_month", "day_of_year",
-        "fraction_from_text", "date_from_text", "product_div_round", "product_div_round_even",
-        "sum_of", "comb", "isqrt"));
+        "fraction_to_decimal", "date_from_day", "day_from_date", "plus_days", "minus_days",
+        "days_between", "plus_months", "months_between", "years_between", "date_from_year_day",
+        "iso_week", "date_from_iso_week", "easter", "weekday", "weekday_of_date",
+        "first_weekday_on_or_after", "last_weekday_on_or_before", "nth_weekday_of_month",
+        "last_weekday_of_month", "is_leap_year", "days_in_year", "weeks_in_year", "days_in_month",
+        "day_of_year", "fraction_from_text", "date_from_text", "product_div_round",
+        "product_div_round_even", "sum_of", "comb", "isqrt"));
 }
 
 static PyModuleDef_Slot slots[] = {{Py_mod_exec, (void *)execute}, {0, NULL}};

@@ -201,22 +201,21 @@ static PyObject *date_new(PyTypeObject *class, PyObject *args, PyObject *named) 
     return fit ? date_as(class, date) : refused(CELLARCOVE_NO_DATE, false);
 }
 
-/* The date so many days later, or the error. */
-static PyObject *date_later(PyObject *date, int64_t days) {
-    cellarcove_date_answer r = cellarcove_plus_days(in(date), days);
+/* The date of an answer, or its error. */
+static PyObject *date_or_error(cellarcove_date_answer r) {
     return r.status == CELLARCOVE_ANSWER ? date_of(r.date) : refused(r.status, false);
 }
 
 /* Whether an object is an `int` that is a number of days, and no other one. */
 static bool is_days(PyObject *object, cell *days) {
-    return Py_TYPE(object) == &PyLong_Type && integer(object, days) == 0 && days->i != INT64_MIN;
+    return Py_TYPE(object) == &PyLong_Type && integer(object, days) == 0;
 }
 
 /* `date + days` or `days + date`. */
 static PyObject *date_add(PyObject *a, PyObject *b) {
     PyObject *date = is_date(a) ? a : b, *other = is_date(a) ? b : a;
     cell days;
-    return is_days(other, &days) ? date_later(date, days.i)
+    return is_days(other, &days) ? date_or_error(cellarcove_plus_days(in(date), days.i))
                                  : PyObject_CallFunctionObjArgs(add_others, date, other, NULL);
 }
 
@@ -224,7 +223,7 @@ static PyObject *date_add(PyObject *a, PyObject *b) {
 static PyObject *date_subtract(PyObject *a, PyObject *b) {
     cell days;
     if (is_date(a) && is_days(b, &days)) {
-        return date_later(a, -days.i);
+        return date_or_error(cellarcove_minus_days(in(a), days.i));
     }
     if (!is_date(a) || !is_date(b)) {
         return PyObject_CallFunctionObjArgs(subtract_others, a, b, NULL);
