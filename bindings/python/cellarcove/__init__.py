@@ -337,7 +337,10 @@ def _subtract(a: Any, b: Any) -> Any:
     if _is_date(a) and _is_date(b):
         return _calls.days_between(b, a)
     count = _count_of_days(b) if isinstance(a, Date) else None
-    return NotImplemented if count is None else _calls.minus_days(a, count)
+    if count is None:
+        return NotImplemented
+    # A number of days may be 2**63, whose negation fits, or -2**63, whose negation does not.
+    return _calls.minus_days(a, count) if count < 0 else _calls.plus_days(a, -count)
 
 
 _WEEKDAYS = tuple(Weekday)
