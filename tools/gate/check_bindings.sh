@@ -49,7 +49,7 @@ has_no_state() {
 is_dropped() {
     local text flag
     printf '#include <cellarcove.h>\nint main(int count, char **words) { return words == 0 || cellarcove_gcd_u64((uint64_t)count, 12).status; }\n' >"$work/one.c"
-    for flag in --gc-sections,2000 --no-gc-sections,80000; do
+    for flag in --gc-sections,2000 --no-gc-sections,85000; do
         cc -O2 -I bindings/c "$work/one.c" "$archive" "-Wl,${flag%,*}" -o "$work/one" && text=$(size "$work/one" | awk 'NR == 2 { print $1 }') &&
             echo "$flag: $text" && [ "$text" -le "${flag#*,}" ] || return 1
     done
