@@ -67,11 +67,11 @@ pub fn shares_by_largest_remainder(
 /// use cellarcove::shares::signed_shares_by_largest_remainder;
 ///
 /// assert_eq!(
-///     { let mut parts = [0; 4]; (signed_shares_by_largest_remainder(-1002, &[1; 4], &mut parts), parts) },
+///     { let mut to = [0; 4]; (signed_shares_by_largest_remainder(-1002, &[1; 4], &mut to), to) },
 ///     (Ok(()), [-251, -251, -250, -250])
 /// );
 /// assert_eq!(
-///     { let mut parts = [0; 4]; (signed_shares_by_largest_remainder(1002, &[1; 4], &mut parts), parts) },
+///     { let mut to = [0; 4]; (signed_shares_by_largest_remainder(1002, &[1; 4], &mut to), to) },
 ///     (Ok(()), [251, 251, 250, 250])
 /// );
 /// ```

@@ -57,9 +57,9 @@ pub fn shares_by_largest_remainder(
 /// Fills `shares` with the shares of a signed amount by largest remainders: those of its magnitude, as
 /// [`shares_by_largest_remainder`] writes them, each with the sign of the amount. So a negative amount takes back what
 /// the positive one gave.
-/// `{ let mut parts = [0; 4]; (signed_shares_by_largest_remainder(-1002, &[1; 4], &mut parts), parts) }` is
+/// `{ let mut to = [0; 4]; (signed_shares_by_largest_remainder(-1002, &[1; 4], &mut to), to) }` is
 /// `(Ok(()), [-251, -251, -250, -250])`, and
-/// `{ let mut parts = [0; 4]; (signed_shares_by_largest_remainder(1002, &[1; 4], &mut parts), parts) }` is
+/// `{ let mut to = [0; 4]; (signed_shares_by_largest_remainder(1002, &[1; 4], &mut to), to) }` is
 /// `(Ok(()), [251, 251, 250, 250])`.
 ///
 /// # Errors

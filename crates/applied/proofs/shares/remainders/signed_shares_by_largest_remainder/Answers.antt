@@ -12,7 +12,8 @@ loop-i-preserved c =
 
 pub returns-clause-shares : goal.returns-clause-shares
 returns-clause-shares c =
-    all_signed_raised c.in_ok-total.ensures.total.1 (omega arith) c.bar_of-bar.ensures.units (λ some. (c.bar_of-bar.ensures.left some).1) c.loop-i.invariant
+    all_signed_raised c.in_ok-total.ensures.total.1 (omega arith) c.bar_of-bar.ensures.units (λ some. (c.bar_of-bar.ensures.left some).1)
+    (rw (to_z-of_z w64 c.args.amount c.ranges.amount) at c.loop-i.invariant)
 
 pub returns-clause-only : goal.returns-clause-only
 returns-clause-only c = signed_by_remainder_are_only (returns-clause-shares c)
