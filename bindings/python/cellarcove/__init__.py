@@ -39,7 +39,8 @@ from ._calls import *
 __version__ = _calls.VERSION
 __all__ = [
     'BUILT_BY', 'Date', 'DivisionByZero', 'ExtendedGcd', 'IsoWeek', 'NotFitting', 'Refused',
-    'Solutions', 'Status', 'SupportsColumn', 'SupportsDate', 'SupportsFraction', 'Weekday',
+    'Solutions', 'Status', 'SupportsColumn', 'SupportsColumns', 'SupportsDate', 'SupportsFraction',
+    'Weekday',
 ]
 __all__ += _calls.__all__
 
@@ -160,6 +161,15 @@ class SupportsColumn(Protocol):
     @property
     def dtype(self) -> Any: ...
     def __len__(self) -> int: ...
+
+
+class SupportsColumns(Protocol):
+    """A table whose columns are taken one by one: a `DataFrame` of pandas."""
+
+    @property
+    def columns(self) -> Any: ...
+    @property
+    def iloc(self) -> Any: ...
 
 
 class ExtendedGcd(NamedTuple):

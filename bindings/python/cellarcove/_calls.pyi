@@ -7,14 +7,17 @@ from decimal import Decimal
 from fractions import Fraction
 from typing import Any, Literal, Protocol, SupportsIndex, TypeVar, overload
 
-from . import Date, ExtendedGcd, IsoWeek, Solutions, SupportsColumn, SupportsDate, SupportsFraction, Weekday
+from . import (
+    Date, ExtendedGcd, IsoWeek, Solutions, SupportsColumn, SupportsColumns, SupportsDate,
+    SupportsFraction, Weekday,
+)
 
 class _Scalar(Protocol):  # a `datetime64` of numpy
     @property
     def dtype(self) -> Any: ...
     def item(self) -> Any: ...
 
-_Column = SupportsColumn | array[int] | memoryview
+_Column = SupportsColumn | SupportsColumns | array[int] | memoryview
 _Fraction = SupportsFraction | Decimal | tuple[SupportsIndex, SupportsIndex]
 _Date = SupportsDate | _Scalar | tuple[SupportsIndex, SupportsIndex, SupportsIndex]
 _Errors = Literal['raise', 'mask', 'status']

@@ -73,6 +73,11 @@ def is_column(value: object) -> bool:
     )
 
 
+def is_table(value: object) -> bool:
+    """Whether an argument is a `DataFrame` of pandas, whose columns are taken one by one."""
+    return is_of(value, 'pandas', 'DataFrame')
+
+
 def wrong_type(name: str, parameter: str, value: object, wanted: str) -> TypeError:
     """The error of an argument of another type, with what to pass."""
     words = f'{name}(): {parameter} is no {wanted}, but of {type(value)}'
@@ -99,7 +104,7 @@ def unit(value: Any) -> str:
 
 def cell(name: str, parameter: str, value: Any, wanted: str = 'integer') -> Leaf:
     """A number, as an `int`, or a column of numbers."""
-    if is_column(value):
+    if is_table(value) or is_column(value):
         return Leaf(value, parameter)
     if unit(value) == 'm8[D]':
         value = value.astype('int64')
@@ -112,8 +117,10 @@ def cell(name: str, parameter: str, value: Any, wanted: str = 'integer') -> Leaf
 
 
 def date_cells(name: str, parameter: str, value: Any) -> list[Leaf]:
-    """The numbers of a date, or its columns, of which there may be one."""
-    if is_column(value):
+    """The numbers of a date, or its columns, of which there may be one. A table that has them has
+    the columns `year`, `month` and `day`, and another one has columns of dates."""
+    named = all(hasattr(value, part) for part in ('year', 'month', 'day'))
+    if is_column(value) or is_table(value) and not named:
         return [Leaf(value, parameter, is_dates=True)]
     parts: Sequence[Any] = ()
     if isinstance(value, tuple):
@@ -125,7 +132,7 @@ def date_cells(name: str, parameter: str, value: Any) -> list[Leaf]:
             if day == NO_DAY
             else operator.attrgetter('year', 'month', 'day')(_calls.date_from_day(day))
         )
-    elif all(hasattr(value, part) for part in ('year', 'month', 'day')):
+    elif named:
         parts = value.year, value.month, value.day
     if isinstance(value, tuple) and len(parts) != 3:
         raise ValueError(
@@ -140,7 +147,7 @@ def fraction_cells(name: str, parameter: str, value: Any) -> list[Leaf]:
     """The numbers of a fraction, or its columns."""
     if isinstance(value, Decimal) and value.is_finite():
         value = value.as_integer_ratio()
-    elif is_column(value):
+    elif is_table(value) or is_column(value):
         value = value, 1
     elif (
         not isinstance(value, tuple)
@@ -273,6 +280,10 @@ def is_of(value: object, module: str, name: str) -> bool:
 def of_columns(task: Task, out: Any, where: Any) -> Any:
     """A call of columns, by the library whose they are."""
     numpy, _ = modules(task.name)
+    if CALLS[task.name].shapes != 'nl' and any(is_table(leaf.value) for leaf in task.leaves):
+        if out is not None or where is not True:
+            raise TypeError(f'{task.name}() takes no out and no where with a table')
+        return of_tables(task)
     columns = [leaf.value for leaf in task.leaves if is_column(leaf.value)]
     if any(
         is_of(column, 'dask.array', 'Array') or hasattr(column, '__dask_graph__')
@@ -285,7 +296,7 @@ def of_columns(task: Task, out: Any, where: Any) -> Any:
     if CALLS[task.name].shapes == 'nl':
         return of_shares(numpy, task)
     if series and out is None and where is True:
-        return classed(task, of_pandas(task, series[0]))
+        return classed(task, of_pandas(task, series))
     return classed(task, of_numpy(task, task.leaves, out, where))
 
 
@@ -657,7 +668,8 @@ def divided(
 
 
 class Ufunc:
-    """A call as pandas wants a ufunc: it joins the columns, and makes those of the result."""
+    """A call as pandas wants a ufunc of its columns alone: it joins them by their index, and makes
+    the columns of the result."""
 
     def __init__(self, task: Task, nout: int) -> None:
         self.task, self.nout, self.nin, self.__name__ = (
@@ -669,9 +681,11 @@ class Ufunc:
 
     def __call__(self, *columns: Any) -> Any:
         rest = iter(columns)
-        found = of_numpy(
-            self.task, [leaf._replace(value=next(rest)) for leaf in self.task.leaves], None, True
-        )
+        leaves = [
+            leaf._replace(value=next(rest)) if is_of(leaf.value, 'pandas', 'Series') else leaf
+            for leaf in self.task.leaves
+        ]
+        found = of_numpy(self.task, leaves, None, True)
         made = tuple(map(nullable, found))
         return made if self.nout > 1 else made[0]
 
@@ -685,16 +699,48 @@ def nullable(column: Any) -> Any:
     return kind(column.data, numpy.ma.getmaskarray(column).copy())
 
 
-def of_pandas(task: Task, series: Any) -> Sequence[Any]:
+def of_pandas(task: Task, series: Sequence[Any]) -> Sequence[Any]:
     """The columns of a result, with the index of the columns."""
     call = CALLS[task.name]
     is_day = call.result == 'Date' and any(leaf.is_dates for leaf in task.leaves)
     count = (1 if is_day else len(call.forms[0][1])) + (task.errors == 'status')
     ufunc = Ufunc(task, count)
-    found = series.__array_ufunc__(ufunc, '__call__', *(leaf.value for leaf in task.leaves))
+    found = series[0].__array_ufunc__(ufunc, '__call__', *series)
     if found is NotImplemented:
         raise TypeError(f'{task.name}(): pandas has no way to join these columns')
     return found if isinstance(found, tuple) else (found,)
+
+
+def of_tables(task: Task) -> Any:
+    """A call of tables, column by column: a table, or one for each number of the result."""
+    tables = [leaf.value for leaf in task.leaves if is_table(leaf.value)]
+    names = tables[0].columns
+    if any(not table.columns.equals(names) for table in tables):
+        raise ValueError(f'{task.name}(): the tables have not the same columns')
+    if any(is_column(leaf.value) and not is_table(leaf.value) for leaf in task.leaves):
+        raise TypeError(f'{task.name}(): beside a table there is a column: pass one of its columns')
+
+    def column(k: int) -> Any:
+        leaves = [
+            leaf._replace(value=leaf.value.iloc[:, k]) if is_table(leaf.value) else leaf
+            for leaf in task.leaves
+        ]
+        return of_columns(task._replace(leaves=tuple(leaves)), None, True)
+
+    made = [column(k) for k in range(len(names))]
+    if not made or not isinstance(made[0], tuple):
+        return table_of(tables[0], made)
+    found = [table_of(tables[0], columns) for columns in zip(*made)]
+    return type(made[0])(*found) if hasattr(made[0], '_fields') else tuple(found)
+
+
+def table_of(like: Any, columns: Sequence[Any]) -> Any:
+    """The table of these columns, which has the names of another one."""
+    if not columns:
+        return like.copy()
+    found = importlib.import_module('pandas').concat(columns, axis=1)
+    found.columns = like.columns
+    return found
 
 
 # ---- dask

@@ -273,6 +273,25 @@ class Threads(unittest.TestCase):
         together([count, run])
         self.assertGreater(done[0], 1)
 
+    def test_halves(self):
+        """Two threads over the halves of an array return what one returns. It prints how long they
+        take beside one, which depends on what else the machine does."""
+        x = numpy.random.default_rng(2).integers(1, 2**62, 400_000)
+        y, whole, out = x[::-1].copy(), numpy.empty_like(x), numpy.empty_like(x)
+        halves, times = (slice(0, 200_000), slice(200_000, None)), {1: [], 2: []}
+
+        def run(part, to):
+            cellarcove.gcd(x[part], y[part], out=to[part])
+
+        for _ in range(7):
+            for parts, to in (((slice(None),), whole), (halves, out)):
+                start = time.perf_counter()
+                together([lambda part=part, to=to: run(part, to) for part in parts])
+                times[len(parts)].append(time.perf_counter() - start)
+        self.assertTrue((out == whole).all())
+        ratio = min(times[2]) / min(times[1])
+        print(f'two threads took {ratio:.2f} of the time of one', file=sys.stderr)
+
 
 def together(runners):
     threads = [threading.Thread(target=run) for run in runners]
