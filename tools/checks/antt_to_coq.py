@@ -1,79 +1,86 @@
 """Translates definitions of specs/*.antt into Coq: one file for each file, by what stands there.
 
-It knows records, `abbrev` and `unfoldable` functions by their equations, `data`, the structs and enums of
-the code that a definition names, and the signs of SIGNS. A word of the toolchain that has no row here is the
-word of that name in compare/coq/Kit.v. A form that is not known is rejected by file and line."""
+Coq itself reads the terms: compare/coq/Kit.v has the signs of Rattle, as tight as they bind there,
+and the words of its toolchain. Here are the forms: records, `abbrev` and `unfoldable` functions by
+their equations, `data`, and the structs and enums of the code that a definition names. A form, a
+sign or a word that is not known is rejected by file and line."""
+import itertools
 import re
+from collections.abc import Iterator, Sequence
 from pathlib import Path
-from typing import NamedTuple
 
-SPACE = re.compile(r'(?:\s|--.*)*')
-TOKEN = re.compile(r'"[^"]*"|\+ℤ|-ℤ|\*ℤ|≤ℤ|<ℤ|\+\+|==|&&|\|\||∥₁|[^\W\d]\w*|\d+|\S|$')
+COMMENT = re.compile(r'--.*|//.*|#\[.*')
+TOKEN = re.compile(r'"[^"]*"|∥₁|[⊥⊤¬]|[^\W\d](?:\w|-\w)*|\d+|[^\w\s"(){}\[\],.;:¬∥⊥⊤]+ℤ?|\S')
+NAME = re.compile(r'[^\W\d]\w*')
 HEAD = re.compile(r'(?:abbrev pub|unfoldable pub|pub record|pub data) (\w+)')
 IMPORT = re.compile(r'^ *(?:ghost )?use Rattle\.(\w+)\.([\w.]+)(?:\.\{([^}]*)\}| as (\w+))', re.M)
 TYPE = re.compile(r'^pub (struct|enum) (\w+)(?:<(\w)[^>]*>)? \{\n(.*?)^\}', re.M | re.S)
-GROUP = re.compile(r'\s*([({])((?:[^\W\d]\w*\s+)+):\s')
-# How tightly a sign binds, and its right side; what it is in Coq, and in which scope.
-SIGNS = {'→': (-1, -1, '->', ''), '↔': (0, 1, '<->', ''), '⊎': (1, 1, '\\/', ''),
-         '×': (2, 2, '/\\', ''), '≡': (4, 5, '=', ''), '≢': (4, 5, '<>', ''),
-         '+ℤ': (6, 7, '+', 'Z'), '-ℤ': (6, 7, '-', 'Z'), '*ℤ': (7, 8, '*', 'Z'), '||': (30, 31, '||', 'bool'),
-         '&&': (35, 36, '&&', 'bool'), '==': (40, 41, '=?', 'nat'), '≤': (50, 51, '<=', 'nat'),
-         '<': (50, 51, '<', 'nat'), '≤ℤ': (50, 51, '<=', 'Z'), '<ℤ': (50, 51, '<', 'Z'),
-         '++': (65, 66, '++', 'list'), '+': (65, 66, '+', 'nat'), '-': (65, 66, '-', 'nat'),
-         '∷': (67, 67, '::', 'list'), '*': (70, 71, '*', 'nat'), '/': (70, 71, '/', 'nat'),
-         '%': (70, 71, 'mod', 'nat'), '^': (75, 75, '^', 'nat')}
-TYPES = {'ℤ': 'Z', 'ℕ': 'nat', 'Bool': 'bool', 'List': 'list', 'Option': 'option', 'Result': 'Kit.Result',
-         'Ordering': 'comparison', 'FormatSpec': 'Kit.FormatSpec', 'Alignment': 'Kit.Alignment'}
-CASES = {'zero': 'O', 'suc': 'S', 'Some': 'Some', 'None': 'None', 'true': 'true', 'false': 'false', '_': '_',
-         'Less': 'Lt', 'Equal': 'Eq', 'Greater': 'Gt', 'Ok': 'Kit.Ok', 'Err': 'Kit.Err'}
-WORDS = {'⊥': 'False', '⊤': 'True', '¬': 'Logic.not', 'pos': 'Z.of_nat', 'negsuc': 'Kit.negsuc'}
-NUMBERS = {'bool': 'bool', 'usize': 'nat', 'T': 'T', 'W': 'W'}
-NUMBERS |= {f'{s}{bits}': kind for bits in (8, 16, 32, 64, 128) for s, kind in (('i', 'Z'), ('u', 'nat'))}
+CLOSING = {'(': ')', '{': '}', '[': ']', '∥': '∥₁'}
+PLAIN = {'if': 'If', 'then': 'then', 'else': 'else', ',': ',', '_': '_'}
+VIEWED = {'Kit.pos': 'inl', 'Kit.negsuc': 'inr'}        # an integer in a pattern
 OUTSIDE = ('std', 'core', 'num_traits')
-STOPS = {*')}];,:=.∥¶', 'then', 'else', 'in', '∥₁', 'pub'}
 RESERVED = {'end', 'at', 'as', 'S', 'O', 'by', 'fix', 'mod', 'using', 'class', 'exists'}
+HEADER = ('From Coq Require Import ZArith List String.\nFrom Cellarcove Require Kit.\n'
+          'Import Kit.Signs.\n')
 
 
 class Unknown(Exception):
     """A form that is not known."""
 
 
-class Coq(NamedTuple):
-    """A term in Coq, and its type if that is known; the type of a type of data is `Type`."""
-    text: str
-    type: str = ''
+class Token(str):
+    """A token, with its line."""
+    line = 0
+
+
+class Group(list['str | Group']):
+    """What stands in brackets, with the first bracket."""
+    open = Token()
+
+
+Item = str | Group
 
 
 class File:
-    """A file of definitions: its paragraphs, what it imports, and what has been translated of it."""
+    """A file of definitions: its paragraphs, its imports, and what has been translated of it."""
 
     def __init__(self, path: Path, module: str) -> None:
-        self.path, self.module, text = path, module, path.read_text()
-        self.made, self.needs = dict[str, str](), set[str]()
-        self.paragraphs, self.imports = dict[str, tuple[int, str]](), dict[str, tuple[str, str, str]]()
-        for crate, where, names, alias in IMPORT.findall(text):
+        self.path, self.module, self.text = path, module, path.read_text()
+        self.made, self.needs, self.cases = dict[str, str](), set[str](), dict[str, str]()
+        self.paragraphs = dict[str, tuple[int, str]]()
+        self.imports = dict[str, tuple[str, str, str]]()
+        for crate, where, names, alias in IMPORT.findall(self.text):
             for name in names.split(',') if names else [f' as {alias}']:
                 original, _, local = name.strip(' \n').partition('as ' if alias else ' as ')
                 self.imports[local or original] = crate, where, original
-        for found in re.finditer(r'(?:^.+\n)+', text + '\n', re.M):
-            body = re.sub(r'^--.*', '', found[0], flags=re.M)
-            if head := HEAD.match(body.lstrip('\n')):
-                self.paragraphs[head[1]] = text.count('\n', 0, found.start()) + 1, body
+        for found in re.finditer(r'(?:^.+\n)+', self.text + '\n', re.M):
+            lines = re.sub(r'^--.*', '', found[0], flags=re.M)
+            if head := HEAD.match(lines.lstrip('\n')):
+                self.paragraphs[head[1]] = self.text.count('\n', 0, found.start()) + 1, lines
+                for case in re.findall(r'^  (\w+) :', lines, re.M):
+                    self.cases[case] = f'{head[1]}_{case}'
 
 
 class Library:
     """The files of all crates, each translated as far as it is needed."""
 
     def __init__(self, crates: Path, kit: Path) -> None:
-        self.crates, self.files = crates, dict[str, File]()
-        self.kit = set(re.findall(r'(?:^(?:Definition|Fixpoint|Inductive|Record|Notation) |\| )(\w+)', kit.read_text(), re.M))
-        self.fields, self.cases = dict[str, dict[str, str]](), dict[str, str]()
+        self.crates, self.files, text = crates, dict[str, File](), kit.read_text()
+        self.kit = set(re.findall(r'^(?:Definition|Fixpoint|Inductive|Notation) (\w+)', text, re.M))
+        for cases in re.findall(r'^Inductive .*?:=(.*)\.', text, re.M):
+            self.kit |= set(re.findall(r'\| (\w+)', cases))
+        self.signs = set(re.findall(r'^Notation "(?:\w )?(\S+)(?: \w)?"', text, re.M))
+        types = re.search(r'^\(\* types \*\)\n((?:.+\n)+)', text, re.M)
+        words = re.findall(r'^\w+ (\w+)', types[1] if types else '', re.M)
+        self.types = {f'Kit.{word}' for word in words}
+        self.fields = dict[str, list[str]]()
 
     def file(self, crate: str, where: str) -> File:
         """The file of specs/ of a crate, or of a lower one that it passes on."""
         path, module = self.crates / crate / 'specs' / f'{where}.antt', f'{crate}.{where}'
         if module not in self.files and not path.is_file():
-            lower = re.search(rf'use Rattle\.(\w+)\.specs\.{where}\b', path.with_name('Lib.antt').read_text())
+            passed_on = rf'use Rattle\.(\w+)\.specs\.{where}\b'
+            lower = re.search(passed_on, path.with_name('Lib.antt').read_text())
             if not lower:
                 raise Unknown(f'{path}: no such file')
             self.files[module] = self.file(lower[1], where)
@@ -81,366 +88,327 @@ class Library:
             self.files[module] = File(path, module)
         return self.files[module]
 
-    def declared(self, crate: str, where: str) -> tuple[File, str]:
+    def declared(self, crate: str, where: str) -> str:
         """A struct or an enum of the code, which has a file of its own."""
         *folders, name = where.split('.')
         module = f'{crate}.declared_{name}'
         if module not in self.files:
             path = self.crates.joinpath(crate, 'src', *folders).with_suffix('.rt')
-            file = self.files[module] = File(path if path.is_file() else path.with_suffix('') / 'mod.rt', module)
-            found = [match for match in TYPE.finditer(file.path.read_text()) if match[2] == name]
+            file = File(path if path.is_file() else path.with_suffix('') / 'mod.rt', module)
+            found = [match for match in TYPE.finditer(file.text) if match[2] == name]
             if not found:
                 raise Unknown(f'{file.path}: no `{name}` that is known')
-            line = file.path.read_text().count('\n', 0, found[0].start(4)) + 1
-            reader = Reader(self, file, line, re.sub(r'//.*|#\[.*', '', found[0][4]))
-            file.made[name] = ''
-            file.made[name] = reader.declared(name, found[0][1], found[0][3], folders)
-        return self.files[module], name
+            self.files[module], file.made[name] = file, ''
+            self.types.add(f'{module}.{name}')
+            file.made[name] = Reader(self, file).declared(found[0], '.'.join([*folders, '']))
+        return f'{module}.{name}'
 
-    def need(self, file: File, name: str) -> None:
+    def need(self, file: File, name: str) -> str:
         """Translates a definition, if it is not translated yet."""
         if name not in file.made:
             if name not in file.paragraphs:
                 raise Unknown(f'{file.path}: no definition of `{name}` that is known')
             file.made[name] = ''
-            text = Reader(self, file, *file.paragraphs[name]).definition(name)
+            written = Reader(self, file).definition(name, *file.paragraphs[name])
             del file.made[name]                     # what it needs stands before it
-            file.made[name] = text
+            file.made[name] = written
+        return f'{file.module}.{name}'
 
     def texts(self) -> dict[str, str]:
         """The files in Coq, by their names."""
-        head = 'From Coq Require Import ZArith List String.\nFrom Cellarcove Require Kit.\n'
-        files = {file.module: file for file in self.files.values() if file.made}
-        return {module.replace('.', '/') + '.v': f'(* Made of {file.path.relative_to(self.crates)}. *)\n{head}'
-                + ''.join(f'From Cellarcove Require {module}.\n' for module in sorted(file.needs)) + '\n'
-                + '\n\n'.join(file.made.values()) + '\n' for module, file in files.items()}
+        return {file.module.replace('.', '/') + '.v':
+                f'(* Made of {file.path.relative_to(self.crates)}. *)\n{HEADER}'
+                + ''.join(f'From Cellarcove Require {module}.\n' for module in sorted(file.needs))
+                + '\n' + '\n\n'.join(file.made.values()) + '\n'
+                for file in self.files.values() if file.made}
+
+
+def split(items: Sequence[Item], sign: str) -> list[list[Item]]:
+    parts = itertools.groupby(items, lambda item: item == sign)
+    return [list(part) for is_sign, part in parts if not is_sign]
 
 
 class Reader:
-    """Reads a definition, and writes it in Coq as it reads."""
+    """Reads a definition of a file, and writes it in Coq."""
 
-    def __init__(self, library: Library, file: File, line: int, text: str) -> None:
-        self.library, self.file, self.line, self.text, self.at = library, file, line, text, 0
-        self.scope, self.expected, self.pattern = dict[str, Coq](), '', False
+    def __init__(self, library: Library, file: File) -> None:
+        self.library, self.file = library, file
+        self.bound, self.types = dict[str, str](), set[str]()
 
-    def fails(self, why: str) -> Unknown:
-        return Unknown(f'{self.file.path}:{self.line + self.text.count(chr(10), 0, self.at)}: {why}')
+    def fails(self, item: Item, why: str = '') -> Unknown:
+        token = item.open if isinstance(item, Group) else item
+        line = token.line if isinstance(token, Token) else '?'
+        return Unknown(f'{self.file.path}:{line}: {why or f"`{token}` is not known here"}')
 
-    @property
-    def next(self) -> str:
-        space = SPACE.match(self.text, self.at)
-        token = TOKEN.match(self.text, space.end() if space else self.at)
-        return token[0] if token else ''
+    def rows(self, text: str, line: int, begins: str) -> list[Group]:
+        """The tokens of a text, of which each line that begins in a way begins a row."""
+        found = list[Group]()
+        for row in re.split(rf'\n(?={begins})', COMMENT.sub('', text)):
+            found.append(self.tree(self.tokens(row, line)))
+            line += row.count('\n') + 1
+        return [row for row in found if row]
 
-    def take(self, *wanted: str) -> str:
-        token = self.next
-        if not token or wanted and token not in wanted:
-            raise self.fails(f'`{token}` is not known here')
-        self.at = self.text.index(token, self.at) + len(token)
-        return token
+    def tokens(self, text: str, line: int) -> Iterator[Token]:
+        for found in TOKEN.finditer(text):
+            token = Token(found[0])
+            token.line = line + text.count('\n', 0, found.start())
+            yield token
 
-    def listed(self, end: str, separator: str) -> list[Coq]:
-        found = [self.term()]
-        while self.take(separator, end) == separator:
-            found.append(self.term())
-        return found
+    def tree(self, tokens: Iterator[Token], opened: Token = Token()) -> Group:
+        group = Group()
+        group.open = opened
+        for token in tokens:
+            if token == CLOSING.get(opened):
+                return group
+            if token in CLOSING.values():
+                raise self.fails(token)
+            group.append(self.tree(tokens, token) if token in CLOSING else token)
+        if opened:
+            raise self.fails(opened)
+        return group
 
-    def variable(self, name: str, kind: str = '') -> str:
-        text = name + '_' * (name in RESERVED)
-        self.scope[name] = Coq(text, kind)
-        return text
+    def variable(self, item: Item) -> str:
+        if isinstance(item, Group) or not NAME.fullmatch(item):
+            raise self.fails(item)
+        self.bound[item] = item + '_' * (item in RESERVED)
+        return self.bound[item]
 
-    def group(self) -> str:
-        """`(x y : A)` or `{X : A}` as a binder in Coq, or nothing if another term begins here."""
-        found = GROUP.match(self.text, self.at)
-        if not found:
-            return ''
-        self.at = found.end()
-        kind = self.term().text
-        kind = 'Type' if found[1] == '{' and kind == 'Prop' else kind
-        names = ' '.join(self.variable(name, kind) for name in found[2].split())
-        return f'{found[1]}{names} : {kind}{self.take({"(": ")", "{": "}"}[found[1]])}'
-
-    def groups(self) -> list[str]:
+    def binders(self, items: Sequence[Item]) -> list[str]:
+        """The groups `(x y : A)` and `{X : A}` with which a term begins, as binders in Coq."""
         found = list[str]()
-        while group := self.group():
-            found.append(group)
+        for item in items:
+            if not isinstance(item, Group) or ':' not in item or item.open not in ('(', '{'):
+                break
+            names, kind = item[:item.index(':')], self.term(item[item.index(':') + 1:])
+            if item.open == '{' and kind == 'Prop':
+                kind, self.types = 'Type', {*self.types, *map(str, names)}
+            shown = ' '.join(map(self.variable, names))
+            found.append(f'{item.open}{shown} : {kind}{CLOSING[item.open]}')
         return found
 
-    def term(self, least: int = -1) -> Coq:
-        kept = dict(self.scope)
-        if groups := self.groups():
-            sign = self.take('→', '×')
-            body = self.term(SIGNS[sign][0]).text
-            self.scope = kept
-            before = f'forall {" ".join(groups)}, ' if sign == '→' else ''.join(f'exists {x[1:-1]}, ' for x in groups)
-            left = Coq(f'({before}{body})')
-        else:
-            left = self.applied()
-        while self.next in SIGNS and SIGNS[self.next][0] >= least:
-            _, most, sign, scope = SIGNS[self.take()]
-            self.expected = left.type
-            right = self.term(most)
-            data = 'Type' in (left.type, right.type) and (sign == '/\\' or sign == '->' and right.type == 'Type')
-            sign, scope = ('*', 'type') if data and sign != '->' else (sign, scope)
-            left = Coq(f'({left.text} {sign} {right.text})' + f'%{scope}' * bool(scope), 'Type' * data)
-        return left
+    def term(self, items: Sequence[Item], pattern: bool = False) -> str:
+        """A term in Coq, token by token."""
+        if binders := self.binders(items):          # the sign after them says: all, or some
+            rest = items[len(binders):]
+            if not rest or rest[0] not in ('→', '×'):
+                raise self.fails(items[0])
+            return f'{"∀" if rest[0] == "→" else "∃"} {" ".join(binders)} {self.term(rest)}'
+        match items:
+            case []:
+                return ''
+            case ['λ', *rest] if '.' in rest:
+                dot = rest.index('.')
+                names = ' '.join(map(self.parameter, rest[:dot]))
+                return f'fun {names} => {self.term(rest[dot + 1:])}'
+            case ['let', name, '=', *rest] if 'in' in rest:
+                value, last = self.term(rest[:rest.index('in')]), rest.index('in') + 1
+                return f'let {self.variable(name)} := {value} in {self.term(rest[last:])}'
+            case ['record', Group() as fields, *rest]:
+                text = self.record(fields)
+            case ['Type', '0', *rest]:
+                text = 'Prop'
+            case ['pos', str() as number, *rest] if number.isdigit():
+                text = f'{number}%Z'
+            case ['.', str() as name, *rest]:
+                text = self.part(name)
+            case [str() as name, '.', str() as case, *rest] if self.import_of(name)[2] == '':
+                text = self.cited(self.meaning(name, case))
+            case ['¬', _, after, *_] if isinstance(after, Group) or NAME.fullmatch(after):
+                raise self.fails(after, '`¬` of more than one term')
+            case [Group() as group, *rest]:
+                if (group.open == '[') == bool(group):
+                    raise self.fails(group)
+                text = f'({self.term(group, pattern)})' if group else 'nil'
+                text *= group.open != '{'           # an implicit argument, which Coq finds
+            case [str() as token, *rest]:
+                text = self.atom(token, pattern)
+        return f'{text} {self.term(rest, pattern)}'.strip()
 
-    def applied(self) -> Coq:
-        head, parts = self.atom(), list[Coq]()
-        while (token := self.next) and token not in SIGNS and token not in STOPS:
-            if token == '{':                        # an implicit argument, which Coq finds
-                self.at = self.text.index('}', self.at) + 1
-            else:
-                parts.append(self.atom())
-        if parts and head.text == 'Z.of_nat' and parts[0].text.isdigit():
-            return Coq(f'{parts[0].text}%Z', 'Z')
-        if head.text == 'Logic.not' and len(parts) != 1:
-            raise self.fails('`¬` of more than one term')
-        return Coq(f'({" ".join(part.text for part in [head, *parts])})', 'Type' * (head.type == 'Type')) if parts else head
+    def parameter(self, item: Item) -> str:
+        """A variable of a function, with its type or without, or a pattern for a pair."""
+        if isinstance(item, Group):
+            return ''.join(self.binders([item])) or f"'{self.term([item], True)}"
+        return self.variable(item)
 
-    def atom(self) -> Coq:
-        token = self.take()
-        known = {'λ': self.function, '(': self.tuple, 'let': self.let, 'if': self.choice, 'record': self.record}
-        if token in known:
-            term = known[token]()
-        elif token == '[' and self.take(']') or token == 'Type' and self.take('0'):
-            term = Coq('nil' if token == '[' else 'Prop')
-        elif token == '∥':
-            term = self.term()
-            self.take('∥₁')
-        else:
-            term = Coq(token + '%string') if token[0] == '"' else Coq(token) if token.isdigit() else self.word(token)
-        while self.text[self.at:self.at + 1] == '.' and re.match(r'\w', self.text[self.at + 1:]):
-            self.take('.')
-            term = self.part(term, self.take())
-        return term
+    def record(self, group: Group) -> str:
+        rows = {str(row[0]): self.term(row[2:]) for row in split(group, ';') if row[1:2] == ['=']}
+        kinds = [kind for kind, fields in self.library.fields.items() if {*fields} == {*rows}]
+        if len(kinds) != 1 or len(rows) != group.count('='):
+            raise self.fails(group, f'no record that is known is {", ".join(rows)}')
+        kind = self.cited(kinds[0])
+        return '{| ' + '; '.join(f'{kind}_{name} := {text}' for name, text in rows.items()) + ' |}'
 
-    def word(self, name: str) -> Coq:
-        """What a word means: a variable, a definition of the file, or what it imports."""
-        if name in self.scope and not self.pattern:
-            return self.scope[name]
-        crate, where, original = self.file.imports.get(name, ('', '', name))
-        if self.pattern and name in ('pos', 'negsuc'):
-            return Coq({'pos': 'inl', 'negsuc': 'inr'}[name])
-        if where.endswith('TheVariants') and crate not in OUTSIDE:
-            file, of = self.library.declared(crate, where.partition('.declared.')[2].removesuffix('.TheVariants'))
-            return self.cited(file, f'{of}_{original or self.take(".") and self.take()}')
-        if name in CASES or name in WORDS or name in TYPES:
-            return Coq({**CASES, **WORDS, **TYPES}[name], 'Type' * (name in TYPES))
-        if crate in OUTSIDE:
-            if original.replace('ℤ', 'Z') not in self.library.kit:
-                raise self.fails(f'compare/coq/Kit.v has no `{original}`')
-            return Coq('Kit.' + original.replace('ℤ', 'Z'))
-        if '.declared.' in where:
-            return self.cited(*self.library.declared(crate, where.partition('.declared.')[2]), 'Type')
-        if name in self.library.cases and not crate:
-            return Coq(self.library.cases[name])
-        if self.pattern and not crate:
-            return Coq(self.variable(name))
-        file = self.library.file(crate, where.removeprefix('specs.')) if crate else self.file
-        if not crate and name not in file.paragraphs:
-            raise self.fails(f'`{name}` is not known')
-        self.library.need(file, original)
-        return self.cited(file, original, 'Type' * (f'{file.module}.{original}' in self.library.fields))
-
-    def cited(self, file: File, name: str, kind: str = '') -> Coq:
-        if file is self.file:
-            return Coq(name, kind)
-        self.file.needs.add(file.module)
-        return Coq(f'{file.module}.{name}', kind)
-
-    def function(self) -> Coq:
-        kept, names = dict(self.scope), list[str]()
-        while self.next != '.':
-            if group := self.group():
-                names.append(group)
-            elif self.next == '(':
-                self.pattern = True
-                names.append("'" + self.atom().text)
-                self.pattern = False
-            else:
-                names.append(self.variable(self.take()))
-        self.take('.')
-        body, self.scope = self.term().text, kept
-        return Coq(f'(fun {" ".join(names)} => {body})')
-
-    def tuple(self) -> Coq:
-        parts = self.listed(')', ',')
-        return Coq(f'({", ".join(part.text for part in parts)})') if len(parts) > 1 else parts[0]
-
-    def let(self) -> Coq:
-        name = self.take()
-        if self.next == ':' and self.take(':'):
-            self.term(5)
-        self.take('=')
-        value = self.term()
-        self.take('in')
-        return Coq(f'(let {self.variable(name, value.type)} := {value.text} in {self.term().text})')
-
-    def choice(self) -> Coq:
-        test, _, first, _ = self.term().text, self.take('then'), self.term().text, self.take('else')
-        return Coq(f'(if {test} then {first} else {self.term(5).text})')
-
-    def fields(self, kind: str) -> dict[str, str]:
-        known = self.library.fields
-        return known.get(kind) or known.get(f'{self.file.module}.{kind}') or {}
-
-    def kind_with(self, kind: str, names: set[str]) -> str:
-        """The record type that a term has, or the only one that has the fields."""
-        if names <= set(self.fields(kind)):
-            return kind
-        found = [kind for kind, fields in self.library.fields.items() if names <= set(fields)]
-        if len(found) != 1:
-            raise self.fails(f'no record type that is known, or more than one, has {", ".join(sorted(names))}')
-        return found[0].removeprefix(f'{self.file.module}.')
-
-    def part(self, term: Coq, name: str) -> Coq:
+    def part(self, name: str) -> str:
+        """A part of what stands before. If two records have such a field, Coq knows the type."""
         if name in ('0', '1'):
-            return Coq(f'({("fst", "snd")[int(name)]} {term.text})')
-        kind = self.kind_with(term.type.strip('()').split(' ')[0], {name})
-        return Coq(f'({kind}_{name} {term.text})', self.fields(kind)[name])
+            return f'.{name}'
+        found = [kind for kind, fields in self.library.fields.items() if name in fields]
+        if not 1 <= len(found) <= 2:
+            raise self.fails(name, f'no record that is known, or more than two, has `{name}`')
+        shown = [f'{self.cited(kind)}_{name}' for kind in found]
+        return f'.({shown[0]})' if len(shown) == 1 else f'.⟨ {" | ".join(shown)} ⟩'
 
-    def record(self) -> Coq:
-        expected, rows, _ = self.expected, dict[str, str](), self.take('{')
-        while self.next != '}':
-            field, _ = self.take(), self.take('=')
-            self.expected = self.fields(expected).get(field, '')
-            rows[field] = self.term().text
-            if self.next == ';':
-                self.take(';')
-        self.take('}')
-        kind = self.kind_with(expected, set(rows))
-        return Coq('{| ' + '; '.join(f'{kind}_{field} := {text}' for field, text in rows.items()) + ' |}')
+    def import_of(self, word: str) -> tuple[str, str, str]:
+        return self.file.imports.get(word, ('', '', word))
 
-    def definition(self, name: str) -> str:
-        form = self.take('abbrev', 'unfoldable', 'pub')
-        kind = self.take('pub', 'record', 'data')
-        self.text = self.text.replace(f'{form} {kind} {name}', f'{form} {kind} §', 1)
-        self.text = re.sub(rf'^{name}(?= )' if kind != 'data' else r'^  (?=\w+ :)', '¶', self.text, flags=re.M)
-        self.take('§')
-        return {'record': self.of_record, 'data': self.of_data}.get(kind, self.of_function)(name)
+    def atom(self, token: str, pattern: bool) -> str:
+        crate, sign = self.import_of(token)[0], token + 'ℕ' * token.isascii()
+        if token in PLAIN or token.isdigit():
+            return PLAIN.get(token, token)
+        if token[0] == '"':
+            return f'{token}%string'
+        if sign in self.library.signs and self.import_of(f'◌{token}◌')[0] in ('', *OUTSIDE):
+            return sign
+        if pattern and not crate and token not in self.file.cases:
+            return self.variable(token)
+        if token in self.bound and (crate or token in self.file.paragraphs):
+            raise self.fails(token, f'`{token}` is a variable and a definition')
+        name = self.bound.get(token) or self.cited(self.meaning(token))
+        return VIEWED.get(name, name) if pattern else name
 
-    def of_record(self, name: str) -> str:
-        params, rows = self.groups(), list[tuple[str, Coq]]()
-        for word in (':', 'Type', '0', 'where'):
-            self.take(word)
-        while self.next:
-            self.take('pub')
-            field, _, kind = self.take(), self.take(':'), self.term()
-            rows.append((self.variable(field, kind.text) if kind.type == 'Type' else '', kind))
-            if not self.text[self.at:].strip():
-                break
-        if all(field for field, _ in rows) and not params:
-            self.library.fields[f'{self.file.module}.{name}'] = {field: kind.text for field, kind in rows}
-            fields = '; '.join(f'{name}_{field} : {kind.text}' for field, kind in rows)
-            return f'Record {name} : Type := Make_{name} {{ {fields} }}.'
-        body = ''
-        for field, kind in reversed(rows):
-            fact = f'exists {field} : {kind.text},' if field else f'{kind.text} /\\' if body else kind.text
-            body = f'{fact}\n  {body}' if body else fact
-        return f'Definition {" ".join([name, *params])} : Prop :=\n  {body}.'
+    def meaning(self, token: str, case: str = '') -> str:
+        """The whole name in Coq of a word that is no variable."""
+        crate, where, name = self.import_of(token)
+        if crate in OUTSIDE and name in self.library.kit:
+            return f'Kit.{name}'
+        if '.declared.' in where:
+            kind, variants, _ = where.partition('.declared.')[2].partition('.TheVariants')
+            return self.library.declared(crate, kind) + f'_{name or case}' * bool(variants)
+        if not crate and token in self.file.cases:
+            return f'{self.file.module}.{self.file.cases[token]}'
+        if crate in OUTSIDE or not crate and token not in self.file.paragraphs:
+            raise self.fails(token)
+        file = self.library.file(crate, where.removeprefix('specs.')) if crate else self.file
+        return self.library.need(file, name)
 
-    def of_data(self, name: str) -> str:
-        self.library.fields[f'{self.file.module}.{name}'], rows = {}, list[str]()
-        for word in (':', 'Type', '0', 'where'):
-            self.take(word)
-        while self.next == '¶':
-            case, _ = self.take('¶') and self.take(), self.take(':')
-            rows.append(f'\n| {name}_{case} : {self.term().text}')
-            self.library.cases[case] = f'{name}_{case}'
-        if self.next or not rows:
-            raise self.fails(f'`{self.next}` is not known here')
-        return f'Inductive {name} : Type :={"".join(rows)}.'
+    def cited(self, name: str) -> str:
+        """A name as this file writes it, which requires the file that has it."""
+        module, _, own = name.rpartition('.')
+        self.file.needs |= {module} - {'Kit', self.file.module}
+        return own if module == self.file.module else name
 
-    def of_function(self, name: str) -> str:
-        implicit, kinds, self.text = list[str](), list[str](), self.text.rstrip()
-        self.take(':')
-        while True:
-            for group in self.groups():
-                count = len(group.split(' : ')[0].split())
-                implicit += [group] * (group[0] == '{')
-                kinds += [group[1:-1].split(' : ', 1)[1]] * count * (group[0] == '(')
-                self.take('→') if self.next == '→' else None
-            kind = self.term(0)
-            if self.next != '→':
-                break
-            self.take('→')
-            kinds.append(kind.text)
-        return self.equations(name, implicit, kinds, kind)
+    def is_data(self, items: Sequence[Item]) -> bool:
+        """Whether a term is a type of data: it has words for types alone."""
+        plain, others = {'×', '→', *self.types}, {'Type', *self.bound}
+        return all(self.is_data(item) if isinstance(item, Group) else item in plain or
+                   NAME.fullmatch(item) is not None and item not in others
+                   and self.meaning(item) in self.library.types for item in items)
 
-    def equations(self, name: str, implicit: list[str], kinds: list[str], result: Coq) -> str:
-        kept, rows = self.scope, list[tuple[list[str], Coq]]()
-        while self.take('¶'):
-            self.scope, patterns, self.pattern = dict(kept), list[str](), True
-            while self.next != '=':
-                if self.next == '{':
-                    self.at = self.text.index('}', self.at) + 1
-                else:
-                    word, pattern = self.next, self.atom().text
-                    if word in self.scope:
-                        self.variable(word, kinds[len(patterns)])
-                    patterns.append(pattern)
-            self.pattern, self.expected, _ = False, result.text, self.take('=')
-            rows.append((patterns, self.term()))
-            if not self.next:
-                break
-        return written(name, implicit, kinds, result, rows)
+    def definition(self, name: str, line: int, text: str) -> str:
+        forms = {'pub record': self.of_record, 'pub data': self.of_data}
+        form = forms.get(' '.join(text.split()[:2]), self.of_function)
+        head, *rows = self.rows(text, line, r'\S' if form == self.of_function else r'(?:  )?\S')
+        return form(name, head, rows)
 
-    def rust(self, folders: list[str]) -> str:
-        token = self.take()
-        known = self.file.module.split('.')[0], '.'.join([*folders, token])
-        return NUMBERS[token] if token in NUMBERS else self.cited(*self.library.declared(*known)).text
-
-    def declared(self, name: str, form: str, param: str, folders: list[str]) -> str:
-        """A struct with its fields and what `ghost` says of them, or an enum."""
-        rows, binder = list[str](), f' ({param} : Type)' if param else ''
-        fields = self.library.fields[f'{self.file.module}.{name}'] = dict[str, str]()
-        while self.next:
-            word = self.take() if self.next != 'pub' else self.take() and self.take()
-            if form == 'enum':
-                rows.append(f'| {name}_{word}' + ''.join(f' (_ : {kind})' for kind in self.inputs(folders)))
-            elif word == 'ghost':
-                field, _, _ = self.take(), self.take(':'), self.take('{')
-                rows.append(f'{name}_{field} : {self.term().text}')
-                self.at = self.text.index('},', self.at) + 1
-            else:
-                fields[word] = self.take(':') and self.rust(folders)
-                rows.append(f'{name}_{word} : {fields[word]}')
-                self.scope[word] = Coq(f'{name}_{word}', fields[word])
-            self.take(',')
-        implicit = 'Set Implicit Arguments.\nSet Contextual Implicit.\n' if param else ''
-        if form == 'enum':
-            return f'{implicit}Inductive {name}{binder} : Type :=\n' + '\n'.join(rows) + '.'
-        return f'{implicit}Record {name}{binder} : Type := Make_{name} {{\n  ' + ';\n  '.join(rows) + '\n}.'
-
-    def inputs(self, folders: list[str]) -> list[str]:
-        """The types of what a variant holds."""
-        found = list[str]()
-        if self.next == '(':
-            while self.take('(', ',', ')') != ')':
-                found.append(self.rust(folders))
-        elif self.next == '=':
-            self.take('=') and self.take()
+    def facts(self, rows: Sequence[Sequence[Item]], of: str = '') -> list[tuple[str, str, str]]:
+        """The rows `name : term`: the name, the term, and the name again if the term is a type."""
+        found = list[tuple[str, str, str]]()
+        for row in rows:
+            if row[1:2] != [':']:
+                raise self.fails(row[0])
+            text, is_data = self.term(row[2:]), self.is_data(row[2:])
+            found.append((str(row[0]), text, self.variable(row[0]) if is_data else ''))
+            self.bound.update({str(row[0]): f'{of}_{row[0]}'} if of else {})
         return found
 
+    def parameters(self, head: Group) -> list[str]:
+        found = self.binders(head[3:])
+        if head[3 + len(found):] != [':', 'Type', '0', 'where']:
+            raise self.fails(head[-1])
+        return found
 
-def written(name: str, implicit: list[str], kinds: list[str], result: Coq, rows: list[tuple[list[str], Coq]]) -> str:
-    """A function in Coq, of its equations. What is in all of them the same variable is no case."""
-    count, inputs, tested, cases = len(rows[0][0]), list(implicit), dict[int, str](), list[str]()
-    for i in range(count):
-        texts = {patterns[i] for patterns, _ in rows}
-        plain = len(texts) == 1 and re.fullmatch(r'\w+', min(texts)) and min(texts) != '_'
-        inputs.append(f'({min(texts) if plain else f"a{i}"} : {kinds[i]})')
-        if not plain:
-            tested[i] = f'(Kit.view a{i})' if any(text.startswith(('(inl', '(inr')) for text in texts) else f'a{i}'
-    for patterns, term in rows:
-        text, shown = term.text, ', '.join(patterns[i] for i in tested)
-        for k, inner in enumerate(re.findall(r'\((?!inl|inr)[^()]+\)(?:%list)?(?=[)%])', shown)):
-            if inner in text:                       # the recursion is on a part of what is matched
-                text, shown = text.replace(inner, f'part{k}'), shown.replace(inner, f'({inner} as part{k})')
-        cases.append(f'\n  | {shown} => {text}')
-    body = f'match {", ".join(tested.values())} with{"".join(cases)}\n  end' if tested else rows[0][1].text
-    form = 'Fixpoint' if re.search(rf'(?<![\w.]){name}(?![\w_])', body) else 'Definition'
-    kind = 'Type' if result.text == 'Prop' and rows[0][1].type == 'Type' else result.text
-    return f'{form} {" ".join([name, *inputs])} : {" -> ".join([*kinds[count:], kind])} :=\n  {body}.'
+    def of_record(self, name: str, head: Group, rows: list[Group]) -> str:
+        if stray := [row for row in rows if row[0] != 'pub']:
+            raise self.fails(stray[0][0])
+        parameters, facts = self.parameters(head), self.facts([row[1:] for row in rows])
+        if all(data for _, _, data in facts) and not parameters:
+            return self.as_type('Record', name, facts)
+        texts = [f'exists {data} : {text},' if data else f'({text}) /\\' for _, text, data in facts]
+        texts[-1] = texts[-1].removesuffix(' /\\')
+        shown = '\n  '.join([f'{" ".join([name, *parameters])} : Prop :=', *texts])
+        return f'Definition {shown}.'
+
+    def of_data(self, name: str, head: Group, rows: list[Group]) -> str:
+        self.library.types.add(f'{self.file.module}.{name}')
+        if self.parameters(head):
+            raise self.fails(head[2])
+        return self.as_type('Inductive', name, self.facts(rows))
+
+    def as_type(self, form: str, name: str, facts: list[tuple[str, str, str]], of: str = '') -> str:
+        """A record or an inductive type, whose fields or cases have its name before theirs."""
+        self.library.types.add(f'{self.file.module}.{name}')
+        rows = [f'{name}_{own} : {text}' for own, text, _ in facts]
+        head = f'Set Implicit Arguments.\nSet Contextual Implicit.\n{form} {name} ({of} : Type)' \
+            if of else f'{form} {name}'
+        if form == 'Inductive':
+            return f'{head} : Type :=' + ''.join(f'\n| {row}' for row in rows) + '.'
+        self.library.fields[f'{self.file.module}.{name}'] = [own for own, _, _ in facts]
+        return f'{head} : Type := Make_{name} {{\n  ' + ';\n  '.join(rows) + '\n}.'
+
+    def of_function(self, name: str, head: Group, rows: list[Group]) -> str:
+        kind, binders, equations = head[4:], [name], list[tuple[list[str], str]]()
+        for item in [item for item in kind if isinstance(item, Group) and item.open == '{']:
+            at = kind.index(item)
+            binders += self.binders([kind.pop(at)])
+            del kind[at:at + (kind[at] == '→')]
+        text, bound = self.term(kind), self.bound
+        for row in rows:
+            if row[0] != name or '=' not in row:
+                raise self.fails(row[0])
+            self.bound, at = dict(bound), row.index('=')
+            patterns = [self.term([item], True) for item in row[1:at]]
+            equations.append(([each for each in patterns if each], self.term(row[at + 1:])))
+        return f'Definition {" ".join(binders)} : {text} :=\n  {self.matched(name, equations)}.'
+
+    def matched(self, name: str, equations: list[tuple[list[str], str]]) -> str:
+        """The function of the equations. What is in all of them the same variable is no case."""
+        inputs, tested, cases = list[str](), dict[int, str](), list[str]()
+        for i, texts in enumerate(zip(*(patterns for patterns, _ in equations))):
+            same = len(set(texts)) == 1 and texts[0] in self.bound.values()
+            inputs.append(texts[0] if same else f'a{i}')
+            if not same:
+                viewed = any(text.startswith(('(inl', '(inr')) for text in texts)
+                tested[i] = f'Kit.view a{i}' if viewed else f'a{i}'
+        for patterns, body in equations:
+            for i, part in itertools.product(tested, re.findall(r'\(([^()]+)\)', body)):
+                if f'{part})' in patterns[i] and patterns[i] != f'({part})':
+                    patterns[i] = patterns[i].replace(part, f'(({part}) as part{i})')
+                    body = body.replace(f'({part})', f'part{i}')    # the recursion is on it
+            cases.append(f'\n  | {", ".join(patterns[i] for i in tested)} => {body}')
+        body = f'match {", ".join(tested.values())} with{"".join(cases)}\n  end' if tested else body
+        if re.search(rf'(?<![\w.]){name}(?!\w)', body):
+            return f'fix {" ".join([name, *inputs])} := {body}'
+        return f'fun {" ".join(inputs)} => {body}' if inputs else body
+
+    def declared(self, found: re.Match[str], folder: str) -> str:
+        """A struct with its fields and what `ghost` says of them, or an enum."""
+        (form, name, of, text), rows = found.groups(), list[list[Item]]()
+        self.types, self.bound = {of} - {None}, {of: of}
+        result = [self.rust(name, folder), *self.types]
+        line = self.file.text.count('\n', 0, found.start(4)) + 1
+        for row in split(self.rows(text, line, r'\Z')[0], ','):
+            match row[row[0] == 'pub':]:
+                case ['ghost', field, ':', Group() as fact, *_]:
+                    rows.append([field, ':', *fact])
+                case [field, ':', kind] if form == 'struct':
+                    rows.append([field, ':', self.rust(kind, folder)])
+                case [case, Group() as kinds] if form == 'enum':
+                    held = [(self.rust(kind, folder), '→') for kind in kinds if kind != ',']
+                    rows.append([case, ':', *itertools.chain(*held), *result])
+                case [case] | [case, '=', _] if form == 'enum':
+                    rows.append([case, ':', *result])
+                case _:
+                    raise self.fails(row[0])
+        kind = 'Record' if form == 'struct' else 'Inductive'
+        return self.as_type(kind, name, self.facts(rows, name), of or '')
+
+    def rust(self, kind: Item, folder: str) -> Item:
+        """A type of the code, as a word: ℤ, ℕ or Bool for its values, or one that is declared."""
+        if isinstance(kind, Group):
+            raise self.fails(kind)
+        plain = re.fullmatch(r'[iu](?:\d+|size)|bool', kind)
+        word = {'i': 'ℤ', 'u': 'ℕ', 'b': 'Bool'}[kind[0]] if plain else kind
+        crate = 'std' if plain else self.file.module.split('.')[0]
+        if kind not in self.types:
+            self.file.imports[word] = crate, '' if plain else f'.declared.{folder}{kind}', word
+        return word

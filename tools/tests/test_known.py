@@ -5,11 +5,13 @@ from pathlib import Path
 import pytest
 
 from tools import ROOT, write
-from tools.checks import known
+from tools.checks import known, known_changes, known_table
 from tools.checks.antt_to_coq import Library, Unknown
+from tools.checks.coq_build import Build
 
 KIT = ROOT / 'compare/coq/Kit.v'
-HEAD = 'use Rattle.std.specs.Prelude.{◌≡◌, ◌≤ℤ◌, ◌*ℤ◌, ℤ, ℕ, pos, unsigned_abs, List}\n\n'
+HEAD = ('use Rattle.std.specs.Prelude.{◌≡◌, ◌≤ℤ◌, ◌*ℤ◌, ℤ, ℕ, zero, suc, pos, negsuc, List}\n'
+        'use Rattle.one.specs.Other.{◌≤◌}\n\n')
 
 
 def translated(root: Path, text: str, name: str = 'Is') -> str:
@@ -21,24 +23,64 @@ def translated(root: Path, text: str, name: str = 'Is') -> str:
 
 
 @pytest.mark.parametrize('text, coq', [
-    ('pub record Is (a b : ℤ) : Type 0 where\n  pub low : a ≤ℤ b\n  pub quotient : ℤ\n  pub product : a ≡ quotient *ℤ b',
-     'Definition Is (a b : Z) : Prop :=\n  (a <= b)%Z /\\\n  exists quotient : Z,\n  (a = (quotient * b)%Z).\n'),
-    ('pub record Is : Type 0 where\n  pub left : ℤ\n  pub right : ℕ',
-     'Record Is : Type := Make_Is { Is_left : Z; Is_right : nat }.\n'),
-    ('abbrev pub Is : ℤ → Type 0\nIs (pos n) = (k : ℕ) → n ≡ k\nIs (negsuc n) = ⊥',
-     'Definition Is (a0 : Z) : Prop :=\n  match (Kit.view a0) with\n  | (inl n) => (forall (k : nat), (n = k))\n  | (inr n) => False\n  end.\n'),
-    ('unfoldable pub Is : ℕ → ℕ\nIs zero = 0\nIs (suc n) = Is n', 'Fixpoint Is (a0 : nat) : nat :=\n  match a0 with\n  | O => 0\n  | (S n) => (Is n)\n  end.\n'),
-    ('pub data Is : Type 0 where\n  Up : ℕ → Is\n  Down : ℕ → Is', 'Inductive Is : Type :=\n| Is_Up : (nat -> Is)\n| Is_Down : (nat -> Is).\n'),
+    ("""pub record Is (a b : ℤ) : Type 0 where
+  pub low : a ≤ℤ b
+  pub quotient : ℤ
+  pub product : a ≡ quotient *ℤ b""", """Definition Is (a b : Kit.ℤ) : Prop :=
+  (a ≤ℤ b) /\\
+  exists quotient : Kit.ℤ,
+  (a ≡ quotient *ℤ b).
+"""),
+    ('pub record Is : Type 0 where\n  pub left : ℤ\n  pub right : List (ℕ × ℕ)',
+     """Record Is : Type := Make_Is {
+  Is_left : Kit.ℤ;
+  Is_right : Kit.List (Kit.ℕ × Kit.ℕ)
+}.
+"""),
+    ("""abbrev pub Is : ℤ → Type 0
+Is (pos n) = (k : ℕ) → (z : ℕ) × n ≡ k × ¬ (k ≡ z)
+Is (negsuc n) = ⊥""", """Definition Is : Kit.ℤ → Prop :=
+  fun a0 => match Kit.view a0 with
+  | (inl n) => ∀ (k : Kit.ℕ) → ∃ (z : Kit.ℕ) × n ≡ k × ¬ (k ≡ z)
+  | (inr n) => ⊥
+  end.
+"""),
+    ("""unfoldable pub Is : {X : Type 0} → List X → ℕ → ℕ
+Is xs zero = 0
+Is xs (suc zero) = 1
+Is xs (suc (suc n)) = Is xs (suc n)""", """Definition Is {X : Type} : Kit.List X → Kit.ℕ → Kit.ℕ :=
+  fix Is xs a1 := match a1 with
+  | Kit.zero => 0
+  | (Kit.suc Kit.zero) => 1
+  | (Kit.suc (((Kit.suc n) as part1))) => Is xs part1
+  end.
+"""),
+    ('pub data Is : Type 0 where\n  Up : ℕ → Is\n  Down : ℕ → Is',
+     'Inductive Is : Type :=\n| Is_Up : Kit.ℕ → Is\n| Is_Down : Kit.ℕ → Is.\n'),
 ])
 def test_forms(tmp_path: Path, text: str, coq: str) -> None:
     assert translated(tmp_path, text) == coq
 
 
 @pytest.mark.parametrize('text, line', [
-    ('abbrev pub Is : ℤ → Type 0\nIs x = y', 4), ('abbrev pub Is : ℤ → Type 0\nIs x = x ⊗ x', 4),
-    ('abbrev pub Is : ℤ → Type 0\nIs x = x ≡ where', 4), ('abbrev pub Is : ℤ → ℤ\nIs x = x.half', 4),
-    ('abbrev pub Is : ℤ → Type 0\nIs x = ¬ x x', 4), ('pub record Is (a : ℤ) : Type 1 where\n  pub low : a ≡ a', 3),
-    ('abbrev pub Is : Type 0\nIs = record { one = pos 1 }', 4), ('abbrev pub Is : ℤ → Type 0\nIs x = elim x [ ]', 4),
+    ('abbrev pub Is : ℤ → Type 0\nIs x = y', 5),
+    ('abbrev pub Is : ℤ → Type 0\nIs x = x ⊗ x', 5),
+    ('abbrev pub Is : ℤ → Type 0\nIs x = x ≤ x', 5),
+    ('abbrev pub Is : ℤ → Type 0\nIs x = x ≡ where', 5),
+    ('abbrev pub Is : ℤ → ℤ\nIs x = x.half', 5),
+    ('abbrev pub Is : ℤ → ℤ\nIs x = (x', 5),
+    ('abbrev pub Is : ℤ → ℤ\nIs x = x)', 5),
+    ('abbrev pub Is : ℤ → Type 0\nIs x = ¬ x x', 5),
+    ('abbrev pub Is : ℤ → Type 0\nIs x = (y : ℤ) ≡ x', 5),
+    ('abbrev pub Is : ℤ → Type 0\nIs x = (suc : ℕ) → suc ≡ suc', 5),
+    ('abbrev pub Is : ℤ → Type 0\nIs Is = Is ≡ Is', 5),
+    ('abbrev pub Is : ℤ → Type 0\nIsnt x = x ≡ x', 5),
+    ('pub record Is (a : ℤ) : Type 1 where\n  pub low : a ≡ a', 4),
+    ('pub record Is (a : ℤ) : Type 0 where\n  low : a ≡ a', 5),
+    ('pub data Is (a : ℤ) : Type 0 where\n  Up : Is', 4),
+    ('abbrev pub Is : Type 0\nIs = record { one = pos 1 }', 5),
+    ('abbrev pub Is : ℤ → Type 0\nIs x = elim x [ ]', 5),
+    ('abbrev pub Is : ℤ → Type 0\nIs x = All [x]', 5),
 ])
 def test_rejected(tmp_path: Path, text: str, line: int) -> None:
     with pytest.raises(Unknown, match=rf'Words\.antt:{line}: '):
@@ -53,21 +95,27 @@ def test_no_definition(tmp_path: Path, text: str) -> None:
 
 def test_changes() -> None:
     text = 'pub record Is (a b : ℤ) : Type 0 where\n  pub low : pos 0 ≤ℤ a\n  pub up : Below a b -ℤ a\n'
-    assert [change for change, _ in known.changes(text)] == [
+    assert [change for change, _ in known_changes.changes(text)] == [
         '<ℤ for ≤ℤ', '+ℤ for -ℤ', '1 for 0', 'b a for a b', 'without low', 'without up']
 
 
+def test_changes_have_names() -> None:
+    text = 'abbrev pub Is : ℤ → ℤ → Type 0\nIs a b = (a ≤ℤ b) × (b ≤ℤ a)\n'
+    assert [*known_changes.changes(text)] == [
+        ('<ℤ for ≤ℤ', text.replace('a ≤ℤ', 'a <ℤ')), ('<ℤ for ≤ℤ, place 2', text.replace('b ≤ℤ', 'b <ℤ'))]
+
+
 def test_rows() -> None:
-    rows = known.table()
+    rows = known_table.table()
     assert all(row.what and len(key) == 3 for key, row in rows.items())
-    assert not [key for key in known.reached() if key not in rows]
+    assert not [key for key in known_table.reached() if key not in rows]
 
 
 @pytest.mark.skipif(not shutil.which('coqc') or not (known.FOLDER / 'Known/integer_core/Division.vo').is_file(),
                     reason='it needs the theorems that `tools/cellarcove check known` has compiled')
 def test_changed_definition() -> None:
-    key, base = ('integer_core', 'Division', 'IsDivision'), known.Build(known.FOLDER)
-    base.write(known.sources())
-    text = known.library().file(*key[:2]).paragraphs[key[2]][1]
-    change = next(change for change in known.changes(text) if change[0] == '≤ for <')
-    assert known.attempt(base, key, change, known.table()[key]).verdict == 'refused'
+    key, base = ('integer_core', 'Division', 'IsDivision'), Build(known.FOLDER)
+    base.write(known_table.sources())
+    changes = dict(known_changes.changes(known_changes.text_of(key)))
+    change, row = ('≤ for <', changes['≤ for <']), known_table.table()[key]
+    assert known_changes.attempt(base, key, change, row).verdict == 'refused'
