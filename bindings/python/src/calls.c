@@ -3944,7 +3944,11 @@ static PyMethodDef methods[] = {
     "Of columns it is a tuple of 2 columns.\n"
     "\n"
     ">>> fraction_round_to((5, 3), 100)\n"
-    "Fraction(167, 100)\n"},
+    "Fraction(167, 100)\n"
+    ">>> fraction_round_to((1, 8), 100)\n"
+    "Fraction(13, 100)\n"
+    ">>> fraction_round_to((-1, 8), 100)\n"
+    "Fraction(-13, 100)\n"},
     {"fraction_round_even_times", (PyCFunction)(void (*)(void))py_fraction_round_even_times, METH_FASTCALL | METH_KEYWORDS,
     "fraction_round_even_times($module, /, a, n, *, out=None, where=True, errors='raise')\n"
     "--\n"
@@ -4189,6 +4193,8 @@ static PyMethodDef methods[] = {
     "Of columns it is a column.\n"
     "\n"
     ">>> first_weekday_on_or_after(0, 7)\n"
+    "3\n"
+    ">>> first_weekday_on_or_after(3, 7)\n"
     "3\n"},
     {"last_weekday_on_or_before", (PyCFunction)(void (*)(void))py_last_weekday_on_or_before, METH_FASTCALL | METH_KEYWORDS,
     "last_weekday_on_or_before($module, /, day, weekday, *, out=None, where=True, errors='raise')\n"
@@ -4203,6 +4209,8 @@ static PyMethodDef methods[] = {
     "Of columns it is a column.\n"
     "\n"
     ">>> last_weekday_on_or_before(4, 7)\n"
+    "3\n"
+    ">>> last_weekday_on_or_before(3, 7)\n"
     "3\n"},
     {"nth_weekday_of_month", (PyCFunction)(void (*)(void))py_nth_weekday_of_month, METH_FASTCALL | METH_KEYWORDS,
     "nth_weekday_of_month($module, /, year, month, weekday, n, *, out=None, where=True, errors='raise')\n"
@@ -4336,7 +4344,11 @@ static PyMethodDef methods[] = {
     "Of columns it is a column.\n"
     "\n"
     ">>> product_div_round(-1999, 19, 100)\n"
-    "-380\n"},
+    "-380\n"
+    ">>> product_div_round(5, 1, 2)\n"
+    "3\n"
+    ">>> product_div_round(-5, 1, 2)\n"
+    "-3\n"},
     {"product_div_round_even", (PyCFunction)(void (*)(void))py_product_div_round_even, METH_FASTCALL | METH_KEYWORDS,
     "product_div_round_even($module, /, a, b, d, *, out=None, where=True, errors='raise')\n"
     "--\n"
@@ -4349,7 +4361,9 @@ static PyMethodDef methods[] = {
     "Of columns it is a column.\n"
     "\n"
     ">>> product_div_round_even(-5, 3, 6)\n"
-    "-2\n"},
+    "-2\n"
+    ">>> product_div_round_even(-7, 3, 6)\n"
+    "-4\n"},
     {"sum_of", py_sum_of, METH_O,
     "sum_of($module, numbers, /)\n"
     "--\n"
