@@ -12,7 +12,7 @@ use crate::modular::{difference_modulo, power_modulo, product_modulo, sum_modulo
 /// ```
 /// use cellarcove::rolling_hash::RollingHash;
 ///
-/// assert_eq!(RollingHash::new(10, 97, 2).hash(&[1, 2, 3]), 26);
+/// assert_eq!(RollingHash::new(10, 97, 3).hash(&[1, 2, 3]), 26);
 /// ```
 ///
 /// [Contract](crate::definitions::contracts#rolling_hashrollinghash)
@@ -20,34 +20,40 @@ use crate::modular::{difference_modulo, power_modulo, product_modulo, sum_modulo
 pub struct RollingHash {
     pub(crate) base: u64,
     pub(crate) modulus: u64,
-    /// How many bytes stay in the window when it slides: its length minus 1.
-    pub(crate) kept: u64,
+    /// How many bytes a window has.
+    pub(crate) length: u64,
+    /// What the first byte of a window is multiplied by: `base` to the power of `length - 1`,
+    /// modulo `modulus`.
+    pub(crate) weight: u64,
 }
 
 impl RollingHash {
-    /// Returns the hash function of windows of `kept + 1` bytes.
+    /// Returns the hash function of windows of `length` bytes.
     ///
     /// # Examples
     ///
     /// ```
     /// use cellarcove::rolling_hash::RollingHash;
     ///
-    /// assert_eq!(RollingHash::new(10, 97, 1).hash(&[4, 2]), 42);
+    /// assert_eq!(RollingHash::new(10, 97, 2).hash(&[4, 2]), 42);
     /// ```
     ///
     /// # Panics
     ///
-    /// If the modulus is not positive.
+    /// If the modulus is not positive, or if the length is 0.
     ///
     /// [Contract](crate::definitions::contracts#rolling_hashrollinghashnew)
     #[track_caller]
     #[must_use]
-    pub fn new(base: u64, modulus: u64, kept: u64) -> Self {
+    pub fn new(base: u64, modulus: u64, length: u64) -> Self {
         check(modulus > 0, "the modulus is not positive");
+        check(length > 0, "the window has no byte");
+        let weight = power_modulo(base, u128::from(length - 1), modulus);
         Self {
             base,
             modulus,
-            kept,
+            length,
+            weight,
         }
     }
 
@@ -58,7 +64,7 @@ impl RollingHash {
     /// ```
     /// use cellarcove::rolling_hash::RollingHash;
     ///
-    /// assert_eq!(RollingHash::new(10, 97, 2).base(), 10);
+    /// assert_eq!(RollingHash::new(10, 97, 3).base(), 10);
     /// ```
     ///
     /// [Contract](crate::definitions::contracts#rolling_hashrollinghashbase)
@@ -74,7 +80,7 @@ impl RollingHash {
     /// ```
     /// use cellarcove::rolling_hash::RollingHash;
     ///
-    /// assert_eq!(RollingHash::new(10, 97, 2).modulus(), 97);
+    /// assert_eq!(RollingHash::new(10, 97, 3).modulus(), 97);
     /// ```
     ///
     /// [Contract](crate::definitions::contracts#rolling_hashrollinghashmodulus)
@@ -83,20 +89,20 @@ impl RollingHash {
         self.modulus
     }
 
-    /// How many bytes stay in the window when it slides: its length minus 1.
+    /// How many bytes a window has.
     ///
     /// # Examples
     ///
     /// ```
     /// use cellarcove::rolling_hash::RollingHash;
     ///
-    /// assert_eq!(RollingHash::new(10, 97, 2).kept(), 2);
+    /// assert_eq!(RollingHash::new(10, 97, 3).length(), 3);
     /// ```
     ///
-    /// [Contract](crate::definitions::contracts#rolling_hashrollinghashkept)
+    /// [Contract](crate::definitions::contracts#rolling_hashrollinghashlength)
     #[must_use]
-    pub const fn kept(&self) -> u64 {
-        self.kept
+    pub const fn length(&self) -> u64 {
+        self.length
     }
 
     /// Returns the hash of the window: the sum of its bytes, each times `base` to the power of the
@@ -107,12 +113,21 @@ impl RollingHash {
     /// ```
     /// use cellarcove::rolling_hash::RollingHash;
     ///
-    /// assert_eq!(RollingHash::new(10, 97, 2).hash(&[1, 2, 3]), 26);
+    /// assert_eq!(RollingHash::new(10, 97, 3).hash(&[1, 2, 3]), 26);
     /// ```
     ///
+    /// # Panics
+    ///
+    /// If the window has another length than the hash function is for.
+    ///
     /// [Contract](crate::definitions::contracts#rolling_hashrollinghashhash)
+    #[track_caller]
     #[must_use]
     pub fn hash(&self, window: &[u8]) -> u64 {
+        check(
+            window.len() as u64 == self.length,
+            "the window has another length",
+        );
         let mut hash = 0;
         for byte in window {
             let shifted = product_modulo(hash, self.base, self.modulus);
@@ -129,14 +144,13 @@ impl RollingHash {
     /// ```
     /// use cellarcove::rolling_hash::RollingHash;
     ///
-    /// assert_eq!(RollingHash::new(10, 97, 2).slide(26, 1, 4), 40);
+    /// assert_eq!(RollingHash::new(10, 97, 3).slide(26, 1, 4), 40);
     /// ```
     ///
     /// [Contract](crate::definitions::contracts#rolling_hashrollinghashslide)
     #[must_use]
     pub fn slide(&self, hash: u64, leaving: u8, entering: u8) -> u64 {
-        let weight = power_modulo(self.base, u128::from(self.kept), self.modulus);
-        let first = product_modulo(u64::from(leaving), weight, self.modulus);
+        let first = product_modulo(u64::from(leaving), self.weight, self.modulus);
         let rest = difference_modulo(hash, first, self.modulus);
         let shifted = product_modulo(rest, self.base, self.modulus);
         sum_modulo(shifted, u64::from(entering), self.modulus)

@@ -285,10 +285,10 @@ fn next_choices() {
 
 #[test]
 fn hashes() {
-    let decimal = RollingHash::new(10, 97, 2);
-    assert!(decimal.hash(&[1, 2, 3]) == 26 && decimal.hash(&[]) == 0);
+    let decimal = RollingHash::new(10, 97, 3);
+    assert!(decimal.hash(&[1, 2, 3]) == 26 && decimal.hash(&[0, 0, 0]) == 0);
     assert!(decimal.slide(26, 1, 4) == 40);
-    let all_alike = RollingHash::new(257, 1, 0);
+    let all_alike = RollingHash::new(257, 1, 1);
     assert!(all_alike.hash(&[255]) == 0 && all_alike.slide(0, 255, 7) == 0);
 }
 
@@ -296,19 +296,19 @@ fn hashes() {
 /// and zeros behind it, has the hash 2^58.
 #[test]
 fn long_windows() {
-    let rolling = RollingHash::new(2, (1 << 61) - 1, (1 << 32) + 1);
+    let rolling = RollingHash::new(2, (1 << 61) - 1, (1 << 32) + 2);
     assert!(rolling.slide(1 << 58, 1, 0) == 0 && rolling.slide(1 << 58, 1, 7) == 7);
     assert!(rolling.slide(5, 0, 7) == 17);
-    // 2^64 - 1 is 15 more than a multiple of 61
+    // 2^64 - 2 is 14 more than a multiple of 61
     let longest = RollingHash::new(2, (1 << 61) - 1, u64::MAX);
-    assert!(longest.slide(1 << 15, 1, 9) == 9);
+    assert!(longest.slide(1 << 14, 1, 9) == 9);
 }
 
 /// At base 256 a window is read as a number of 32 bits.
 #[test]
 fn windows_of_four_bytes() {
     let text = [97u8, 32, 119, 105, 110, 100, 111, 119, 255, 0, 0, 255];
-    let rolling = RollingHash::new(256, 1000003, 3);
+    let rolling = RollingHash::new(256, 1000003, 4);
     let mut hash = rolling.hash(&[97, 32, 119, 105]);
     for i in 4..12usize {
         hash = rolling.slide(hash, text[i - 4], text[i]);

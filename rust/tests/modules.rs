@@ -64,8 +64,8 @@ fn models() {
     let mut choice = [0; 3];
     ranking::choice_of_rank(2, 5, &mut choice);
     assert_eq!((choice, ranking::rank(&choice, 5)), ([0, 2, 3], 2));
-    let hash = RollingHash::new(10, 97, 2);
-    assert_eq!((hash.base(), hash.modulus(), hash.kept()), (10, 97, 2));
+    let hash = RollingHash::new(10, 97, 3);
+    assert_eq!((hash.base(), hash.modulus(), hash.length()), (10, 97, 3));
     assert_eq!(
         hash.slide(hash.hash(&[1, 2, 3]), 1, 4),
         hash.hash(&[2, 3, 4])

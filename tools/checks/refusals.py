@@ -37,6 +37,7 @@ from typing import NamedTuple
 from tools import ROOT, counted, dependencies
 from tools.checks import edits
 from tools.erase.library import Library, Module, Place
+from tools.erase.source import Item
 
 TABLE, PAGE = ROOT / 'tools/checks/refusals.txt', ROOT / 'docs/TESTING.md'
 JOBS = 2
@@ -140,10 +141,18 @@ def texts_of(module: Module, types: dict[str, Place]) -> Iterator[tuple[Place, s
         for function in (each for each in (item, *item.items) if each.kind == 'fn'):
             owner = 'Any' if re.fullmatch('[A-Z]', item.name) else item.name
             owner = owner[:1].upper() + owner[1:] + (item.of_trait or '')
+            # `TryFrom<i64>` of `Bounded` is `BoundedTryFromI64`.
+            if of := re.match(rf'impl.*?\b{item.of_trait}<(\w+)> for', head(module, item)):
+                owner += of[1].capitalize()
             own = item.kind == 'impl' and not item.of_trait
             place = types.get(item.name, module.path) if own else module.path
             path = (*place, *([] if function is item else [owner]), function.name)
             yield path, module.source.text(function.first, function.last)
+
+
+def head(module: Module, item: Item) -> str:
+    """The first line of an item."""
+    return module.source.text(item.first, item.last).lstrip().partition('\n')[0]
 
 
 def changed(known: list[Function], edit: Path) -> list[str]:

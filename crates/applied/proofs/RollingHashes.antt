@@ -1,5 +1,8 @@
 -- The hash of one more byte, and of the next window.
-use Rattle.applied.proofs.Common.{◌≡◌, ◌<◌, ◌+◌, ◌+ℤ◌, ◌-ℤ◌, ◌*ℤ◌, ◌∷◌, ◌++◌, ℕ, ℤ, pos, List, [], length, slice_index, take, int_pow, arith, ap, ◌∙◌, add-one, subst, sym, length_push, take-suc, expand, int_pow-suc, int_pow-zero, linear, products, congruent-difference, congruent-product, congruent-refl, congruent-sum, congruent-trans, AreCongruent, IsResidue, weighted_sum}
+use Rattle.std.specs.Prelude.{◌%◌}
+use Rattle.modular.proofs.ForCallers.{natural_residue}
+use Rattle.num_integer.proofs.ForCallers.{natural_power}
+use Rattle.applied.proofs.Common.{◌≡◌, ◌<◌, ◌+◌, ◌^◌, ◌+ℤ◌, ◌-ℤ◌, ◌*ℤ◌, ◌∷◌, ◌++◌, ℕ, ℤ, pos, List, [], length, slice_index, take, int_pow, arith, ap, ◌∙◌, add-one, subst, sym, length_push, take-suc, expand, int_pow-suc, int_pow-zero, linear, products, congruent-difference, congruent-product, congruent-refl, congruent-sum, congruent-trans, AreCongruent, IsResidue, weighted_sum}
 
 -- one more byte at the end moves each before it up by one power
 sum_with_last : (base : ℤ) (bytes : List ℕ) (last : ℕ) → weighted_sum base (bytes ++ last ∷ []) ≡ weighted_sum base bytes *ℤ base +ℤ pos last
@@ -18,6 +21,10 @@ pub hash_more : {m hash shifted r : ℤ} (base : ℤ) (bytes : List ℕ) (i : �
     → IsResidue m (shifted +ℤ pos (slice_index bytes i)) r → IsResidue m (weighted_sum base (take (i + 1) bytes)) r
 hash_more base bytes i within h shift last = rw (add-one i, take-suc bytes i 0 within, sum_with_last base (take i bytes) (slice_index bytes i))
     (hash_shifted base (pos (slice_index bytes i)) h.congruent shift last)
+
+-- the weight of the first byte, as a residue
+pub weight_of_first : {m base count weight : ℕ} → 0 < m → weight ≡ base ^ count % m → IsResidue (pos m) (int_pow (pos base) count) (pos weight)
+weight_of_first {m} {base} {count} up is = rw (natural_power base count, is) (natural_residue (base ^ count) up)
 
 pub next_window : {m hash weight first rest shifted r : ℤ} {count : ℕ} (base : ℤ) (leaving entering : ℕ) (kept : List ℕ) → length kept ≡ count → IsResidue m (weighted_sum base (leaving ∷ kept)) hash
     → IsResidue m (int_pow base count) weight → IsResidue m (pos leaving *ℤ weight) first → IsResidue m (hash -ℤ first) rest

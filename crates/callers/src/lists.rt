@@ -1,6 +1,6 @@
 //! Functions that call `applied` for multiples and sums of lists, hashes of windows and reduced pairs.
 
-ghost use Rattle.std.specs.Prelude.{◌≡◌, ◌≢◌, ◌<◌, ◌*◌, ◌*ℤ◌, ◌∷◌, ◌++◌, [], All, FitsSigned, List, MatchOption, length, map, pos, take, ℕ};
+ghost use Rattle.std.specs.Prelude.{◌≡◌, ◌≢◌, ◌<◌, ◌+◌, ◌*◌, ◌*ℤ◌, ◌∷◌, ◌++◌, [], All, FitsSigned, List, MatchOption, length, map, pos, take, ℕ};
 ghost use Rattle.std.specs.Int.{FitsUnsignedBits, w64};
 ghost use Rattle.num_integer.specs.Divisors.{IsGreatestCommonDivisor};
 ghost use Rattle.num_integer.specs.Range.{EachFits};
@@ -69,7 +69,7 @@ pub fn natural_invoice_total(lines: &[(u64, u64)]) -> Option<u64>
 
 /// Returns the hash of the window one byte further on, if `hash` is that of the window that begins with `leaving`.
 pub fn hash_of_next_window(hashes: &RollingHash, hash: u64, leaving: u8, entering: u8) -> u64
-    ensures { (kept : List ℕ) → length kept ≡ hashes.now.kept
+    ensures { (kept : List ℕ) → length kept + 1 ≡ hashes.now.length
         → IsResidue (pos hashes.now.modulus)
         (weighted_sum (pos hashes.now.base) (leaving ∷ kept)) (pos hash)
         → IsResidue (pos hashes.now.modulus)

@@ -14,7 +14,8 @@ use applied::layout::{align_up, padding};
 use applied::paging::{item_at, place_of, range_of_part};
 use applied::schedules::{Schedule, count, next_meeting};
 use applied::shares::{
-    SharesError, shares, shares_by_largest_remainder, signed_shares, signed_shares_by_largest_remainder,
+    SharesError, shares, shares_by_largest_remainder, signed_shares,
+    signed_shares_by_largest_remainder,
 };
 use modular::CommonSolution;
 

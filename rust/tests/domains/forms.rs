@@ -312,6 +312,26 @@ fn moduli() {
 }
 
 #[test]
+fn lengths_of_windows() {
+    let hash = RollingHash::new(10, 97, 3);
+    let (no_byte, other_length) = ("the window has no byte", "the window has another length");
+    panics! {
+        no_byte {
+            RollingHash::new(10, 97, 0);
+        }
+        other_length {
+            hash.hash(&[1, 2]);
+            hash.hash(&[1, 2, 3, 4]);
+            hash.hash(&[]);
+        }
+    }
+    returns! {
+        RollingHash::new(10, 97, 1).hash(&[5]) => 5;
+        hash.hash(&[1, 2, 3]) => 26;
+    }
+}
+
+#[test]
 fn models() {
     let (part, parts) = (
         "the part is negative",

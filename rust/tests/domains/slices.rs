@@ -178,10 +178,10 @@ fn windows() {
             "RollingHash::new",
             modulus,
             Some(modulus).filter(|m| *m > 0),
-            || RollingHash::new(10, modulus, 2).modulus(),
+            || RollingHash::new(10, modulus, 3).modulus(),
         );
         if modulus > 0 {
-            let hash = RollingHash::new(10, modulus, 2);
+            let hash = RollingHash::new(10, modulus, 3);
             let whole = i128::from(1) * 100 + 2 * 10 + 3;
             let answer = exact::residue(whole, i128::from(modulus)) as u64;
             check("hash", modulus, Some(answer), || hash.hash(&[1, 2, 3]));
