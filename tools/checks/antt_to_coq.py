@@ -9,12 +9,11 @@ import re
 from collections.abc import Iterator, Sequence
 from pathlib import Path
 
-COMMENT = re.compile(r'--.*|//.*|#\[.*')
+COMMENT = re.compile(r'--.*|//.*|^ *#\[.*', re.M)
 TOKEN = re.compile(r'"[^"]*"|∥₁|[⊥⊤¬]|[^\W\d](?:\w|-\w)*|\d+|[^\w\s"(){}\[\],.;:¬∥⊥⊤]+ℤ?|\S')
 NAME = re.compile(r'[^\W\d]\w*')
-HEAD = re.compile(r'(?:abbrev pub|unfoldable pub|pub record|pub data) (\w+)')
+HEAD = re.compile(r'(?:abbrev pub|unfoldable pub|pub (?:record|data|struct|enum)) (\w+)')
 IMPORT = re.compile(r'^ *(?:ghost )?use Rattle\.(\w+)\.([\w.]+)(?:\.\{([^}]*)\}| as (\w+))', re.M)
-TYPE = re.compile(r'^pub (struct|enum) (\w+)(?:<(\w)[^>]*>)? \{\n(.*?)^\}', re.M | re.S)
 CLOSING = {'(': ')', '{': '}', '[': ']', '∥': '∥₁'}
 PLAIN = {'if': 'If', 'then': 'then', 'else': 'else', ',': ',', '_': '_'}
 VIEWED = {'Kit.pos': 'inl', 'Kit.negsuc': 'inr'}        # an integer in a pattern
@@ -44,19 +43,20 @@ Item = str | Group
 class File:
     """A file of definitions: its paragraphs, its imports, and what has been translated of it."""
 
-    def __init__(self, path: Path, module: str) -> None:
-        self.path, self.module, self.text = path, module, path.read_text()
+    def __init__(self, path: Path, module: str, folder: str = '') -> None:
+        self.path, self.module, self.folder, text = path, module, folder, path.read_text()
         self.made, self.needs, self.cases = dict[str, str](), set[str](), dict[str, str]()
         self.paragraphs = dict[str, tuple[int, str]]()
-        self.imports = dict[str, tuple[str, str, str]]()
-        for crate, where, names, alias in IMPORT.findall(self.text):
+        self.imports, self.aliases = dict[str, tuple[str, str, str]](), set[str]()
+        for crate, where, names, alias in IMPORT.findall(text):
             for name in names.split(',') if names else [f' as {alias}']:
                 original, _, local = name.strip(' \n').partition('as ' if alias else ' as ')
                 self.imports[local or original] = crate, where, original
-        for found in re.finditer(r'(?:^.+\n)+', self.text + '\n', re.M):
-            lines = re.sub(r'^--.*', '', found[0], flags=re.M)
+                self.aliases |= {local} - {''} if alias else set()
+        for found in re.finditer(r'(?:^.+\n)+', text + '\n', re.M):
+            lines = COMMENT.sub('', found[0])
             if head := HEAD.match(lines.lstrip('\n')):
-                self.paragraphs[head[1]] = self.text.count('\n', 0, found.start()) + 1, lines
+                self.paragraphs[head[1]] = text.count('\n', 0, found.start()) + 1, lines
                 for case in re.findall(r'^  (\w+) :', lines, re.M):
                     self.cases[case] = f'{head[1]}_{case}'
 
@@ -94,14 +94,9 @@ class Library:
         module = f'{crate}.declared_{name}'
         if module not in self.files:
             path = self.crates.joinpath(crate, 'src', *folders).with_suffix('.rt')
-            file = File(path if path.is_file() else path.with_suffix('') / 'mod.rt', module)
-            found = [match for match in TYPE.finditer(file.text) if match[2] == name]
-            if not found:
-                raise Unknown(f'{file.path}: no `{name}` that is known')
-            self.files[module], file.made[name] = file, ''
-            self.types.add(f'{module}.{name}')
-            file.made[name] = Reader(self, file).declared(found[0], '.'.join([*folders, '']))
-        return f'{module}.{name}'
+            path = path if path.is_file() else path.with_suffix('') / 'mod.rt'
+            self.files[module] = File(path, module, '.'.join([*folders, '']))
+        return self.need(self.files[module], name)
 
     def need(self, file: File, name: str) -> str:
         """Translates a definition, if it is not translated yet."""
@@ -143,7 +138,7 @@ class Reader:
     def rows(self, text: str, line: int, begins: str) -> list[Group]:
         """The tokens of a text, of which each line that begins in a way begins a row."""
         found = list[Group]()
-        for row in re.split(rf'\n(?={begins})', COMMENT.sub('', text)):
+        for row in re.split(rf'\n(?={begins})', text):
             found.append(self.tree(self.tokens(row, line)))
             line += row.count('\n') + 1
         return [row for row in found if row]
@@ -211,7 +206,7 @@ class Reader:
                 text = f'{number}%Z'
             case ['.', str() as name, *rest]:
                 text = self.part(name)
-            case [str() as name, '.', str() as case, *rest] if self.import_of(name)[2] == '':
+            case [str() as name, '.', str() as case, *rest] if name in self.file.aliases:
                 text = self.cited(self.meaning(name, case))
             case ['¬', _, after, *_] if isinstance(after, Group) or NAME.fullmatch(after):
                 raise self.fails(after, '`¬` of more than one term')
@@ -248,16 +243,14 @@ class Reader:
         shown = [f'{self.cited(kind)}_{name}' for kind in found]
         return f'.({shown[0]})' if len(shown) == 1 else f'.⟨ {" | ".join(shown)} ⟩'
 
-    def import_of(self, word: str) -> tuple[str, str, str]:
-        return self.file.imports.get(word, ('', '', word))
-
     def atom(self, token: str, pattern: bool) -> str:
-        crate, sign = self.import_of(token)[0], token + 'ℕ' * token.isascii()
+        crate, sign = self.file.imports.get(token, ('',))[0], token + 'ℕ' * token.isascii()
         if token in PLAIN or token.isdigit():
             return PLAIN.get(token, token)
         if token[0] == '"':
             return f'{token}%string'
-        if sign in self.library.signs and self.import_of(f'◌{token}◌')[0] in ('', *OUTSIDE):
+        origin = self.file.imports.get(f'◌{token}◌', OUTSIDE)[0]
+        if sign in self.library.signs and origin in OUTSIDE:
             return sign
         if pattern and not crate and token not in self.file.cases:
             return self.variable(token)
@@ -268,7 +261,7 @@ class Reader:
 
     def meaning(self, token: str, case: str = '') -> str:
         """The whole name in Coq of a word that is no variable."""
-        crate, where, name = self.import_of(token)
+        crate, where, name = self.file.imports.get(token, ('', '', token))
         if crate in OUTSIDE and name in self.library.kit:
             return f'Kit.{name}'
         if '.declared.' in where:
@@ -295,9 +288,12 @@ class Reader:
                    and self.meaning(item) in self.library.types for item in items)
 
     def definition(self, name: str, line: int, text: str) -> str:
-        forms = {'pub record': self.of_record, 'pub data': self.of_data}
-        form = forms.get(' '.join(text.split()[:2]), self.of_function)
-        head, *rows = self.rows(text, line, r'\S' if form == self.of_function else r'(?:  )?\S')
+        forms = {'record': (self.of_record, r'(?:  )?\S'), 'data': (self.of_data, r'(?:  )?\S'),
+                 'struct': (self.of_code, r'\Z'), 'enum': (self.of_code, r'\Z')}
+        form, begins = forms.get(text.split()[1], (self.of_function, r'\S'))
+        head, *rows = self.rows(text, line, begins)
+        if begins[:3] == '(?:' and head[-4:] != [':', 'Type', '0', 'where']:
+            raise self.fails(head[-1])
         return form(name, head, rows)
 
     def facts(self, rows: Sequence[Sequence[Item]], of: str = '') -> list[tuple[str, str, str]]:
@@ -311,16 +307,10 @@ class Reader:
             self.bound.update({str(row[0]): f'{of}_{row[0]}'} if of else {})
         return found
 
-    def parameters(self, head: Group) -> list[str]:
-        found = self.binders(head[3:])
-        if head[3 + len(found):] != [':', 'Type', '0', 'where']:
-            raise self.fails(head[-1])
-        return found
-
     def of_record(self, name: str, head: Group, rows: list[Group]) -> str:
-        if stray := [row for row in rows if row[0] != 'pub']:
-            raise self.fails(stray[0][0])
-        parameters, facts = self.parameters(head), self.facts([row[1:] for row in rows])
+        parameters, facts = self.binders(head[3:-4]), self.facts([row[1:] for row in rows])
+        if len(parameters) < len(head) - 7 or any(row[0] != 'pub' for row in rows):
+            raise self.fails(head[0])
         if all(data for _, _, data in facts) and not parameters:
             return self.as_type('Record', name, facts)
         texts = [f'exists {data} : {text},' if data else f'({text}) /\\' for _, text, data in facts]
@@ -329,9 +319,9 @@ class Reader:
         return f'Definition {shown}.'
 
     def of_data(self, name: str, head: Group, rows: list[Group]) -> str:
+        if len(head) > 7:
+            raise self.fails(head[0])
         self.library.types.add(f'{self.file.module}.{name}')
-        if self.parameters(head):
-            raise self.fails(head[2])
         return self.as_type('Inductive', name, self.facts(rows))
 
     def as_type(self, form: str, name: str, facts: list[tuple[str, str, str]], of: str = '') -> str:
@@ -380,35 +370,35 @@ class Reader:
             return f'fix {" ".join([name, *inputs])} := {body}'
         return f'fun {" ".join(inputs)} => {body}' if inputs else body
 
-    def declared(self, found: re.Match[str], folder: str) -> str:
+    def of_code(self, name: str, head: Group, _: list[Group]) -> str:
         """A struct with its fields and what `ghost` says of them, or an enum."""
-        (form, name, of, text), rows = found.groups(), list[list[Item]]()
-        self.types, self.bound = {of} - {None}, {of: of}
-        result = [self.rust(name, folder), *self.types]
-        line = self.file.text.count('\n', 0, found.start(4)) + 1
-        for row in split(self.rows(text, line, r'\Z')[0], ','):
+        *parameters, body = head[3:]
+        of, rows = ''.join(map(str, parameters[1:2])), list[list[Item]]()
+        self.types, self.bound = {of} - {''}, {of: of}
+        result = [self.word(name), *self.types]
+        for row in split(body, ','):
             match row[row[0] == 'pub':]:
                 case ['ghost', field, ':', Group() as fact, *_]:
                     rows.append([field, ':', *fact])
-                case [field, ':', kind] if form == 'struct':
-                    rows.append([field, ':', self.rust(kind, folder)])
-                case [case, Group() as kinds] if form == 'enum':
-                    held = [(self.rust(kind, folder), '→') for kind in kinds if kind != ',']
+                case [field, ':', kind] if head[1] == 'struct':
+                    rows.append([field, ':', self.word(kind)])
+                case [case, Group() as kinds] if head[1] == 'enum':
+                    held = [(self.word(kind), '→') for kind in kinds if kind != ',']
                     rows.append([case, ':', *itertools.chain(*held), *result])
-                case [case] | [case, '=', _] if form == 'enum':
+                case [case] | [case, '=', _] if head[1] == 'enum':
                     rows.append([case, ':', *result])
                 case _:
                     raise self.fails(row[0])
-        kind = 'Record' if form == 'struct' else 'Inductive'
-        return self.as_type(kind, name, self.facts(rows, name), of or '')
+        kind = 'Record' if head[1] == 'struct' else 'Inductive'
+        return self.as_type(kind, name, self.facts(rows, name), of)
 
-    def rust(self, kind: Item, folder: str) -> Item:
-        """A type of the code, as a word: ℤ, ℕ or Bool for its values, or one that is declared."""
+    def word(self, kind: Item) -> Item:
+        """The word for a type of the code: ℤ, ℕ or Bool for its values, or one that is declared."""
         if isinstance(kind, Group):
             raise self.fails(kind)
         plain = re.fullmatch(r'[iu](?:\d+|size)|bool', kind)
         word = {'i': 'ℤ', 'u': 'ℕ', 'b': 'Bool'}[kind[0]] if plain else kind
-        crate = 'std' if plain else self.file.module.split('.')[0]
+        crate, where = self.file.module.split('.')[0], f'.declared.{self.file.folder}{kind}'
         if kind not in self.types:
-            self.file.imports[word] = crate, '' if plain else f'.declared.{folder}{kind}', word
+            self.file.imports[word] = ('std', '', word) if plain else (crate, where, word)
         return word

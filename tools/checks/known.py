@@ -77,6 +77,7 @@ def made() -> dict[str, str]:
     lines = (ROOT / 'tools/checks/antt_to_coq.py').read_text().count('\n')
     counts = {'lines': lines, 'reached': len(rows), 'proved': len(proved), 'left': len(left),
               'theorems': len(names_in(theorems())), 'kit': len(library().kit),
+              'signs': len(library().signs),
               **{name.replace(' ', '_'): count for name, count in totals().items()}}
     page = filled(ROOT / 'tools/checks/templates/coq.md', rows='\n'.join(proved), packages=PACKAGES,
                   reasons='\n'.join(left), **{name: str(count) for name, count in counts.items()})
@@ -91,10 +92,10 @@ def check(words: list[str]) -> bool:
     base.folder.mkdir(parents=True, exist_ok=True)
     base.write(files)
     passed = counted(judged(files, base))
-    with_theorem = sum(bool(row.theorems) for row in table().values())
-    print(f'definitions: {len(reached())} reached, {with_theorem} with a theorem, '
-          f'{len(reached()) - with_theorem} with a reason; {len(names_in(files))} theorems')
     if passed and words[:1] in (['--changes'], ['--sample']):
         passed = counted(check_changes(base, words[1:], 1 if words[0] == '--changes' else 20))
     print(summary())
+    with_theorem = sum(bool(row.theorems) for row in table().values())
+    print(f'definitions: {len(reached())} reached, {with_theorem} with a theorem, '
+          f'{len(reached()) - with_theorem} with a reason; {len(names_in(files))} theorems')
     return passed
