@@ -27,6 +27,18 @@ def test_rows_of_the_tests() -> None:
     assert [*programs.at_random(50)] == [*programs.at_random(50)]
 
 
+def test_lines_of_the_package_for_python() -> None:
+    """What is written by hand has at most 100 columns, and is little in C."""
+    package = ROOT / 'bindings/python'
+    in_c = [package / 'src' / name for name in ('driver.h', 'ufuncs.h')]
+    in_python = [package / name for name in (
+        'hatch_build.py', 'cellarcove/__init__.py', 'cellarcove/_columns.py',
+        'tests/test_columns.py')]
+    for path in in_c + in_python:
+        assert [line for line in path.read_text().splitlines() if len(line) > 100] == [], path
+    assert sum(len(path.read_text().splitlines()) for path in in_c) < 900
+
+
 @pytest.mark.parametrize('script, passed', [
     ('echo 6', True), ('echo 7', False), ('echo 6; exit 1', False), ('printf 6', False)])
 def test_a_program_that_prints_otherwise(tmp_path: Path, script: str, passed: bool) -> None:

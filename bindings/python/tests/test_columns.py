@@ -1,4 +1,5 @@
-"""Calls the package with columns: a matrix of types, layouts and kinds beside Python's integers, threads, and a cluster of dask."""
+"""Calls the package with columns: a matrix of types, layouts and kinds beside Python's integers,
+threads, and a cluster of dask."""
 
 import calendar
 import importlib.util
@@ -137,7 +138,8 @@ def wanted(function, x, y):
 @unittest.skipIf(missing, f'there is no {missing}')
 class Matrix(unittest.TestCase):
     def cases(self, types, numbers=(NUMBERS, OTHERS)):
-        """Two columns of each type, layout and kind, with the words for them. The second one of bools is true."""
+        """Two columns of each type, layout and kind, with the words for them. The second one of
+        bools is true."""
         for kind in types.split():
             for layout, lies in LAYOUTS.items():
                 for name, made in KINDS.items():
@@ -304,7 +306,8 @@ def together(runners):
 @unittest.skipIf(missing, f'there is no {missing}')
 class Cluster(unittest.TestCase):
     def test_two_processes(self):
-        """Blocks that two processes send each other, which lie at any byte: of two dimensions, broadcast, and of dates."""
+        """Blocks that two processes send each other, which lie at any byte: of two dimensions,
+        broadcast, and of dates."""
         program = (pathlib.Path(__file__).parent / 'cluster.py').read_text()
         names = {}
         exec(compile(program, 'cluster.py', 'exec'), names)
