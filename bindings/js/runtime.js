@@ -253,9 +253,9 @@ export function tryFractionFromDecimal(...given) {
 }
 
 const CLASSES = {
-  Fraction: ([num, den]) => new Fraction(num(), den(), MADE),
-  Date: ([year, month, day]) => new PlainDate(year(), month(), day(), MADE),
-  Decimal: ([isNegative, whole, part], given) => new Decimal(isNegative(), whole(), part(), given.at(-1), MADE), // the last argument is the places
+  Fraction: (num, den) => () => new Fraction(num(), den(), MADE),
+  Date: (year, month, day) => () => new PlainDate(year(), month(), day(), MADE),
+  Decimal: (isNegative, whole, part) => (given) => new Decimal(isNegative(), whole(), part(), given.at(-1), MADE), // the last argument is the places
 };
 
 // ---- memory
@@ -277,7 +277,7 @@ function layout(kind) {
 }
 
 // A call has the memory behind the program's own: a place for a struct of the result, one for each parameter, and room for lists.
-const PLACE = 64, ENCODER = /*#__PURE__*/ new TextEncoder();
+const PLACE = 64, TEXT = 64, ENCODER = /*#__PURE__*/ new TextEncoder();
 let RESULT, ROOM, RESULT_WORD, view;
 
 /** An address or a length, as the module takes it. */
@@ -303,7 +303,7 @@ export function start(instance) {
   view = new DataView(found.memory.buffer);
   exports = found;
   try {
-    reach(ROOM);
+    reach(ROOM + TEXT);
     look();
   } catch (error) {
     exports = undefined;
@@ -352,7 +352,7 @@ function readerOf(result, leaves, inMemory) {
   if (!inMemory) return leaves[0].kind === result ? null : Number;
   const gets = leaves.map(({kind, at}) => { const get = GET[kind], place = RESULT + at; return () => get(place); });
   const made = CLASSES[result.replace('Answer', '')], [first, second, third] = leaves.map(({name}) => name), [a, b, c] = gets;
-  if (made) return (given) => made(gets, given);
+  if (made) return made(...gets);
   if (leaves.length === 1) return a;
   return leaves.length === 2 ? () => ({[first]: a(), [second]: b()}) : () => ({[first]: a(), [second]: b(), [third]: c()});
 }
@@ -381,10 +381,18 @@ function lowerList({item, size, leaves, isText}, items, at) {
   return [at, items.length];
 }
 
+/** The numbers of a list that a call has written. */
+function listAt({at, kind, length}) {
+  const get = GET[kind], found = [];
+  for (let place = 0; place < length; place++) found.push(get(at + 8 * place));
+  return found;
+}
+
 /** A call of a form with arguments that fit it: it returns the status, and `value` has the result. */
 function run({raw, parameters, inMemory, hasStatus, read}, given) {
   const words = inMemory ? [RESULT_WORD] : [];
   let room = ROOM, written = null;
+  turns++;
   parameters.forEach((parameter, place) => {
     const argument = given[place];
     if (parameter.item) {
@@ -401,7 +409,7 @@ function run({raw, parameters, inMemory, hasStatus, read}, given) {
   if (written) reach(room);
   const returned = raw(...words);
   if (written) {
-    value = returned === 0 ? Array.from({length: written.length}, (_, place) => GET[written.kind](written.at + 8 * place)) : undefined;
+    value = returned === 0 ? listAt(written) : undefined;
     return returned;
   }
   const status = hasStatus ? view.getUint32(RESULT, true) : 0;
@@ -409,6 +417,7 @@ function run({raw, parameters, inMemory, hasStatus, read}, given) {
   return status;
 }
 let value;
+let turns = 0; // how often a call has written its arguments into memory
 
 /** The arguments of a call, as numbers, arrays of the parts of a struct, and lists of such arrays, and the numbers that choose the form. */
 function taken({forms: [form, other], parameters, hasWritten}, given, seen) {
@@ -462,8 +471,9 @@ function statusOf(plan, given, seen) {
   return status === Status.NOT_FITTING && areUnsigned ? run(unsigned, found) : status;
 }
 
-/** The kinds of the numbers that the short way takes. */
-const SHORT = {i64: 0, u64: 1, u32: 2, u16: 3, u8: 4}, LARGEST = [0, 0, 2 ** 32 - 1, 2 ** 16 - 1, 2 ** 8 - 1];
+/** The kinds of the arguments that the short ways take. */
+const SHORT = {i64: 0, u64: 1, u32: 2, u16: 3, u8: 4, Fraction: 5, Date: 6}, FRACTION = 5, LIST = 7, LARGEST = [0, 0, 2 ** 32 - 1, 2 ** 16 - 1, 2 ** 8 - 1];
+const shortKind = ({kind, item}) => item ? {i64: LIST, u64: LIST + 1}[item] : SHORT[kind];
 
 const plans = new Map();
 
@@ -473,30 +483,126 @@ function planOf(row) {
   if (found) return found;
   if (!exports) throw new Error('cellarcove.wasm is not loaded yet: await ready before the first call');
   const forms = row.map(formOf), [{parameters: all}] = forms, hasWritten = all.filter(({item}) => item).length === 2;
+  const parameters = all.filter(({isWritten}) => !isWritten || !hasWritten), kinds = parameters.map(shortKind), lists = kinds.filter((kind) => kind >= LIST).length;
   const made = {
-    forms, hasWritten, parameters: all.filter(({isWritten}) => !isWritten || !hasWritten), takesArrays: all.every(({item}) => !item),
-    isShort: all.length < 4 && all.every(({kind}) => kind in SHORT), kinds: all.map(({kind}) => SHORT[kind]), takesStructs: all.some(({kind}) => kind in STRUCTS),
+    forms, hasWritten, parameters, kinds, takesArrays: all.every(({item}) => !item), isShort: all.length < 4 && kinds.every((kind) => kind < FRACTION),
+    isStored: kinds.every((kind) => kind !== undefined) && parameters.every(({isWritten}) => !isWritten) && (lists === 0 || lists === 1 && kinds.every((kind) => kind < FRACTION || kind >= LIST)),
+    written: hasWritten ? all.at(-1).item : null, words: forms[0].inMemory ? [RESULT_WORD] : [],
   };
   plans.set(row, made);
   return made;
 }
 
+/** A number of a kind, or undefined if it is not one that fits. */
+function numberOf(x, kind) {
+  if (kind > 1) return Number.isInteger(x) && x >= 0 && x <= LARGEST[kind] ? x : undefined;
+  if (typeof x === 'number') return Number.isSafeInteger(x) && (kind === 0 || x >= 0) ? BigInt(x) : undefined;
+  return typeof x === 'bigint' && (kind === 0 ? BigInt.asIntN(64, x) : BigInt.asUintN(64, x)) === x ? x : undefined;
+}
+
 /** Whether the short way of a call has a result, which is then in `value`: that of numbers, which it makes `BigInt`s in their places. */
-function hasShort({isShort, kinds, forms}, given) {
-  if (!isShort || given.length !== kinds.length) return false;
+function hasShort(plan, given) {
+  const {isShort, kinds, forms} = plan;
+  if (given.length !== kinds.length) return false;
+  if (!isShort) return plan.isStored && hasStored(plan, given);
   for (let k = 0; k < kinds.length; k++) {
-    const x = given[k], kind = kinds[k];
-    if (kind > 1) {
-      if (!Number.isInteger(x) || x < 0 || x > LARGEST[kind]) return false;
-    } else if (typeof x === 'number') {
-      if (!Number.isSafeInteger(x) || kind === 1 && x < 0) return false;
-      given[k] = BigInt(x);
-    } else if (typeof x !== 'bigint' || (kind === 0 ? BigInt.asIntN(64, x) : BigInt.asUintN(64, x)) !== x) return false;
+    const number = numberOf(given[k], kinds[k]);
+    if (number === undefined) return false;
+    given[k] = number;
   }
   const {raw, inMemory, hasStatus, read} = forms[0];
   const returned = inMemory ? raw(RESULT_WORD, ...given) : raw(...given);
   if (hasStatus && view.getUint32(RESULT, true) !== 0) return false;
   value = read(given, returned);
+  return true;
+}
+
+/** Whether the parts of a text are now at a place: those of a short text that is right. */
+function storesText(row, text, at) {
+  const {length} = text;
+  if (length > TEXT) return false;
+  for (let k = 0; k < length; k++) {
+    const letter = text.charCodeAt(k);
+    if (letter > 127) return false;
+    view.setUint8(ROOM + k, letter);
+  }
+  const {raw, leaves: [first]} = planOf(row).forms[0];
+  raw(RESULT_WORD, word(ROOM), word(length));
+  if (view.getUint32(RESULT, true) !== 0) return false;
+  view.setBigInt64(at, view.getBigInt64(RESULT + first.at, true), true);
+  view.setBigInt64(at + 8, view.getBigInt64(RESULT + first.at + 8, true), true); // the denominator, or the month and the day
+  return true;
+}
+
+/** Whether the parts of a fraction are now at a place. */
+function storesFraction(x, at) {
+  if (typeof x === 'string') return storesText(rows.fractionFromText, x, at);
+  let num = x, den = 1n;
+  if (Array.isArray(x)) {
+    if (x.length !== 2) return false;
+    [num, den] = x;
+  } else if (typeof x === 'object' && x !== null) ({num, den} = x);
+  if (!isSigned(num)) num = numberOf(num, 0);
+  if (!isSigned(den)) den = numberOf(den, 0);
+  if (num === undefined || den === undefined) return false;
+  view.setBigInt64(at, num, true);
+  view.setBigInt64(at + 8, den, true);
+  return true;
+}
+
+/** Whether the parts of a date are now at a place. */
+function storesDate(x, at) {
+  if (typeof x === 'string') return storesText(rows.dateFromText, x, at);
+  if (typeof x !== 'object' || x === null || (x.calendarId ?? 'iso8601') !== 'iso8601') return false;
+  const isArray = Array.isArray(x);
+  if (isArray && x.length !== 3) return false;
+  const year = numberOf(isArray ? x[0] : x.year, 0), month = numberOf(isArray ? x[1] : x.month, 4), day = numberOf(isArray ? x[2] : x.day, 4);
+  if (year === undefined || month === undefined || day === undefined) return false;
+  view.setBigInt64(at, year, true);
+  view.setUint8(at + 8, month);
+  view.setUint8(at + 9, day);
+  return true;
+}
+
+/** Whether the numbers of a list are now behind the places. */
+function storesList(items, kind) {
+  if (!Array.isArray(items) && !(items instanceof BigInt64Array) && !(items instanceof BigUint64Array)) return false;
+  const {length} = items;
+  if (ROOM + 16 * length > view.byteLength) reach(ROOM + 16 * length); // with as many numbers that the call may write
+  for (let k = 0; k < length; k++) {
+    const number = numberOf(items[k], kind);
+    if (number === undefined) return false;
+    view.setBigInt64(ROOM + 8 * k, number, true); // the bits are those of an unsigned one too
+  }
+  return items.length === length;
+}
+
+/** The short way of a call whose arguments lie in memory. It has no result if reading them has made another call. */
+function hasStored({kinds, forms, written, words}, given) {
+  const {raw, inMemory, hasStatus, read} = forms[0], turn = ++turns;
+  let length = 0, next = inMemory ? 1 : 0;
+  for (let k = 0; k < kinds.length; k++) {
+    const kind = kinds[k], x = given[k], at = RESULT + PLACE * (k + 1);
+    if (kind < FRACTION) {
+      const number = numberOf(x, kind);
+      if (number === undefined) return false;
+      words[next++] = number;
+    } else if (kind < LIST) {
+      if (!(kind === FRACTION ? storesFraction(x, at) : storesDate(x, at))) return false;
+      words[next++] = word(at);
+    } else {
+      if (!storesList(x, kind - LIST)) return false;
+      ({length} = x);
+      words[next++] = word(ROOM);
+      words[next++] = word(length);
+    }
+  }
+  if (turn !== turns) return false;
+  const list = ROOM + 8 * length;
+  if (written) [words[next], words[next + 1]] = [word(list), word(length)];
+  const returned = words.length === 3 ? raw(words[0], words[1], words[2]) : raw(...words); // faster, by measure
+  if (written ? returned !== 0 : hasStatus && view.getUint32(RESULT, true) !== 0) return false;
+  value = written ? listAt({at: list, kind: written, length}) : read(given, returned);
   return true;
 }
 
@@ -507,6 +613,9 @@ function resultOf(name, plan, given) {
   return value;
 }
 
+/** The result of a call of a list. */
+const ofMany = (name, plan, given) => hasShort(plan, given) ? value : resultOf(name, plan, given);
+
 /** The list of arguments that are numbers or one list. */
 const asList = (given) => [given.length === 1 && typeof given[0] === 'object' && given[0] !== null ? given[0] : given];
 
@@ -516,7 +625,7 @@ export function call(name, row, many) {
   return (...given) => {
     plan ??= planOf(row);
     if (hasShort(plan, given)) return value;
-    if (many && (row === many || given.length !== 2)) return resultOf(name, planOf(many), asList(given));
+    if (many && (row === many || given.length !== 2)) return ofMany(name, planOf(many), asList(given));
     if (plan.takesArrays && given.some((x, place) => hasColumns(x, plan.parameters[place]))) return ofArrays(name, plan, given);
     return resultOf(name, plan, given);
   };
@@ -528,8 +637,8 @@ export function attempt(name, row, many) {
   return (...given) => {
     plan ??= planOf(row);
     if (hasShort(plan, given)) return {status: 0, value};
-    const isMany = many && (row === many || given.length !== 2);
-    const status = isMany ? statusOf(planOf(many), asList(given), reading(name)) : statusOf(plan, given, reading(name));
+    if (!many || row !== many && given.length === 2) return {status: statusOf(plan, given, reading(name)), value};
+    const list = asList(given), status = hasShort(planOf(many), list) ? 0 : statusOf(planOf(many), list, reading(name));
     return {status, value};
   };
 }
@@ -592,6 +701,7 @@ function ofArrays(call, {forms}, given) {
 
 /** Calls a form for the items of the columns. */
 function fill({raw, parameters, leaves, inMemory, hasStatus, result}, columns, outputs, status) {
+  turns++;
   const {length} = status, [a, b, c] = columns, [first, second] = outputs;
   const [x, y] = leaves.map(({kind, at}) => [new ARRAYS[kind](exports.memory.buffer), (RESULT + at) / SIZES[kind]]);
   const isPlain = inMemory && hasStatus && parameters.every(({kind}) => kind in SIZES) && leaves.length < 3 && columns.length < 4 && leaves.every(({kind}) => kind !== 'n53');

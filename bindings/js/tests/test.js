@@ -263,6 +263,17 @@ test('a result that is always below 2^53 is a number, and another is a BigInt', 
   assert.deepEqual(calls.dayOfYear({year: BigInt64Array.of(2024n), month: 12, day: 31}).value, Uint16Array.of(366));
 });
 
+test('reading an argument may make another call', () => {
+  const other = () => [fractionAdd('7/9', '8/11'), gcdOf([5, 10]), plusMonths('1999-12-31', 5), calls.sumOf(9, 9, 9, 9), shares(7, [1, 1, 1])];
+  assert.equal(`${fractionAdd('1/3', {get num() { other(); return 1; }, den: 2})}`, '5/6');
+  const date = {year: 2024, get month() { other(); return 1; }, day: 31}, list = Object.defineProperty([1, 2, 3], 1, {get() { other(); return 2; }});
+  assert.equal(`${plusMonths(date, 1)} ${daysBetween('2024-01-01', date)} ${calls.sumOf(list)} ${shares(6, list)}`, '2024-02-29 30 6 1,2,3');
+  const shorter = Object.defineProperty([1, 2, 3], 0, {get() { shorter.length = 1; return 1; }});
+  assert.equal(calls.sumOf(shorter), 1n);
+  const large = Array.from({length: 300_000}, (_, place) => BigInt(place)); // for which the memory grows
+  assert.deepEqual([calls.sumOf(large), shares(large.length, large.fill(1n)).length], [44999850000n, 300_000]);
+});
+
 test('odd cents', () => {
   assert.deepEqual(shares(1002, [1, 1, 1, 1]), [251n, 250n, 251n, 250n]);
   assert.deepEqual(sharesByLargestRemainder(1002, [1, 1, 1, 1]), [251n, 251n, 250n, 250n]);
