@@ -16,25 +16,31 @@ TRAITS = ('Integer::', 'Average::', 'Roots::')  # whose methods are free functio
 BY_TRAIT = {'fraction_cmp': '`Ord` of `Ratio`', 'fraction_from_text': '`FromStr` of `Ratio`',
             'date_from_text': '`FromStr` of `Date`'}
 NAMED = {'date_from_text': ('date_from_text', 'Date.fromisoformat, date_from_text',
-                            'PlainDate.from`, `dateFromText')}  # their names in C++, in Python and in JavaScript
+                            'PlainDate.from`, `dateFromText')}  # in C++, Python, JavaScript
 
 
 def paths() -> Iterator[str]:
-    """The calls of plain Rust. One of a module `checked` is there if no other call has its name, and a method of a trait if no function has it."""
-    found = sorted(re.findall(r'^(?:const )?fn ([\w:]+)', (ROOT / 'rust/api.txt').read_text(), re.M))
+    """The calls of plain Rust. One of a module `checked` is there if no other call has its name, and
+    a method of a trait if no function has it."""
+    api = (ROOT / 'rust/api.txt').read_text()
+    found = sorted(re.findall(r'^(?:const )?fn ([\w:]+)', api, re.M))
     plain = [path for path in found if not CHECKED.search(path) and not path.startswith(TRAITS)]
     of_checked = {path.split('::')[-1]: path for path in found if path.startswith('checked::')}
     names = {path.split('::')[-1] for path in plain}
     yield from plain
     yield from (path for name, path in of_checked.items() if name not in names)
-    yield from (path for path in found if path.startswith(TRAITS) and path.split('::')[1] not in names | of_checked.keys())
+    names |= of_checked.keys()
+    yield from (path for path in found
+                if path.startswith(TRAITS) and path.split('::')[1] not in names)
 
 
 def in_rattle(path: str) -> str:
     """The path of a call in Rattle."""
     first, *others = path.split('::')
     if first == 'checked':  # plain Rust has those of all modules there
-        file = next(file for file in sorted(ROOT.glob('crates/*/src/**/*.rt')) if 'checked' in str(file) and f'pub fn {others[0]}<' in file.read_text())
+        files = sorted(ROOT.glob('crates/*/src/**/*.rt'))
+        file = next(file for file in files
+                    if 'checked' in str(file) and f'pub fn {others[0]}<' in file.read_text())
         crate, _, *modules = file.relative_to(ROOT / 'crates').with_suffix('').parts
         return '::'.join([crate, *modules[:modules.index('checked') + 1], *others])
     return by_rule(path) if first != 'counted' else f'num_integer::{path}'
@@ -78,7 +84,8 @@ def rows() -> list[Row]:
         made.append(Row(shown, rattle, words=reasons[reason]) if reason
                     else row(shown, rattle, export, *others))
         used |= {reason} if reason else {path, export}
-    made += [row(where, where, export, *NAMED.get(export, ())) for export, where in BY_TRAIT.items()]
+    made += [row(where, where, export, *NAMED.get(export, ()))
+             for export, where in BY_TRAIT.items()]
     unknown = (names.keys() | reasons.keys()) - used
     lost = forms.keys() - used - BY_TRAIT.keys()
     assert not unknown and not lost, (f'tools/bindings/languages.txt: no such call '

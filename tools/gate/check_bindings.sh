@@ -63,6 +63,12 @@ without_exceptions() {
         "$work/plain" x && ! "$work/plain" x x
 }
 
+# builds_and_runs COMPILER FLAG..: the program of a file is built with the archive, and runs.
+builds_and_runs() { "$@" -Wall -Wextra -Werror -I bindings/c -x none "$archive" -o "$work/lines" && "$work/lines"; }
+
+# lines_with LANGUAGE FILE COMMAND..: what `lines_return` checks, where Node is.
+lines_with() { ! has node "the lines of the page in $1" || check "the lines of the page in $1" lines_return "$@"; }
+
 # runs CALLER COMPILER FLAG..: the caller, built so, finds every result right.
 runs() {
     "${@:2}" -Wall -Wextra -Wpedantic -Werror -I bindings/c "bindings/c/$1" -x none "$archive" -o "$work/caller" && "$work/caller"
@@ -78,6 +84,7 @@ c_with() {
     has "$1" "C with $1" || return 0
     languages=$((languages + 1))
     check "C with $1" runs test.c "$1" -std=c11 -O2 -x c
+    lines_with C "$work/lines.c" builds_and_runs "$1" -std=gnu11 "$work/lines.c"
     if sanitizes "$1"; then
         check "C with $1 and its sanitizers" runs test.c "$1" -std=c11 -g -fsanitize=undefined,address -fno-sanitize-recover -x c
     else
@@ -94,6 +101,7 @@ cpp_with() {
     check "what does not compile in C++ with $1" rejects_conversions "$1"
     check "an older C++ with $1" rejects_older_cpp "$1"
     check "C++ without exceptions with $1" without_exceptions "$1"
+    lines_with C++ "$work/lines.cpp" builds_and_runs "$1" -std=c++17 "$work/lines.cpp"
     check "the example of the page in C++ with $1" page_holds docs/C.md cpp "$1" -std=c++17
     check "the header for C in C++ with $1" runs test.c "$1" -std=c++17 -O0 -x c++
 }
@@ -295,6 +303,7 @@ python_calls() {
     check 'the wheel' makes_a_wheel
     check 'what a wheel needs' says_what_a_wheel_needs
     check 'Python' passes_its_tests
+    lines_with Python "$work/lines.py" with_package "$work/lines.py"
     "$builder" -c 'import pandas, distributed' 2>/dev/null || echo "columns of pandas and dask: skipped, since $builder has not both"
     counted 'Python of other versions' passes_on_other_pythons
     check 'the links of the page of the wheel' tools/cellarcove check packed "$work"/wheel/*.whl

@@ -43,6 +43,7 @@ if [ $# -gt 0 ]; then
 else
     check 'the package for JavaScript' bindings/js/build "$CELLARCOVE"
     counted 'what a page loads' is_small
+    check 'the lines of the page' lines_return JavaScript "$work/returned_here" cat "$work/returned_here"
 fi
 check 'the links of its pages' tools/cellarcove check packed "$CELLARCOVE"
 if [ -e "$CELLARCOVE/cellarcove.wasm" ]; then

@@ -66,6 +66,12 @@ has_texts() {
     done
 }
 
+# The lines of code in Rust on the page docs/try are a program over the crate.
+lines_in_rust() {
+    mkdir -p "$work/lines_of_page/src" && printf '[package]\nname = "lines"\nedition = "2021"\n[dependencies]\ncellarcove = { path = "../rust" }\n' \
+        >"$work/lines_of_page/Cargo.toml" && lines_return Rust "$work/lines_of_page/src/main.rs" at lines_of_page cargo run
+}
+
 # The package is made and built, and tests of it pass where it is unpacked.
 package() {
     strictly rust cargo package --allow-dirty && mkdir "$work/unpacked" &&
@@ -141,6 +147,7 @@ if has_packages "${originals[@]}"; then
     # a few of each kind; tools/gate/release.sh tries all
     check 'a guard that is taken out or has a wrong condition is missed' tools/cellarcove check guards --sample
     check_tests 'a type that is not Copy, of a package that depends on this crate alone' own_type
+    ! has node 'the lines of the page' || check 'the lines of the page' lines_in_rust
     check 'the package has the texts of both licences and the changelog' has_texts
     check_tests 'the package is made, and some of its tests where it is unpacked' package
     check 'the links of its pages' tools/cellarcove check packed "$CARGO_TARGET_DIR"/package/cellarcove-*.crate

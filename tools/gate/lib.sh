@@ -105,6 +105,14 @@ package_num_integer() {
         sed "s|path = \"..\"|path = \"../${2%.crate}\"|" "$1/num-integer/Cargo.toml" >"$work/packed/$top/Cargo.toml" && packed "$top" "$3/$top.crate"
 }
 
+# lines_return LANGUAGE FILE COMMAND..: the command runs the program of the lines of code in a language on the page docs/try, which it finds in
+# the file, and each call returns what the comment of its export says.
+lines_return() {
+    local status
+    node bindings/js/tests/lines.js "$1" >"$2" && "${@:3}" >"$work/returned" || return 1
+    LC_ALL=C sort -u "$work/returned" | diff <(tools/cellarcove make tried | LC_ALL=C sort -u) -
+}
+
 # block PAGE LANGUAGE: the first block of a page in this language.
 block() { awk -v begin="\`\`\`$2" '$0 == begin { on = 1; next } /^```$/ && on { exit } on' "$1"; }
 

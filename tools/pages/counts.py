@@ -1,7 +1,7 @@
 """Counts what was tried, and writes the counts into pages.
 
-The table `Counts` of docs/TESTING.md has a row for each count, and README.md a sentence with some of
-them. Most are counted in the repository. What only a run of .ci/run can count, such as the tests of
+The table `Counts` of docs/TESTING.md has a row for each count, and README.md a sentence with some
+of them. Most are counted in the repository. What only a run of .ci/run can count, such as the tests of
 other packages, is in counts.txt:
 
     tools/cellarcove make counted LOG

@@ -119,7 +119,7 @@ test('a page awaits ready, and its policy needs wasm-unsafe-eval', async () => {
 
 test('the examples show the result or the reason', async () => {
   const results = [];
-  for (let place = 0; place < 8; place++) {
+  for (let place = 0; place < 9; place++) {
     await evaluate(`new Promise((done) => {
       const link = document.querySelectorAll('#examples a')[${place}];
       if (link.hash === location.hash) return done();
@@ -130,7 +130,7 @@ test('the examples show the result or the reason', async () => {
   }
   const notFitting = 'no result: NOT_FITTING: the result does not fit its type, or a part of a fraction, once reduced, does not';
   assert.deepEqual(results, ['lcm(9223372036854775807, 2) = 18446744073709551614', notFitting, notFitting, 'modFloor(-9223372036854775808, -1) = 0',
-    'divModFloor(-8, 3) = quotient -3, remainder 1', 'shares(-100, [1, 1, 1]) = [-34, -33, -33]', 'powerModulo(3, 200, 13) = 9',
+    notFitting, 'divModFloor(-8, 3) = quotient -3, remainder 1', 'shares(-100, [1, 1, 1]) = [-34, -33, -33]', 'powerModulo(3, 200, 13) = 9',
     'no result: NO_SOLUTION: no number solves the congruences']);
 });
 
@@ -143,6 +143,21 @@ test('each call can be chosen, and has its contract in words and in symbols', as
     assert.match(await textOf('contract'), /^[A-Z`][\s\S]*ensures/, name);
     assert.match(await textOf('result'), /= |^no result: /, name);
   }
+});
+
+test('each call has a line of code in each language, if its arguments are right', async () => {
+  const names = await evaluate(`[...document.getElementById('call').options].map((it) => it.value)`), languages = ['Rust', 'Python', 'JavaScript', 'C', 'C++', 'Rattle'];
+  assert.equal(new Set(names).size, names.length);
+  for (const name of names) {
+    await evaluate(`(() => { const call = document.getElementById('call'); call.value = '${name}'; call.dispatchEvent(new Event('change')); })()`);
+    assert.deepEqual(await evaluate(`[...document.querySelectorAll('#lines dt')].map((it) => it.innerText)`), languages, name);
+  }
+  await evaluate(`location.hash = '#gcd&12&18'`);
+  await until(`document.getElementById('result').textContent === 'gcd(12, 18) = 6'`);
+  assert.deepEqual(await evaluate(`[...document.querySelectorAll('#lines dd')].map((it) => it.innerText)`), ['cellarcove::checked::gcd(12i64, 18)', 'cellarcove.gcd(12, 18)',
+    'gcd(12, 18)', 'cellarcove_gcd_i64(12, 18)', 'cellarcove::gcd(12, 18)', 'num_integer::checked::gcd(12i64, 18)']);
+  await evaluate(`location.hash = '#gcd&12&x'`);
+  await until(`document.querySelectorAll('#lines dt').length === 0`);
 });
 
 test('a definition opens', async () => {
