@@ -3,7 +3,8 @@ first arguments, its names in C++, in Python and in Rattle, and its line in Rust
 
 The arguments are those of the first example in the comment of the export. A line in Rust is made of
 the signature in rust/api.txt, or is one of lines.txt. In it `{0}` stands for the first argument,
-`{0!}` for one that has its type behind, and `{#0}` for the length of a list."""
+`{0!}` for one that has its type behind, and `{#0}` for the length of a list. If there are two lines
+with `||` between them, the second one is for numbers without a sign."""
 import json
 import re
 import textwrap
@@ -98,10 +99,10 @@ def facts() -> Iterator[tuple[str, list[object]]]:
         checked = f'checked::{each.rust.split("::")[-1]}'
         path = checked if types_of(checked, api) else each.rust
         line = lines.get(each.c) or line_in_rust(path, call, api)
-        named = re.search(r'cellarcove::([\w:]+)', line)
+        named = map(languages.in_rattle, re.findall(r'cellarcove::([\w:]+)\(', line))
         cpp, python = each.cpp.split(', ')[-1], each.python.split(', ')[-1]
         yield camel(each.c), [doing.get(each.c, ''), first_texts(call), cpp, python, line,
-                                        languages.in_rattle(named[1]) if named else '']
+                                        ' || '.join(named)]
 
 
 def in_order() -> list[str]:
