@@ -23,8 +23,8 @@ hash_more base bytes i within h shift last = rw (add-one i, take-suc bytes i 0 w
     (hash_shifted base (pos (slice_index bytes i)) h.congruent shift last)
 
 -- the weight of the first byte, as a residue
-pub weight_of_first : {m base count weight : ℕ} → 0 < m → weight ≡ base ^ count % m → IsResidue (pos m) (int_pow (pos base) count) (pos weight)
-weight_of_first {m} {base} {count} up is = rw (natural_power base count, is) (natural_residue (base ^ count) up)
+pub weight_of_first : {m weight : ℕ} (base count : ℕ) → 0 < m → weight ≡ base ^ count % m → IsResidue (pos m) (int_pow (pos base) count) (pos weight)
+weight_of_first base count up is = rw (natural_power base count, is) (natural_residue (base ^ count) up)
 
 pub next_window : {m hash weight first rest shifted r : ℤ} {count : ℕ} (base : ℤ) (leaving entering : ℕ) (kept : List ℕ) → length kept ≡ count → IsResidue m (weighted_sum base (leaving ∷ kept)) hash
     → IsResidue m (int_pow base count) weight → IsResidue m (pos leaving *ℤ weight) first → IsResidue m (hash -ℤ first) rest
