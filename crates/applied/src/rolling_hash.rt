@@ -29,7 +29,6 @@ impl RollingHash {
     /// # Panics
     ///
     /// In plain Rust, if the modulus is not positive, or if the length is 0.
-    #[tactic(auto, using(modular::proofs::ForCallers::power_is_natural))]
     pub fn new(base: u64, modulus: u64, length: u64) -> Self
         requires positive { 0 < modulus }
         requires some { 0 < length }
