@@ -109,7 +109,7 @@ class CustomBuildHook(BuildHookInterface[Any]):
             build_data['force_include'] |= {f'{made}/registry': 'vendor/registry', **names}
             return
         headers()  # so that what is missing is said first
-        folder, calls = HERE / 'cellarcove' if version == 'editable' else made, archive()
+        folder, calls = HERE / 'src/cellarcove' if version == 'editable' else made, archive()
         extensions = [folder / f'_{name}.abi3.so' for name in ('calls', 'ufuncs')]
         for file, source in zip(extensions, ('calls.c', 'ufuncs.c')):
             link(source, file, calls)

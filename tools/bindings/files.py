@@ -10,5 +10,5 @@ from tools.bindings.ufuncs import table, ufuncs_c
 def made() -> dict[str, str]:
     """The files, and what is to be in them."""
     return {'bindings/c/cellarcove.h': header(), 'bindings/c/cellarcove.hpp': hpp(), 'bindings/python/src/calls.c': calls_c(),
-            'bindings/python/src/ufuncs.c': ufuncs_c(), 'bindings/python/cellarcove/_table.py': table(),
-            'bindings/python/cellarcove/_calls.pyi': stubs(), 'docs/LANGUAGES.md': page()} | javascript.made()
+            'bindings/python/src/ufuncs.c': ufuncs_c(), 'bindings/python/src/cellarcove/_table.py': table(),
+            'bindings/python/src/cellarcove/_calls.pyi': stubs(), 'docs/LANGUAGES.md': page()} | javascript.made()

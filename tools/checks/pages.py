@@ -204,8 +204,8 @@ def errors() -> Found:
     yield from compared(ours | {message for message in seen if message.startswith(OF_OPERATORS)}, messages_on(' '.join(page.split())))
     yield from panics(page, ours, seen)
     statuses = {f'{status.number} CELLARCOVE_{status.name}' for status in EXPORTS().statuses}
-    sources = read(package + 'src/driver.h') + read(package + 'cellarcove/_columns.py')
-    yield from compared(statuses | exceptions_in(read(package + 'cellarcove/__init__.py'), sources), rows_on(page))
+    sources = read(package + 'src/driver.h') + read(package + 'src/cellarcove/_columns.py')
+    yield from compared(statuses | exceptions_in(read(package + 'src/cellarcove/__init__.py'), sources), rows_on(page))
 
 
 def compare() -> Found:

@@ -239,17 +239,19 @@ passes_with_sanitizers() {
     passes_its_tests && fuzz 0.02
 }
 
-# A source distribution has all that a wheel is built of by cargo, with num-traits, and its tests pass where it is unpacked.
+# A source distribution has all that a wheel is built of by cargo, with num-traits, and its tests pass where it is unpacked. There
+# `python -m pytest tests` takes the package that is installed, and not the sources beside the tests, which lack the extensions.
 makes_a_wheel_of_the_sources() {
     local there=$work/sources
     rm -rf "$there" && mkdir "$there" && (cd bindings/python && "$builder" -m hatchling build -t sdist -d "$there") &&
         tools/cellarcove check packed "$there"/*.tar.gz && tar -xzf "$there"/*.tar.gz -C "$there" && rm "$there"/*.tar.gz && compgen -G "$there/*/vendor/registry/num-traits-*" &&
-        wheel_of '' "$work/wheel" "$there"/* && tests=$(echo "$there"/*/tests) passes_its_tests
+        wheel_of '' "$work/wheel" "$there"/* && tests=$(echo "$there"/*/tests) passes_its_tests &&
+        (cd "$there"/* && PYTHONPATH=$work/site "$builder" -m pytest -q -p no:cacheprovider --collect-only tests)
 }
 
 # The package, and a caller of numbers and of arrays, have the types of the stubs. Where the caller says so, they are not those.
 has_types() {
-    cp "$tests/typed.txt" "$work/typed.py" && MYPYPATH=bindings/python mypy --strict --cache-dir="$work/mypy" "$work/typed.py"
+    cp "$tests/typed.txt" "$work/typed.py" && MYPYPATH=bindings/python/src mypy --strict --cache-dir="$work/mypy" "$work/typed.py"
 }
 
 # checksums ARCHIVE: a line of checksums for each call.

@@ -32,7 +32,7 @@ def test_lines_of_the_package_for_python() -> None:
     package = ROOT / 'bindings/python'
     in_c = [package / 'src' / name for name in ('driver.h', 'ufuncs.h')]
     in_python = [package / name for name in (
-        'hatch_build.py', 'cellarcove/__init__.py', 'cellarcove/_columns.py',
+        'hatch_build.py', 'src/cellarcove/__init__.py', 'src/cellarcove/_columns.py',
         'tests/test_columns.py')]
     for path in in_c + in_python:
         assert [line for line in path.read_text().splitlines() if len(line) > 100] == [], path
