@@ -22,7 +22,7 @@ from tools.erase.prose import Anchors
 from tools.erase.source import Source
 
 Found = Iterator[tuple[str, bool]]      # places, each with whether it passed
-PAGES = ('README.md', 'docs/*.md', 'crates/*/CALLING.md', 'crates/*/README.md')
+PAGES = ('README.md', 'docs/*.md', 'crates/*/CALLING.md')
 LINKED = PAGES + ('CHANGELOG.md', 'CONTRIBUTING.md', 'bindings/js/*.md', 'bindings/python/*.md', 'compare/*.md', 'rust/*.md',
                   'rust/num-integer/*.md', 'docs/reference/*.md')
 # Pages that a package, or an index of packages, shows without the other pages.
