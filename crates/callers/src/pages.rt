@@ -142,14 +142,16 @@ pub fn seats_by_votes(seats: u64, votes: &[u64], parts: &mut [u64]) -> Result<()
     Ok(())
 }
 
-/// Divides a credit note by weights that are not all 0.
-pub fn credit_by_weights(cents: i64, weights: &[u64], parts: &mut [i64])
-    requires lengths { length parts.old ≡ length weights.now }
-    requires some { 0 < sum weights.now }
-    ensures shares { AreSignedSharesByRemainder cents weights.now parts.new }
-    ensures whole { signed_sum parts.new ≡ cents }
+/// Divides a credit note by weights. Returns an error, and changes nothing, if the weights are all 0.
+pub fn credit_by_weights(cents: i64, weights: &[u64], parts: &mut [i64]) -> Result<(), SharesError>
+    requires { length parts.old ≡ length weights.now }
+    ensures weights { (result ≡ Err SharesError.ZeroWeights) ↔ (sum weights.now ≡ 0) }
+    ensures whole { OnOk result (signed_sum parts.new ≡ cents) }
+    ensures shares { OnOk result (AreSignedSharesByRemainder cents weights.now parts.new) }
+    ensures unchanged { OnErr result (parts.new ≡ parts.old) }
 {
-    signed_shares_by_largest_remainder(cents, weights, parts).expect("the weights are not all 0");
+    signed_shares_by_largest_remainder(cents, weights, parts)?;
+    Ok(())
 }
 
 // ---- offsets and schedules
