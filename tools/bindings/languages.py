@@ -130,6 +130,13 @@ def of_c(each: Row) -> str:
     return f'`{each.c}`{types}' + (f'; C++ {code(", ".join(others))}' if others else '')
 
 
+def of_javascript(each: Row) -> str:
+    """The cell of a call in JavaScript, or what to use instead, by its names there."""
+    forms = EXPORTS().forms()
+    return code(each.javascript) or re.sub(
+        r'`(\w+)`', lambda name: f'`{camel(name[1])}`' if name[1] in forms else name[0], each.words)
+
+
 def of_three(each: Row) -> str:
     """The cell of a call in C, C++ and Python."""
     others = [name for name in each.python.split(', ') if name != each.c]
@@ -156,7 +163,7 @@ def page() -> str:
         rust=table(*((task, path_of(each.rust)) for task, each in tasks)),
         c=table(*((task, of_c(each)) for task, each in tasks)),
         python=table(*((task, code(each.python) or each.words) for task, each in tasks)),
-        javascript=table(*((task, code(each.javascript) or each.words) for task, each in tasks)),
+        javascript=table(*((task, of_javascript(each)) for task, each in tasks)),
         rattle=table(*((task, path_of(each.rattle)) for task, each in tasks)),
         rows=table(*((path_of(each.rust), of_three(each), code(each.javascript)) for each in made)),
         checked=table(*((path_of(each.rust), path_of(each.rattle)) for each in moved)))

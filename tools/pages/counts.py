@@ -70,7 +70,7 @@ def in_files() -> dict[str, int]:
 
 def rows(count: dict[str, int]) -> Iterator[tuple[str, str]]:
     """What is counted, and how many."""
-    yield 'wrong implementations that the prover has to reject', f'{count["mutants"]:,}'
+    yield 'mutants, each meant to be wrong, that the prover has to reject', f'{count["mutants"]:,}'
     yield ('results of `num-integer` that are compared, and of Python',
            f'{count["of_rust"]:,} and {count["of_python"]:,}')
     yield ('definitions of contracts that have a theorem in Coq',
@@ -88,9 +88,10 @@ def rows(count: dict[str, int]) -> Iterator[tuple[str, str]]:
 def sentence(count: dict[str, int]) -> str:
     """What README.md says of the counts."""
     others = count['num_integer'] + count['packages']
-    return (f'Beside the proofs, the prover rejects {count["mutants"]:,} wrong implementations, '
-            f'Coq proves what {count["in_coq"]:,} definitions are, and {others:,} tests of '
-            f'`num-integer` and its dependents pass ([counts](docs/TESTING.md#counts)).')
+    return (f'Beside the proofs, the prover rejects {count["mutants"]:,} mutants, theorems in Coq '
+            f'relate {count["in_coq"]:,} of {count["definitions"]:,} definitions to its library, and '
+            f'{others:,} tests of `num-integer` and its dependents pass '
+            f'([counts](docs/TESTING.md#counts)).')
 
 
 def wrapped(text: str, width: int = 148) -> str:

@@ -22,7 +22,7 @@ export type PlainDateColumns = {readonly year: Integer | BigInt64Array; readonly
 export const VERSION: string;
 /** Who made the WebAssembly. Rattle makes it of the proved sources, with addresses of 64 bits. On a page it is there after `ready`. */
 export const BUILT_BY: 'cargo' | 'rattle';
-/** It is kept when calls can be made. On a page and in a service worker, await it before the first call; elsewhere it is kept from the start. */
+/** It resolves when calls can be made. On a page and in a service worker, await it before the first call; elsewhere it is resolved from the start. */
 export const ready: Promise<void>;
 
 /** The numbers of the statuses. If several reasons hold, the status is the one that the comment of the call names first. Of two fractions,
