@@ -5,7 +5,7 @@ the theorems, and compare/coq/known.txt says which are about which definition, o
 Each theorem has to be closed under the global context. `--changes` changes definitions in the
 small, and a theorem has to refuse each change that compare/coq/same.txt does not list. It tries the
 changes that compare/coq/changes.txt does not have, or, with `--changes NAME..`, those of crates,
-files or definitions. `--sample` tries one of 20 of each definition, and keeps nothing."""
+files or definitions. `--sample` tries one of 20, and keeps nothing."""
 import os
 import re
 import shutil

@@ -147,31 +147,45 @@ def totals() -> dict[str, int]:
     return {'all': every, 'tried': sum(counts.values()), 'definitions': len(found), **counts}
 
 
-def judged(base: Build, definition: Definition, every: int) -> Iterator[Attempt]:
-    """Tries the changes of a definition, or one of so many."""
-    tasks, row = [*changes(text_of(definition))][::every], table()[definition]
+def judged(base: Build, definition: Definition, tasks: list[Change]) -> Iterator[Attempt]:
+    """Tries changes of a definition."""
+    row = table()[definition]
     with concurrent.futures.ThreadPoolExecutor(workers()) as pool:
         for each in pool.map(lambda task: attempt(base, definition, task, row), tasks):
             listed = ('.'.join(definition), each.change) in same()
             yield each._replace(verdict='same') if each.verdict == 'accepted' and listed else each
 
 
-def check_changes(base: Build, names: list[str], every: int) -> Iterator[tuple[str, bool]]:
-    """Tries the changes of the crates, files or definitions named, or of what is not yet tried."""
-    found = kept()
+def chosen(names: list[str], every: int) -> Iterator[tuple[Definition, list[Change]]]:
+    """The changes of the crates, files or definitions named, or of what is not yet tried."""
+    found, count = kept(), 0
     for key in covered():
         words = {key[0], '.'.join(key[:2]), '.'.join(key), key[2]}
-        if names and not words & set(names) or not names and key in found and every == 1:
-            continue
-        counts = collections.Counter[str]()
-        for each in judged(base, key, every):
-            counts[each.verdict] += 1
-            yield f'{".".join(key)}: no theorem refuses `{each.change}`', each.verdict != 'accepted'
-            if each.verdict == 'too long':
-                print(f'{".".join(key)}: `{each.change}` takes too long in {each.where}')
+        if words & set(names) or not names and (every > 1 or key not in found):
+            tasks = [*changes(text_of(key))]
+            yield key, tasks[-count % every::every]
+            count += len(tasks)
+
+
+def check_changes(base: Build, names: list[str], every: int) -> Iterator[tuple[str, bool]]:
+    """Tries changes, all of a definition or one of so many, and keeps what was found of all."""
+    found = kept()
+    for key, tasks in chosen(names, every):
+        attempts = [*judged(base, key, tasks)]
+        yield from (said(key, each) for each in attempts)
+        counts = collections.Counter(each.verdict for each in attempts)
         if every == 1 and not counts['accepted']:
             found[key] = Tried(sum_of(key), tuple(counts[verdict] for verdict in VERDICTS))
             keep(found)
+    if every == 1 and not names:
+        done = {'.'.join(key): key in found for key in covered()}
+        yield from ((f'{name}: not all changes are refused', done[name]) for name in done)
+
+
+def said(definition: Definition, each: Attempt) -> tuple[str, bool]:
+    if each.verdict == 'too long':
+        print(f'{".".join(definition)}: `{each.change}` takes too long in {each.where}')
+    return f'{".".join(definition)}: no theorem refuses `{each.change}`', each.verdict != 'accepted'
 
 
 def summary() -> str:

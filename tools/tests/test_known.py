@@ -105,6 +105,12 @@ def test_changes_have_names() -> None:
         ('<ℤ for ≤ℤ', text.replace('a ≤ℤ', 'a <ℤ')), ('<ℤ for ≤ℤ, place 2', text.replace('b ≤ℤ', 'b <ℤ'))]
 
 
+def test_sample() -> None:
+    every = sum(len(tasks) for _, tasks in known_changes.chosen([*known_table.LIBRARIES], 1))
+    some = sum(len(tasks) for _, tasks in known_changes.chosen([], 20))
+    assert some == (every + 19) // 20
+
+
 def test_rows() -> None:
     rows = known_table.table()
     assert all(row.what and len(key) == 3 for key, row in rows.items())
