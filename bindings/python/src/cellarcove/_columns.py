@@ -630,6 +630,8 @@ def of_shares(numpy: Any, task: Task) -> Any:
     """The shares of each amount by weights, which lie along the last axis."""
     amount, weights = task.leaves
     frame = weights.value if hasattr(weights.value, 'columns') else None
+    if is_table(frame):
+        amount = amount._replace(value=joined(numpy, task.name, amount, frame.index))
     weights = weights._replace(value=numpy.asarray(weights.value))
     (amounts, missing), (parts_of, none) = (
         (leaf.value, None) if isinstance(leaf.value, int) else plain(numpy, task.name, leaf)
@@ -649,6 +651,24 @@ def of_shares(numpy: Any, task: Task) -> Any:
     taken, returned = call.forms[0 if kind == 'q' else -1]
     (parts,), status = ran(numpy, task.name, given, taken, returned, call, None, True)
     return divided(numpy, task, frame, parts, status, given)
+
+
+def joined(numpy: Any, name: str, amount: Leaf, index: Any) -> Any:
+    """The amounts of a `Series`, each in the place of its label in the index of the weights. Other
+    amounts have no index, and stay in their places."""
+    if is_table(amount.value):
+        raise wrong_type(name, amount.parameter, amount.value, 'column')
+    if not is_of(amount.value, 'pandas', 'Series') or amount.value.index.equals(index):
+        return amount.value
+    if amount.value.index.is_unique:
+        found = amount.value.index.get_indexer(index)
+        # each row has an amount, and each amount has a row
+        if (found >= 0).all() and numpy.unique(found).size == len(amount.value):
+            return amount.value.iloc[found]
+    raise ValueError(
+        f'{name}(): the amounts and the rows of weights have not the same index: for those in the '
+        'same place, pass the amounts by `.to_numpy()`'
+    )
 
 
 def divided(
