@@ -632,10 +632,9 @@ def of_shares(numpy: Any, task: Task) -> Any:
     frame = weights.value if hasattr(weights.value, 'columns') else None
     if is_table(frame):
         amount = amount._replace(value=joined(numpy, task.name, amount, frame.index))
-    weights = weights._replace(value=numpy.asarray(weights.value))
-    (amounts, missing), (parts_of, none) = (
-        (leaf.value, None) if isinstance(leaf.value, int) else plain(numpy, task.name, leaf)
-        for leaf in (amount, weights)
+    parts_of, none = weights_of(numpy, task.name, weights)
+    amounts, missing = (
+        (amount.value, None) if isinstance(amount.value, int) else plain(numpy, task.name, amount)
     )
     if none is not None and none.any() or missing is not None and missing.any():
         raise ValueError(f'{task.name}(): an amount or a weight is missing')
@@ -651,6 +650,21 @@ def of_shares(numpy: Any, task: Task) -> Any:
     taken, returned = call.forms[0 if kind == 'q' else -1]
     (parts,), status = ran(numpy, task.name, given, taken, returned, call, None, True)
     return divided(numpy, task, frame, parts, status, given)
+
+
+def weights_of(numpy: Any, name: str, leaf: Leaf) -> tuple[Any, Any]:
+    """The weights as an array of numpy, and where they are missing, or `None`. A table has a weight
+    in each column."""
+    if isinstance(leaf.value, list):
+        return numpy.asarray(leaf.value), None
+    if not is_table(leaf.value) or leaf.value.shape[1] == 0:
+        return plain(numpy, name, leaf)
+    columns = [
+        plain(numpy, name, leaf._replace(value=leaf.value.iloc[:, k]))
+        for k in range(leaf.value.shape[1])
+    ]
+    missing = [numpy.zeros(data.shape, bool) if mask is None else mask for data, mask in columns]
+    return numpy.stack([data for data, _ in columns], -1), numpy.stack(missing, -1)
 
 
 def joined(numpy: Any, name: str, amount: Leaf, index: Any) -> Any:
