@@ -235,6 +235,23 @@ class Matrix(unittest.TestCase):
         self.assertEqual(x.tolist(), [1, *range(1, 100_000)])
 
 
+@unittest.skipIf(missing, f'there is no {missing}')
+class Dates(unittest.TestCase):
+    def test_last_day(self):
+        """A `Series` gets each date that pandas has, and no result for the next one."""
+        first = pandas.Series(numpy.array([0], 'M8[D]'))
+        per_day = 86400 * {'s': 1, 'ms': 10**3, 'us': 10**6, 'ns': 10**9}[numpy.datetime_data(first.dtype)[0]]
+        last = (2**63 - 1) // per_day
+        for days in (last, -last):
+            found = cellarcove.plus_days(first, days)
+            self.assertEqual((found.to_numpy().view('int64') // per_day).tolist(), [days])
+            self.assertEqual(cellarcove.day_from_date(found).tolist(), [days])
+            beyond = days + (1 if days > 0 else -1)
+            with self.assertRaises(cellarcove.NotFitting):
+                cellarcove.plus_days(first, beyond)
+            self.assertTrue(cellarcove.plus_days(first, beyond, errors='mask').isna().all())
+
+
 def pick(nested, k):
     return [pick(item, k) for item in nested] if isinstance(nested, list) else nested and nested[k]
 

@@ -31,6 +31,12 @@ NAMED = ('out', 'where', 'errors')
 ERRORS = ('raise', 'mask', 'status')
 NO_DAY = -(2**63)  # the number of `NaT`
 NOT_FITTING = 2  # the status
+PER_DAY = {'s': 86400, 'ms': 86400 * 10**3, 'us': 86400 * 10**6, 'ns': 86400 * 10**9}
+WITH_MISSING = (
+    ": with missing values, pass pandas' Int64 by `.astype('Int64')`, which raises for a number "
+    'that is no integer'
+)
+OF_FLOATS = "; 19.99 as cents is `(series * 100).round().astype('Int64')`, which rounds a float"
 
 refusal: Callable[..., Exception]  # these three are of the package
 out_of_range: Callable[..., Exception]
@@ -319,24 +325,46 @@ def plain(numpy: Any, name: str, leaf: Leaf) -> tuple[Any, Any]:
     ):  # a column of pandas whose numbers may be missing
         return value.to_numpy(dtype=masked, na_value=0), numpy.asarray(value.isna())
     data = numpy.asarray(value)
+    if data.dtype.kind == 'O':
+        raise wrong_items(name, leaf, data)
     if data.dtype.kind in 'mM':
         return data, numpy.isnat(data)
     return data, None
 
 
 def wrong_items(name: str, leaf: Leaf, data: Any) -> TypeError:
-    """The error of a column of another type, with what to do."""
-    words = f'{name}(): {leaf.parameter} is a column of {data.dtype}, and not of integers'
-    if data.dtype.kind in 'fO':
-        words += (
-            ": with missing values, pass pandas' Int64 by `.astype('Int64')`, which raises for a "
-            'number that is no integer'
-        )
-    elif data.dtype.kind == 'M':
-        words += ': pass its day numbers, by `cellarcove.day_from_date`'
-    elif data.dtype.kind == 'm':
-        words += ': a number of days is timedelta64[D]'
+    """The error of a column of another type, with what to do. Its numbers are these."""
+    kind = getattr(leaf.value, 'dtype', data.dtype)  # of pandas, whose numbers may be objects
+    wanted = 'datetime64' if leaf.is_dates else 'integers'
+    words = f'{name}(): {leaf.parameter} is a column of {kind}, and not of {wanted}'
+    if hasattr(kind, 'tz'):
+        words += ': without its time zone it is `.dt.tz_localize(None)`'
+    elif leaf.is_dates:
+        words += ': pass a tuple of a year, a month and a day'
+        words += ', or `pandas.to_datetime` of it' * (data.dtype.kind in 'OU')
+    else:
+        words += {
+            'M': ': pass its day numbers, by `cellarcove.day_from_date`',
+            'm': ': a number of days is timedelta64[D], or an integer: `.dt.days`, with missing '
+            "values `.dt.days.astype('Int64')`",
+            'f': WITH_MISSING + OF_FLOATS,
+            'O': with_objects(data),
+            'U': with_objects(data),
+        }.get(data.dtype.kind, '')
     return TypeError(words)
+
+
+def with_objects(data: Any) -> str:
+    """What to do with a column of objects, by its first one of a type that is known here."""
+    found = next((item for item in data.flat if isinstance(item, (Decimal, str, float))), None)
+    if not isinstance(found, (Decimal, str)):
+        return WITH_MISSING + OF_FLOATS * isinstance(found, float)
+    number = 'd' if isinstance(found, Decimal) else 'decimal.Decimal(d)'
+    return (
+        ': 19.99 as cents is '
+        f'`series.map(lambda d: cellarcove.fraction_round_even_times({number}, 100))`, after '
+        '`.dropna()` if some are missing'
+    )
 
 
 def as_kind(numpy: Any, name: str, leaf: Leaf, missing: Any, kind: str) -> Any:
@@ -372,10 +400,11 @@ def as_kind(numpy: Any, name: str, leaf: Leaf, missing: Any, kind: str) -> Any:
 def days_of(numpy: Any, name: str, leaf: Leaf, data: Any) -> Any:
     """The day numbers of a column of dates. A time counts as its day."""
     if data.dtype.kind != 'M':
-        raise TypeError(
-            f'{name}(): {leaf.parameter} is a column of {data.dtype}, and not of datetime64: '
-            'pass a tuple of a year, a month and a day'
-        )
+        raise wrong_items(name, leaf, data)
+    unit, count = numpy.datetime_data(data.dtype)
+    if count == 1 and unit in PER_DAY:
+        # numpy's own cast wraps for the first day of a unit
+        return data.astype('int64') // PER_DAY[unit]
     return data.astype('M8[D]').view('int64')
 
 
@@ -428,8 +457,11 @@ def form_of(name: str, call: Call, cells: Sequence[Leaf]) -> int:
     )
 
 
-def of_numpy(task: Task, leaves: Sequence[Leaf], out: Any, where: Any) -> list[Any]:
-    """The columns of a result as arrays of numpy, and that of the statuses if asked for."""
+def of_numpy(
+    task: Task, leaves: Sequence[Leaf], out: Any, where: Any, last_day: int = 2**63 - 1
+) -> list[Any]:
+    """The columns of a result as arrays of numpy, and that of the statuses if asked for. A date has
+    no result if it is after the last day, or as long before 1970."""
     numpy, ufuncs = modules(task.name)
     call = CALLS[task.name]
     cells, missing = cells_of(numpy, ufuncs, task.name, leaves)
@@ -442,7 +474,7 @@ def of_numpy(task: Task, leaves: Sequence[Leaf], out: Any, where: Any) -> list[A
     if where is not True:
         missing = ~numpy.asarray(where) if missing is None else missing | ~numpy.asarray(where)
     if dated:
-        outputs, status = as_dates(numpy, ufuncs, outputs, status)
+        outputs, status = as_dates(numpy, ufuncs, outputs, status, last_day)
     if status is not None and missing is not None:
         status = numpy.where(missing, 0, status).astype('u1')
     shape = numpy.broadcast_shapes(*(numpy.shape(value) for value in given))
@@ -514,10 +546,12 @@ def signature_of(numpy: Any, taken: str, returned: str, has_status: bool) -> str
     return f'{letters(taken)}->{letters(returned + "B" * has_status)}'
 
 
-def as_dates(numpy: Any, ufuncs: Any, outputs: Any, status: Any) -> tuple[Any, Any]:
+def as_dates(
+    numpy: Any, ufuncs: Any, outputs: Any, status: Any, last_day: int
+) -> tuple[Any, Any]:
     """A column of dates in the place of three, and the statuses. No day is that of `NaT`."""
     days, failed = ufuncs.day_from_date(*outputs)
-    failed = numpy.where(days == NO_DAY, NOT_FITTING, failed)
+    failed = numpy.where((days < -last_day) | (days > last_day), NOT_FITTING, failed)
     status = failed if status is None else numpy.where(status != 0, status, failed)
     days = numpy.where(status != 0, NO_DAY, days)
     return (numpy.asarray(days).view('M8[D]'),), status
@@ -719,9 +753,18 @@ class Ufunc:
             leaf._replace(value=next(rest)) if is_of(leaf.value, 'pandas', 'Series') else leaf
             for leaf in self.task.leaves
         ]
-        found = of_numpy(self.task, leaves, None, True)
+        found = of_numpy(self.task, leaves, None, True, last_day())
         made = tuple(map(nullable, found))
         return made if self.nout > 1 else made[0]
+
+
+@functools.lru_cache(maxsize=1)
+def last_day() -> int:
+    """The last day that pandas has in a column of dates: one of 2262 if it counts nanoseconds, as
+    before its version 2."""
+    numpy, pandas = map(importlib.import_module, ('numpy', 'pandas'))
+    unit, _ = numpy.datetime_data(pandas.Series(numpy.array([0], 'M8[D]')).dtype)
+    return (2**63 - 1) // PER_DAY[unit]
 
 
 def nullable(column: Any) -> Any:
