@@ -95,6 +95,22 @@ class Small(unittest.TestCase):
                 cellarcove.choice_of_rank(len(choices), n, count)
 
 
+class Ranges(unittest.TestCase):
+    def test_docstring(self):
+        """The calls that the docstring of the package names as such take no negative number, and the shares do."""
+        tries = {'multinomial': ([-1],), 'rank': ([-1], 5), 'choice_of_rank': (-1, 5, 2), 'is_perfect_power': (-1,)}
+        words = re.search('those of (`multinomial`[^;]*?),\\s+weights and exponents are always from 0', cellarcove.__doc__)[1]
+        self.assertEqual(re.findall('`(\\w+)`', words), list(tries))
+        for name, arguments in tries.items():
+            with self.assertRaisesRegex(OverflowError, '-1 is not from 0'):
+                getattr(cellarcove, name)(*arguments)
+        for shares in (cellarcove.shares, cellarcove.shares_by_largest_remainder):
+            self.assertEqual(shares(-100, [1, 1, 1]), (-34, -33, -33))
+            self.assertEqual(shares(2**64 - 1, [1]), (2**64 - 1,))
+            with self.assertRaisesRegex(OverflowError, '-1 is not from 0'):
+                shares(5, [-1])
+
+
 class Dates(unittest.TestCase):
     def test_copies(self):
         for date in (Date(2**63 - 1, 12, 31), Date(2000, 2, 29)):

@@ -3,11 +3,10 @@
 If all numbers of a call are at least 0, they lie below 2**64, and otherwise from -2**63 to
 2**63 - 1. If they lie from 0 to 2**63 - 1, the result may be negative. Those of `extended_gcd`, the
 parts of fractions, years, numbers of days, and how many days or months are added, are always from
--2**63 to 2**63 - 1; those of `multinomial`, `rank`, `choice_of_rank`, `is_perfect_power` and
-`shares_by_largest_remainder`, weights and exponents are always from 0 to 2**64 - 1, and degrees and
-places from 0 to 2**32 - 1. The exponent of a fraction is from -2**31 to 2**31 - 1. A month, a week,
-a day of the month or of the week, and its count, are from 0 to 255, and a day of the year is from 0
-to 2**16 - 1.
+-2**63 to 2**63 - 1; those of `multinomial`, `rank`, `choice_of_rank` and `is_perfect_power`,
+weights and exponents are always from 0 to 2**64 - 1, and degrees and places from 0 to 2**32 - 1.
+The exponent of a fraction is from -2**31 to 2**31 - 1. A month, a week, a day of the month or of
+the week, and its count, are from 0 to 255, and a day of the year is from 0 to 2**16 - 1.
 
 A number out of its range raises `OverflowError`, and what is no integer raises `TypeError`. So
 `days_in_month` raises `Refused` for month 13 and `OverflowError` for month 256, and `Date` raises
