@@ -5,6 +5,7 @@ import calendar
 import importlib.util
 import math
 import pathlib
+import subprocess
 import sys
 import threading
 import time
@@ -236,11 +237,34 @@ class Matrix(unittest.TestCase):
 
 
 @unittest.skipIf(missing, f'there is no {missing}')
+class Imports(unittest.TestCase):
+    def test_missing(self):
+        """An array is an error without numpy, and without an extension that numpy can load."""
+        program = (
+            'import array, sys, cellarcove\n'
+            'sys.modules[sys.argv[1]] = None\n'
+            'try: cellarcove.gcd(array.array("q", [12]), 8)\n'
+            'except ImportError as error: print(error)\n'
+            'print(cellarcove.gcd(12, 8))'
+        )
+        for name, words in (
+            ('numpy', 'numpy, which is not there: install numpy ('),
+            ('cellarcove._ufuncs', 'numpy, and was built with another version of it: build it'),
+        ):
+            with self.subTest(name):
+                command = [sys.executable, '-c', program, name]
+                found = subprocess.check_output(command, text=True)
+                self.assertTrue(found.startswith(f'gcd() takes arrays by {words}'), found)
+                self.assertTrue(found.endswith('\n4\n'), found)
+
+
+@unittest.skipIf(missing, f'there is no {missing}')
 class Dates(unittest.TestCase):
     def test_last_day(self):
         """A `Series` gets each date that pandas has, and no result for the next one."""
         first = pandas.Series(numpy.array([0], 'M8[D]'))
-        per_day = 86400 * {'s': 1, 'ms': 10**3, 'us': 10**6, 'ns': 10**9}[numpy.datetime_data(first.dtype)[0]]
+        unit, _ = numpy.datetime_data(first.dtype)
+        per_day = 86400 * {'s': 1, 'ms': 10**3, 'us': 10**6, 'ns': 10**9}[unit]
         last = (2**63 - 1) // per_day
         for days in (last, -last):
             found = cellarcove.plus_days(first, days)

@@ -272,9 +272,10 @@ def modules(name: str) -> tuple[Any, Any]:
     try:
         return imported()
     except ImportError as error:
-        raise ImportError(
-            f'{name}() takes arrays by numpy, which is not there: install numpy ({error})'
-        ) from error
+        words = 'which is not there: install numpy'
+        if sys.modules.get('numpy'):
+            words = 'and was built with another version of it: build it with this one'
+        raise ImportError(f'{name}() takes arrays by numpy, {words} ({error})') from error
 
 
 def is_of(value: object, module: str, name: str) -> bool:
