@@ -16,7 +16,8 @@ const ofTry = (name) => `try${name[0].toUpperCase()}${name.slice(1)}`;
 const argument = (it) => Array.isArray(it) ? it.map(argument) : /^-?\d+$/.test(it) ? BigInt(it) : it;
 const LARGE = [['gcdOf', [[2n ** 60n]]], ['multinomial', [[30, 34]]], ['rank', [Array.from({length: 32}, (_, k) => k + 32), 64]], ['choiceOfRank', [2n ** 60n, 2n ** 61n, 1]],
   ...['daysBetween', 'monthsBetween', 'yearsBetween'].map((name) => [name, [[-(2n ** 53n), 1, 1], [2n ** 53n, 1, 1]]]),
-  ['factorial', [20]], ['fractionToDecimal', [[1, 3], 18]], ['dayFromDate', [[2n ** 53n, 1, 1]]], ['fractionFromText', [`1/${2n ** 63n - 1n}`]]]; // calls with a large result
+  ['factorial', [20]], ['fractionToDecimal', [[1, 3], 18]], ['dayFromDate', [[2n ** 53n, 1, 1]]], ['fractionFromText', [`1/${2n ** 63n - 1n}`]],
+  ['dateFromText', ['+9007199254740993-01-01']]]; // calls with a large result
 for await (const row of rows(1, 8)) found.push(row);
 
 test('each export returns what Python computes, of numbers and of arrays', () => {
