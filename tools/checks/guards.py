@@ -33,12 +33,18 @@ TESTS = ('domains', 'guards', 'own_type')        # of rust/tests
 MANY = re.compile(r'mod (?:small|slices|wide);\n')      # the parts of `domains` with many numbers
 SECONDS = '20'                                  # that they may take
 ENDLESS = 'a test does not end'
-# The forms that mean the same, by the file of the guard: with the reason.
+# The forms that mean the same, by the file of the guard and what it panics with: with the reason.
+MODULUS = 'the modulus is not positive'
+LATER = 'a later guard panics so too'
 SAME = {
-    ('integer_core/guards.rs', '(number >= T::zero() || number == crate::taken_out::minus_one()) '
+    ('integer_core/guards.rs', '',
+     '(number >= T::zero() || number == crate::taken_out::minus_one()) '
      '&& number.magnitude() == magnitude'): 'no number of magnitude 1 is made of another magnitude',
-    ('modular/common_solutions.rs', '!is_below(m, zero())'): 'for 0 a later guard panics so too',
-    ('modular/common_solutions.rs', '!is_below(n, zero())'): 'for 0 a later guard panics so too'}
+    ('modular/common_solutions.rs', MODULUS, '!is_below(m, zero())'): LATER,
+    ('modular/common_solutions.rs', MODULUS, '!is_below(n, zero())'): LATER,
+    ('rolling_hash.rs', MODULUS, ''): LATER,
+    ('rolling_hash.rs', MODULUS, 'modulus >= 0'): LATER,
+    ('rolling_hash.rs', MODULUS, 'base > 0'): LATER}
 FEW = 8                                         # of so many guards of a kind, one is in the sample
 
 
@@ -210,14 +216,15 @@ def check(words: list[str]) -> bool:
             raise Unknown('a test fails with every guard in its place')
         with ThreadPoolExecutor(max_workers=2) as pool:
             found = list(pool.map(lambda one: is_missed(programs, *one[:2]), tried))
-    same = [(guard.file, text) in SAME for guard, _, text in tried]
+    keys = [(guard.file, guard.reason, text) for guard, _, text in tried]
+    same = [key in SAME for key in keys]
     wrong = [f'{"a" if missed else "no"} test misses {guard}, with `{text or "no condition"}`'
              for (guard, _, text), missed, as_before in zip(tried, found, same)
              if missed == as_before]
     if '--sample' not in words:
-        wrong += [f'no guard has {row}' for row in SAME.keys() - {(g.file, t) for g, _, t in tried}]
-    out = sum(not text for _, _, text in tried)
-    print(*wrong, f'{out} of {len(crate.guards)} guards are taken out, and get '
-          f'{len(tried) - out - sum(same)} wrong conditions or arguments, one at a time: '
-          f'{len(wrong)} are not missed', sep='\n')
+        wrong += [f'no guard has {row}' for row in SAME.keys() - set(keys)]
+    out = sum(not text for _, _, text in keys)
+    conditions = sum(bool(key[2]) for key in keys if key not in SAME)
+    print(*wrong, f'{out} of {len(crate.guards)} guards are taken out, and get {conditions} wrong '
+          f'conditions or arguments, one at a time: {len(wrong)} are not missed', sep='\n')
     return not wrong
