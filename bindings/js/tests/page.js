@@ -48,7 +48,7 @@ const textOf = (id) => evaluate(`document.getElementById('${id}').innerText`);
 
 /** Waits until an expression is true. */
 async function until(expression) {
-  for (let tries = 0; tries < 200; tries++) {
+  for (let tries = 0; tries < 1200; tries++) {
     if (await evaluate(expression)) return;
     await new Promise((done) => setTimeout(done, 50));
   }
