@@ -55,6 +55,9 @@ async function until(expression) {
   assert.fail(`it does not become true: ${expression}`);
 }
 
+/** Goes to an address of the page. Chromium passes over some of them, if there are hundreds in ten seconds. */
+const goTo = (hash) => until(`(location.hash = '${hash}', location.hash === '${hash}')`);
+
 before(async () => {
   await new Promise((done) => server.listen(0, '127.0.0.1', done));
   browser = await opened();
@@ -152,11 +155,11 @@ test('each call has a line of code in each language, if its arguments are right'
     await evaluate(`(() => { const call = document.getElementById('call'); call.value = '${name}'; call.dispatchEvent(new Event('change')); })()`);
     assert.deepEqual(await evaluate(`[...document.querySelectorAll('#lines dt')].map((it) => it.innerText)`), languages, name);
   }
-  await evaluate(`location.hash = '#gcd&12&18'`);
+  await goTo('#gcd&12&18');
   await until(`document.getElementById('result').textContent === 'gcd(12, 18) = 6'`);
   assert.deepEqual(await evaluate(`[...document.querySelectorAll('#lines dd')].map((it) => it.innerText)`), ['cellarcove::checked::gcd(12i64, 18)', 'cellarcove.gcd(12, 18)',
     'gcd(12, 18)', 'cellarcove_gcd_i64(12, 18)', 'cellarcove::gcd(12, 18)', 'num_integer::checked::gcd(12i64, 18)']);
-  await evaluate(`location.hash = '#gcd&12&x'`);
+  await goTo('#gcd&12&x');
   await until(`document.querySelectorAll('#lines dt').length === 0`);
 });
 
