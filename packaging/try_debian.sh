@@ -17,7 +17,7 @@ trap 'umount "$root/proc" 2>/dev/null || true; rm -rf "$work"' EXIT
 mountpoint -q "$root/proc" || mount -t proc proc "$root/proc"
 
 # inside WORD..: in the root, without a net.
-inside() { unshare -n chroot "$root" env -i PATH=/usr/sbin:/usr/bin:/sbin:/bin HOME=/root LC_ALL=C.UTF-8 "$@"; }
+inside() { unshare -n chroot "$root" env -i PATH=/usr/sbin:/usr/bin:/sbin:/bin HOME=/build LC_ALL=C.UTF-8 "$@"; }
 
 # build FOLDER: the packages of the commit, in a folder of the root.
 build() {
@@ -53,10 +53,10 @@ test -z "$(find /usr -name '*cellarcove*' -o -name '*intcalc*')"
 PROGRAM
 }
 
-build /root/one
-inside sh -c 'cd /root/one && lintian --fail-on error --profile debian -- *.deb'
-try_packages >"$root/root/try.sh" && inside sh /root/try.sh /root/one
-build /root/another/place
-diff <(sed 's| .*/| |' "$work/sums.root.one") <(sed 's| .*/| |' "$work/sums.root.another.place")
-rm -rf "$root/root/lint" && git clone -q . "$root/root/lint" && inside sh -c 'git config --global --add safe.directory /root/lint && cd /root/lint && reuse lint -q'
+build /build/one
+inside sh -c 'cd /build/one && lintian --fail-on error --profile debian -- *.deb'
+try_packages >"$root/build/try.sh" && inside sh /build/try.sh /build/one
+build /build/another/place
+diff <(sed 's| .*/| |' "$work/sums.build.one") <(sed 's| .*/| |' "$work/sums.build.another.place")
+rm -rf "$root/build/lint" && git clone -q . "$root/build/lint" && inside sh -c 'git config --global --add safe.directory /build/lint && cd /build/lint && reuse lint -q'
 echo 'packages: built, installed, tried, removed, and the same when built again'
