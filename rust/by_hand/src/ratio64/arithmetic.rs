@@ -1,12 +1,15 @@
 //! The operators of fractions, and of a fraction and an `i64`. Each is one of the checked calls, and
-//! panics, in debug and in release, if that call returns an error.
+//! panics, in debug and in release, if that call returns an error. Comparisons with an `i64` never
+//! panic.
 
 use crate::guards::refuse;
 use crate::ratio64::{Ratio, RatioError};
+use core::cmp::Ordering;
 use core::iter::{Product, Sum};
 use core::ops::{
     Add, AddAssign, Div, DivAssign, Mul, MulAssign, Neg, Sub, SubAssign,
 };
+use num_traits::{One, Zero};
 
 /// Returns the fraction, or panics with the reason.
 #[track_caller]
@@ -18,8 +21,8 @@ fn expect(result: Result<Ratio, RatioError>, reason: &'static str) -> Ratio {
     }
 }
 
-/// An operator and its assigning form, of fractions, of references to them, and of an `i64` at the
-/// right.
+/// An operator and its assigning form, of fractions, of references to them, and of an `i64` on
+/// either side.
 macro_rules! operator {
     ($Operator:ident $method:ident $Assign:ident $assign:ident $checked:ident
         $reason:literal $docs:literal) => {
@@ -30,6 +33,8 @@ macro_rules! operator {
 
         operator!(@by_integer $Operator $method $checked $reason $docs Ratio);
         operator!(@by_integer $Operator $method $checked $reason $docs &Ratio);
+        operator!(@of_integer $Operator $method $checked $reason $docs Ratio);
+        operator!(@of_integer $Operator $method $checked $reason $docs &Ratio);
 
         impl $Assign for Ratio {
             #[track_caller]
@@ -73,6 +78,18 @@ macro_rules! operator {
             #[track_caller]
             fn $method(self, other: i64) -> Ratio {
                 expect(Ratio::$checked(&self, &Ratio::from(other)), $reason)
+            }
+        }
+    };
+    (@of_integer $Operator:ident $method:ident $checked:ident
+        $reason:literal $docs:literal $B:ty) => {
+        #[doc = $docs]
+        impl $Operator<$B> for i64 {
+            type Output = Ratio;
+
+            #[track_caller]
+            fn $method(self, other: $B) -> Ratio {
+                expect(Ratio::$checked(&Ratio::from(self), &other), $reason)
             }
         }
     };
@@ -132,5 +149,47 @@ impl Product for Ratio {
 impl<'a> Product<&'a Ratio> for Ratio {
     fn product<I: Iterator<Item = &'a Self>>(fractions: I) -> Ratio {
         fractions.fold(Ratio::one(), Mul::mul)
+    }
+}
+
+impl PartialEq<i64> for Ratio {
+    fn eq(&self, number: &i64) -> bool {
+        *self == Ratio::from(*number)
+    }
+}
+
+impl PartialEq<Ratio> for i64 {
+    fn eq(&self, fraction: &Ratio) -> bool {
+        Ratio::from(*self) == *fraction
+    }
+}
+
+impl PartialOrd<i64> for Ratio {
+    fn partial_cmp(&self, number: &i64) -> Option<Ordering> {
+        Some(self.cmp(&Ratio::from(*number)))
+    }
+}
+
+impl PartialOrd<Ratio> for i64 {
+    fn partial_cmp(&self, fraction: &Ratio) -> Option<Ordering> {
+        Some(Ratio::from(*self).cmp(fraction))
+    }
+}
+
+/// No sum with 0 panics.
+impl Zero for Ratio {
+    fn zero() -> Ratio {
+        Ratio::zero()
+    }
+
+    fn is_zero(&self) -> bool {
+        Ratio::is_zero(self)
+    }
+}
+
+/// No product with 1 panics.
+impl One for Ratio {
+    fn one() -> Ratio {
+        Ratio::one()
     }
 }

@@ -1,4 +1,4 @@
-//! Fractions of integers, and integers of fractions.
+//! Fractions of integers, and integers and floating-point numbers of fractions.
 
 use crate::ratio64::{Ratio, RatioError};
 use crate::errors::Error;
@@ -74,3 +74,34 @@ macro_rules! try_into_integer {
 }
 
 try_into_integer!(i8 i16 i32 i64 i128 isize u8 u16 u32 u64 u128 usize);
+
+impl Ratio {
+    /// Returns the nearest floating-point number, and of two equally near the one whose last bit
+    /// is even, as Python's `float` of a `Fraction` does. Parts of more than 53 bits are not rounded
+    /// first.
+    ///
+    /// # Examples
+    ///
+    /// ```
+    /// use cellarcove::ratio64::Ratio;
+    ///
+    /// assert_eq!(Ratio::new(-1, 8).unwrap().to_f64(), -0.125);
+    /// assert_eq!(Ratio::new(1, 3).unwrap().to_f64(), 1.0 / 3.0);
+    /// assert_eq!(Ratio::from((1i64 << 53) + 1).to_f64(), 9007199254740992.0);
+    /// ```
+    #[must_use]
+    pub fn to_f64(&self) -> f64 {
+        let (num, den) = (u128::from(self.num().unsigned_abs()), u128::from(self.den().unsigned_abs()));
+        if num == 0 {
+            return 0.0;
+        }
+        // The quotient has 65 bits or more. Its last bit is set if a remainder is left, so that
+        // `as`, which rounds it to 53 bits, sees no tie where there is none.
+        let shift = num.leading_zeros();
+        let quotient = ((num << shift) / den) | u128::from((num << shift) % den != 0);
+        // 2 to the power of `-shift`, which is at least 2 to the power of -127
+        let scale = f64::from_bits(u64::from(1023 - shift) << 52);
+        let size = quotient as f64 * scale;
+        if self.num() < 0 { -size } else { size }
+    }
+}
