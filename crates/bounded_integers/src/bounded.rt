@@ -13,8 +13,9 @@ use num_integer::guards::check;
 use std::cmp::Ordering;
 use std::marker::PhantomData;
 
-/// The range of a type of [`Bounded`]: its smallest and its largest number. `LOW` has to be 0, `-HIGH` or `-HIGH - 1`, and above
-/// `i64::MIN`. `HIGH` has to be positive. `<PercentRange as Range>::HIGH` is `100`.
+/// The range of a type of [`Bounded`]: its smallest and its largest number. There are three shapes: from 0 to `HIGH`, from `-HIGH`
+/// to `HIGH`, and from `-HIGH - 1` to `HIGH`. `HIGH` has to be positive, and `LOW` above `i64::MIN`.
+/// `<PercentRange as Range>::HIGH` is `100`.
 ///
 /// In plain Rust, a type is a range and a name:
 ///
@@ -27,6 +28,18 @@ use std::marker::PhantomData;
 /// }
 /// type Minutes = Bounded<MinutesRange>;
 /// assert_eq!(Minutes::new(90).to_string(), "90");
+/// ```
+///
+/// A range of another shape is refused when its type is compiled, as one that has no 0:
+///
+/// ```compile_fail
+/// use cellarcove::bounded_integers::{Bounded, Range};
+/// struct DaysRange;
+/// impl Range for DaysRange {
+///     const LOW: i64 = 1;
+///     const HIGH: i64 = 31;
+/// }
+/// Bounded::<DaysRange>::new(7);
 /// ```
 pub trait Range {
     /// The smallest number. `<PercentRange as Range>::LOW` is `0`.
@@ -70,6 +83,12 @@ pub struct Bounded<R: Range> {
     ghost in_range: { Between R.LOW R.HIGH number },
 }
 
+/// Marks an integer with its range, which has one of the three shapes by its law. In plain Rust, another one is refused when this is
+/// compiled.
+pub(crate) fn lawful<R: Range>() -> PhantomData<R> {
+    PhantomData
+}
+
 impl<R: Range> Bounded<R> {
     /// Returns the integer. `Percent::try_from` tests it. `Percent::new(7).to_string()` is `"7"`.
     ///
@@ -86,7 +105,7 @@ impl<R: Range> Bounded<R> {
         );
         Bounded {
             number,
-            range: PhantomData,
+            range: lawful(),
         }
     }
 
@@ -110,7 +129,7 @@ impl<R: Range> TryFrom<i64> for Bounded<R> {
         if R::LOW <= number && number <= R::HIGH {
             Ok(Bounded {
                 number,
-                range: PhantomData,
+                range: lawful(),
             })
         } else {
             Err(BoundedError)

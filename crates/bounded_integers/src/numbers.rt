@@ -5,9 +5,9 @@ ghost use Rattle.num_integer.specs.Between.{Between, between_law};
 ghost use Rattle.num_traits.specs.Ints.{signed-eq};
 ghost use Rattle.bounded_integers.specs.Ranges.{one_inside, positive_divisor_inside, sub_inside, zero_inside};
 
+use crate::bounded::lawful;
 use crate::{Bounded, Range, SignedRange};
 use num_traits::{Num, Number, One, Signed, Zero};
-use std::marker::PhantomData;
 
 impl<R: Range> Number for Bounded<R> {
     ghost exact = { ⊤ };
@@ -35,7 +35,7 @@ impl<R: Range> Zero for Bounded<R> {
     fn zero() -> Bounded<R> {
         Bounded {
             number: 0,
-            range: PhantomData,
+            range: lawful(),
         }
     }
 
@@ -58,7 +58,7 @@ impl<R: Range> One for Bounded<R> {
     fn one() -> Bounded<R> {
         Bounded {
             number: 1,
-            range: PhantomData,
+            range: lawful(),
         }
     }
 

@@ -15,3 +15,18 @@ impl<R: Range> Hash for Bounded<R> {
         self.number.hash(state);
     }
 }
+
+/// Marks an integer with its range. A range of no lawful shape is refused when this is compiled.
+pub(crate) fn lawful<R: Range>() -> PhantomData<R> {
+    let () = Shape::<R>::IS_LAWFUL;
+    PhantomData
+}
+
+struct Shape<R>(PhantomData<R>);
+
+impl<R: Range> Shape<R> {
+    const IS_LAWFUL: () = assert!(
+        R::HIGH > 0 && (R::LOW == 0 || R::LOW == -R::HIGH || (R::LOW == -R::HIGH - 1 && R::LOW > i64::MIN)),
+        "a range is from 0, -HIGH or -HIGH - 1 to HIGH, which is positive"
+    );
+}
