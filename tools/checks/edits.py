@@ -1,7 +1,7 @@
 """Reads the mutants of both suites, crates/NAME/must-fail/*.edit and
 crates/NAME/must-fail-release/*.edit, and proves nothing. The first line of each says what is wrong,
 in one of three forms. Each file that it names is there, each old text stands in that file exactly
-once where the pairs above have been applied, and its new text is another. In the crates whose
+once where the pairs above have been applied, and its new text is another. In the crate whose
 functions are theorems, a mutant changes each public function that has a body. Prints a line for
 each that is not so, and a count at the end.
 """
@@ -16,9 +16,9 @@ from tools import ROOT, counted
 
 SUITES = ('must-fail', 'must-fail-release')
 PARTS = ('src/', 'specs/', 'proofs/')
-# The crates whose functions are theorems. A function with an empty body states laws, and has
+# The crate whose functions are theorems. A function with an empty body states laws, and has
 # nothing to change.
-THEOREMS = ('theorems', 'theorems_by_subject')
+THEOREMS = 'theorems'
 FUNCTION = re.compile(r'^pub fn (\w+).*?^(?:}|\{\})$', re.DOTALL | re.MULTILINE)
 # The forms of a first line. The calls and the values are expressions of Rust: wrong_lines.py runs them.
 CLAUSE = r'(?:its clause|the clause of `\w+`|`\w+`(?: of (?:`\w+`|its clause))?)'
@@ -108,13 +108,13 @@ def changed(crate: Path) -> Iterator[tuple[str, str]]:
 
 def theorems(root: Path) -> Iterator[tuple[str, bool]]:
     """Each theorem, with whether a mutant changes it."""
-    for crate in (root / 'crates' / name for name in THEOREMS):
-        attacked = set(changed(crate))
-        for file in sorted(crate.glob('src/*.rt')):
-            name = f'src/{file.name}'
-            for function in functions(file.read_text(encoding='utf-8')):
-                passed = (name, function) in attacked
-                yield f'crates/{crate.name}/{name}: no mutant changes `{function}`', passed
+    crate = root / 'crates' / THEOREMS
+    attacked = set(changed(crate))
+    for file in sorted(crate.glob('src/*.rt')):
+        name = f'src/{file.name}'
+        for function in functions(file.read_text(encoding='utf-8')):
+            passed = (name, function) in attacked
+            yield f'crates/{THEOREMS}/{name}: no mutant changes `{function}`', passed
 
 
 def judged() -> Iterator[tuple[str, bool]]:

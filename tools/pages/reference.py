@@ -24,14 +24,14 @@ from tools.pages import mathematics
 CRATES = ROOT / 'crates'
 PAGES = ROOT / 'docs' / 'reference'
 TOOLCHAIN = ROOT / 'rust' / 'by_hand' / 'definitions.md'
-THEOREMS = ('theorems', 'theorems_by_subject')
-NAMES = (*THEOREMS, 'callers', 'integer_core', 'integer_roots', 'num_integer', 'ratio64',
+THEOREMS = 'theorems'
+NAMES = (THEOREMS, 'callers', 'integer_core', 'integer_roots', 'num_integer', 'ratio64',
          'intcalc_core', 'intcalc', 'modular', 'calendar', 'bounded_integers', 'applied',
          'cellarcove_c')
 # All public items of these are those of num_integer, on whose page they are.
 BELOW = {'integer_core': 'num_integer', 'integer_roots': 'num_integer'}
 # Nobody imports these: their public items are those of their files.
-BY_FILE = {'cellarcove_c', *THEOREMS, 'callers', 'intcalc'}
+BY_FILE = {'cellarcove_c', THEOREMS, 'callers', 'intcalc'}
 PROGRAM = 'intcalc'                             # it has no public item, but functions with clauses
 FIRST = (('headline',), ('laws',))              # the files of `theorems` with which its page begins
 IN_RANGE = (
@@ -204,7 +204,7 @@ class Reference:
 
     def items_of(self, page: Page) -> None:
         page.add(*page.modules[0].source.head(), '')
-        page.add(*(SENTENCES if page.name in THEOREMS else IN_RANGE), '')
+        page.add(*(SENTENCES if page.name == THEOREMS else IN_RANGE), '')
         if page.name in BELOW:
             upper = BELOW[page.name]
             page.add(f'Its public items are those of [`{upper}`]({upper}.md). This page has its',
@@ -222,7 +222,7 @@ class Reference:
                 imports = f'use {"::".join((page.name, *place))}::{listed};'
                 page.block('rust', '\n'.join(wrapped(imports, 100, '    ')))
             for module, item in shown:
-                for block in self.blocks(module.source, item, page.name in THEOREMS):
+                for block in self.blocks(module.source, item, page.name == THEOREMS):
                     self.block(page, place, module, *block)
         if (CRATES / page.name / 'specs' / 'Laws.antt').is_file():
             for name in self.specs.read(page.name, 'Laws')[0]:
@@ -333,7 +333,7 @@ class Reference:
 
     def sentences(self) -> str:
         """The page of the main theorems as sentences of mathematics."""
-        headline = next(module for module in self.pages[THEOREMS[0]].modules
+        headline = next(module for module in self.pages[THEOREMS].modules
                         if module.path == FIRST[0])
         text = (TEMPLATES / 'mathematics.txt').read_text()
         return filled(TEMPLATES / 'mathematics.md', theorems=mathematics.page(headline, text, self))

@@ -1,5 +1,0 @@
-use Rattle.theorems_by_subject.proofs.Common.{rules, to_z-of_z}
-use Rattle.theorems_by_subject.proofs.lists.bytes_are_coprime.Goals as goal
-
-pub returns : goal.returns
-returns c = search (rules, to_z-of_z)
