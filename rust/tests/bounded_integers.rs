@@ -2,7 +2,7 @@
 //! smallest number.
 
 use cellarcove::bounded_integers::{Bounded, BoundedError, Percent, Range, SignedRange};
-use cellarcove::modular::{power_modulo, residue};
+use cellarcove::modular::{power_modulo, product_modulo, residue};
 use cellarcove::{binomial, checked, nth_root, sqrt, Average, Fits, Integer};
 use num_traits::{Num, One, Signed, Zero};
 use std::collections::HashSet;
@@ -128,6 +128,26 @@ fn small_numbers_are_as_at_i64() {
             assert_eq!(pair, within(a / b).map(|_| (a / b, a % b)));
         }
     }
+}
+
+/// Each product and each power modulo a number from 1 to 7, by the remainder of the product or the power of the integers.
+#[test]
+fn small_products_and_powers_modulo_a_number() {
+    for (a, b) in (-8..=7i64).flat_map(|a| (-8..=7i64).map(move |b| (a, b))) {
+        for m in 1..=7 {
+            let (x, y, n) = (Nibble::new(a), Nibble::new(b), Nibble::new(m));
+            assert_eq!(product_modulo(x, y, n).number(), (a * b).rem_euclid(m));
+            let exponent = b.unsigned_abs() as u32;
+            let power = power_modulo(x, exponent.into(), n).number();
+            assert_eq!(power, a.pow(exponent).rem_euclid(m), "{a} {exponent} {m}");
+        }
+    }
+    let (one, none) = (Nibble::one(), Nibble::zero());
+    let reasons = [
+        reason(move || product_modulo(one, one, none)),
+        reason(move || power_modulo(one, 0, none)),
+    ];
+    assert_eq!(reasons, ["the modulus is not positive"; 2]);
 }
 
 #[test]

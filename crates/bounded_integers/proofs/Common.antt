@@ -8,4 +8,5 @@ pub use Rattle.num_integer.proofs.ForCallers.{gcd_fits_is, root_in_range}
 pub use Rattle.num_integer.specs.Between.{Between}
 pub use Rattle.num_integer.specs.Division.{IsQuotient, IsTruncated}
 pub use Rattle.num_integer.specs.Range.{EachFits}
-pub use Rattle.bounded_integers.specs.Ranges.{IsBoundedRange, range_of}
+pub use Rattle.modular.specs.Congruences.{IsResidue}
+pub use Rattle.bounded_integers.specs.Ranges.{IsBoundedRange, low_below, range_of}

@@ -88,6 +88,37 @@ fn products() {
     }
 }
 
+/// Products and powers modulo a number at an integer of a range, beside those at `i64`.
+fn ranges() {
+    use cellarcove::bounded_integers::{Bounded, Range};
+    use cellarcove::modular::{power_modulo, product_modulo};
+    struct WideRange;
+    impl Range for WideRange {
+        const LOW: i64 = -i64::MAX;
+        const HIGH: i64 = i64::MAX;
+    }
+    let of = Bounded::<WideRange>::new;
+    let inputs = pairs(62);
+    for modulus in [10_007, (1 << 61) - 1] {
+        print(
+            &format!("product_modulo {modulus}"),
+            time(&inputs, |a, b| {
+                product_modulo(of(-a), of(b), of(black_box(modulus)))
+            }),
+            time(&inputs, |a, b| product_modulo(-a, b, black_box(modulus))),
+        );
+        print(
+            &format!("power_modulo {modulus}"),
+            time(&inputs, |a, b| {
+                power_modulo(of(a), b as u128, of(black_box(modulus)))
+            }),
+            time(&inputs, |a, b| {
+                power_modulo(a, b as u128, black_box(modulus))
+            }),
+        );
+    }
+}
+
 fn print(name: &str, ours: f64, theirs: f64) {
     println!(
         "{name:<28} {ours:>8.2} {theirs:>8.2} {:>6.2}",
@@ -138,5 +169,6 @@ fn main() {
     }
     lists();
     products();
+    ranges();
     dates::print_all();
 }
