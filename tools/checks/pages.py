@@ -24,14 +24,14 @@ from tools.erase.source import Source
 Found = Iterator[tuple[str, bool]]      # places, each with whether it passed
 PAGES = ('README.md', 'docs/*.md', 'crates/*/CALLING.md')
 LINKED = PAGES + ('CHANGELOG.md', 'CONTRIBUTING.md', 'bindings/js/*.md', 'bindings/python/*.md', 'compare/*.md', 'rust/*.md',
-                  'rust/num-integer/*.md', 'docs/reference/*.md')
+                  'rust/num-integer/*.md', 'docs/reference/*.md', 'rust/reference/*.md')
 # Pages that a package, or an index of packages, shows without the other pages.
 ALONE = ('rust/README.md', 'rust/num-integer/README.md', 'bindings/js/README.md', 'bindings/python/README.md')
 SESSIONS = ('README.md', 'docs/INTCALC.md')
 BLOCK = re.compile(r'^ *```(rust|antt|crates|console)\n(.*?)(?:^ *```$|\Z)', re.M | re.S)
 IMPORT = re.compile(r'(?:pub )?((?:ghost )?use .*);')
 CODE = re.compile(r'^ *```.*?^ *```$|`[^`\n]*`', re.M | re.S)
-LINK = re.compile(r'\]\(([^()\s]+)\)')
+LINK = re.compile(r'(?:\]\(|^\[[^\]\n]+\]: )([^()\s]+)', re.M)     # in a line, or the target of links that name it
 COPIED = re.compile(r'^ *cp -r \S*crates/\{(.*)\} ', re.M)     # crates that a page says to copy
 HEADING = re.compile(r'^#{1,6} (.*)$', re.M)
 NAMED = re.compile(r'((?:`\w+`(?:,| and|, and)? )*(?:of )?)`(crates/[\w/]+\.(?:rt|antt))`')

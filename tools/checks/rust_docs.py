@@ -1,6 +1,7 @@
 """Reads the made crate of plain Rust: each public function, type and trait has an example that runs, each public function that
-panics with the place of its caller says below `# Panics` when, and no line is wider than 100 columns, but for the first of a file. That each
-item has a comment, and each `Result` its `# Errors`, rustc and clippy see. With --links it reads the pages that rustdoc makes: each link
+panics with the place of its caller says below `# Panics` when, each link to a contract leads to a heading of rust/reference, and no
+line is wider than 100 columns, but for the first of a file. That each item has a comment, and each `Result` its `# Errors`, rustc and
+clippy see. With --links it reads the pages that rustdoc makes: each link
 leads to a file, and to a title that is there."""
 import pathlib
 import re
@@ -8,10 +9,12 @@ import urllib.parse
 from collections.abc import Iterator
 
 from tools import ROOT, counted
+from tools.checks.pages import anchors_of
 from tools.erase.prose import COLUMNS
 from tools.erase.source import Item, Source
 from tools.pages.api import Shown, shown
 
+CONTRACT = re.compile(r'crate::definitions::(\w+)#([^)]*)')      # the page of a library, and a heading of it
 LINK = re.compile(r' href="(?![a-z]+:)([^"]+)"')        # one within the pages
 
 
@@ -30,6 +33,14 @@ def wide_lines(folder: pathlib.Path) -> Iterator[str]:
         for number, line in enumerate(path.read_text().split('\n'), 1):
             if number > 1 and len(line) > COLUMNS:
                 yield f'{path.name}:{number} has {len(line)} columns'
+
+
+def lost_contracts(folder: pathlib.Path) -> Iterator[str]:
+    """The links of the sources below a folder that lead to no heading of rust/reference."""
+    for path in sorted((folder / 'src').rglob('*.rs')):
+        for page, anchor in CONTRACT.findall(path.read_text()):
+            if anchor not in anchors_of(folder / 'reference' / f'{page}.md'):
+                yield f'{path.name}: rust/reference/{page}.md has no `#{anchor}`'
 
 
 def dead_links(folder: pathlib.Path) -> Iterator[str]:
@@ -54,5 +65,5 @@ def check(words: list[str]) -> bool:
     else:
         items = [(source, item, path) for source, item, path, owner in shown(Shown()) if item.kind == 'fn' or not owner]
         wrong, read = [f'{path} lacks {what}' for source, item, path in items for what in lacks(source, item)], len(items)
-        wrong += wide_lines(ROOT / 'rust' / 'src')
+        wrong += [*wide_lines(ROOT / 'rust' / 'src'), *lost_contracts(ROOT / 'rust')]
     return counted([*((line, False) for line in wrong), *[('', True)] * read])

@@ -165,14 +165,22 @@ def head_of_root(library: RustLibrary, others: Iterable[str], rust: str) -> str:
     return head + '\n#[cfg(doc)]\npub mod definitions;\n' + by_hand + modules + items
 
 
+def definitions() -> str:
+    """The modules that show the pages of rust/reference: the first one, and one for each library. The targets of links
+    that stand before a page are in the place of those at its end."""
+    shown = (f'\n/// The contracts of `{name}`, and their words.\n///\n#[doc = include_str!("../reference/links.txt")]\n#[doc = include_str!("../reference/{name}.md")]\n'
+             f'pub mod {name} {{}}\n' for name in CRATES)
+    return '#![doc = include_str!("../reference/README.md")]\n' + ''.join(shown)
+
+
 def texts_of(library: RustLibrary) -> dict[str, str]:
     """The texts of the files of the crate, by their place."""
     for crate, name in WITHIN:
         if (crate, (name,)) not in library.modules:
             raise Unknown(f'tools/erase: crates/{crate} has no module `{name}`, which a table names')
-    page, additions, made = documentation.Page(library.folder), Additions(BY_HAND / 'src'), dict[str, str]()
+    additions, made = Additions(BY_HAND / 'src'), dict[str, str]()
     for module in (module for module in library.modules.values() if module.rust_file()):
-        eraser, place = Eraser(module, library, page), module.rust_file()
+        eraser, place = Eraser(module, library), module.rust_file()
         if place in made:
             raise Unknown(f'{module.source.path}: a second module for src/{place}')
         text, note = additions.add(place, eraser.rust())
@@ -180,11 +188,7 @@ def texts_of(library: RustLibrary) -> dict[str, str]:
     others = additions.modules()
     made['lib.rs'] = head_of_root(library, others, made['lib.rs'])
     made |= {place: made_from(f'rust/by_hand/src/{place}') + text for place, text in others.items()}
-    for place, (sources, text) in documentation.pages(page, BY_HAND).items():
-        mark = made_from(sources)
-        # rustdoc takes the summary of a module from the first block of its page
-        made[place] = f'{text}\n<!-- {mark[3:-1]} -->\n' if place.endswith('.md') else mark + text
-    return made
+    return made | {'definitions.rs': made_from('rust/reference') + definitions()}
 
 
 def files(crate: str, made: Mapping[str, str]) -> dict[str, str | None]:

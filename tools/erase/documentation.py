@@ -1,9 +1,8 @@
 """The doc comments of the Rust crate. A comment of the sources is true in both languages, and the Rust crate has it with these
 changes: the words `In plain Rust, ` are left out, and so is a paragraph that begins with `In Rattle, `; the sentences of
 examples become the section `# Examples` (examples.py); and a line links to what is proved of the item. The sections
-`# Panics` and `# Errors` are those of the comment. The modules `definitions` and `definitions::contracts` have the clauses and
-their words."""
-import pathlib
+`# Panics` and `# Errors` are those of the comment. The modules of `definitions` show the pages of rust/reference, which
+tools/pages/reference.py makes."""
 import re
 from collections.abc import Iterable
 
@@ -11,8 +10,8 @@ from tools.erase import examples
 from tools.erase.deletion import Deletion
 from tools.erase.library import AT_ROOT, CRATES, Module, Place, RustLibrary
 from tools.erase.prose import anchor, wrapped
-from tools.erase.source import Item, Source, Unknown
-from tools.erase.words import Specs, imported
+from tools.erase.source import Item, Source
+from tools.erase.words import imported
 
 # What a clause says that says only that values lie in their type.
 FITS = r'[A-Z]\w*\.fits \([A-Z]\w*\.value [\w.]+\)'
@@ -20,6 +19,9 @@ LIES = rf'(?:{FITS}|All \(λ x\. {FITS}\) [\w.]+|All \w+\.fits result)'
 ONLY_LIES = re.compile(rf'\w+ (?:\w+ )?\{{ {LIES}(?: × {LIES})* \}}')
 # The ghost members of an implementation that say what its calls return. The others are proofs.
 STATED = {'output', 'from_str_gives', 'from_gives', 'is_default', 'try_from_gives', 'cmp', 'partial_cmp', 'next_gives'}
+
+# The page of the reference that has the public items of a crate, where that is the page of another one.
+ON_PAGE = {'integer_core': 'num_integer', 'integer_roots': 'num_integer'}
 
 # The sections of a comment, in the order in which the Rust crate has them.
 SECTIONS = ('Examples', 'Panics', 'Errors')
@@ -51,15 +53,6 @@ def of_rattle(lines: list[str]) -> list[str]:
     return found[1:]
 
 
-class Page:
-    """What the modules of definitions have: the words that are cited, of which those of the toolchain are explained by hand, and by the
-    public place of an item what is proved of it. A contract has a title, the path of the item, or the trait and the type of an
-    implementation; and a text, its clauses and the links to their words."""
-
-    def __init__(self, folder: pathlib.Path) -> None:
-        self.specs, self.contracts = Specs(folder, CRATES), dict[Place, list[tuple[str, str]]]()
-
-
 def says_more(text: str) -> bool:
     """Whether a clause says more than that a value lies in its type."""
     return not ONLY_LIES.fullmatch(re.sub(r'\s+', ' ', text))
@@ -68,6 +61,13 @@ def says_more(text: str) -> bool:
 def imports_of(source: Source, items: Iterable[Item]) -> dict[str, tuple[str, str]]:
     """The words that items import, each with its crate and its path there."""
     return imported('\n'.join(source.text(item.first, item.last) for item in items if item.kind == 'ghost'))
+
+
+def title_of(place: Place, item: Item, owner: Item | None) -> str:
+    """The title of an item on a page of the reference: its path below its crate, or the trait and the type of an
+    implementation."""
+    path = '::'.join((*place, *([owner.name] if owner else []), item.name))
+    return f'`{item.of_trait}` for `{path}`' if item.kind == 'impl' else f'`{path}`'
 
 
 def clauses_of(source: Source, item: Item) -> list[str]:
@@ -84,9 +84,9 @@ def clauses_of(source: Source, item: Item) -> list[str]:
 class Comments(Deletion):
     """A file of a crate of the library, whose comments become those of the Rust crate."""
 
-    def __init__(self, module: Module, library: RustLibrary, page: Page) -> None:
+    def __init__(self, module: Module, library: RustLibrary) -> None:
         super().__init__(module.source)
-        self.module, self.library, self.page, self.crate = module, library, page, module.crate
+        self.module, self.library, self.crate = module, library, module.crate
         self.words = {module.source.at(k) for k in range(len(module.source.code))}
 
     def of_rust(self, lines: list[str]) -> list[str]:
@@ -166,57 +166,10 @@ class Comments(Deletion):
         return re.sub(r'\[`(\w+(?:::\w+)*)`\](?!\()', link, comment)
 
     def link_to_contract(self, item: Item, owner: Item | None, place: Place) -> list[str]:
-        """The line that links to the contract of an item, which the page then has."""
-        texts = clauses_of(self.source, item) if item.kind in ('fn', 'struct', 'trait', 'impl') else []
-        if not texts:
+        """The line that links to the contract of an item, on a page of rust/reference."""
+        if item.kind not in ('fn', 'struct', 'trait', 'impl') or not clauses_of(self.source, item):
             return []
-        names = imports_of(self.source, self.module.items) | imports_of(self.source, owner.items if owner else item.items)
-        words = self.page.specs.cite('\n'.join(texts), names)
-        path = '::'.join((*place, *([owner.name] if owner else []), item.name))
-        title = f'`{item.of_trait}` for `{path}`' if item.kind == 'impl' else f'`{path}`'
-        links = ', '.join(f'[`{word.name}`]({word.crate}#{anchor(word.name)})' for word in words)
-        lines = [f'`{text}`' for text in texts] + [f'Words: {links}'] * bool(words)
-        self.page.contracts.setdefault(place, []).append((title, ''.join(f'- {line}\n' for line in lines)))
+        page = ON_PAGE.get(self.crate, self.crate)
+        title = title_of(place[1:] if place[:1] == (page,) else place, item, owner)
         label = 'Laws' if item.kind == 'trait' else 'Contract'
-        return [f'[{label}](crate::definitions::contracts#{anchor(title)})']
-
-
-def pages(page: Page, by_hand: pathlib.Path) -> dict[str, tuple[str, str]]:
-    """The file of the modules and the pages that are their documentation: what each is made from, and its text. Call it after the
-    comments have been made."""
-    words, head = ((by_hand / name).read_text() for name in ('definitions.md', 'contracts.md'))
-    heads = {file.stem: file.read_text() for file in (by_hand / 'definitions').glob('*.md')}
-    explained = {part for code in re.findall('`([^`\n]*)`', words) for part in code.split()}
-    missing = sorted(name for name in page.specs.outside if name.strip('◌') not in explained)
-    if missing:
-        raise Unknown(f'rust/by_hand/definitions.md: no {", ".join(missing)}')
-    below = {'contracts': ('crates/*/src and rust/by_hand/contracts.md', head + contracts(page))}
-    below |= {crate: (f'crates/{crate}/specs and rust/by_hand/definitions/{crate}.md', heads[crate] + text)
-              for crate in CRATES if (text := definitions(page, crate))}
-    modules = [f'\n#[doc = include_str!("definitions/{name}.md")]\npub mod {name} {{}}\n' for name in below]
-    return {'definitions.rs': ('crates/*/specs', ''.join(['#![doc = include_str!("definitions.md")]\n', *modules])),
-            'definitions.md': ('rust/by_hand/definitions.md', words),
-            **{f'definitions/{name}.md': made for name, made in below.items()}}
-
-
-def see_each_once(titles: list[str], where: str) -> None:
-    """Rejects titles that rustdoc would give one anchor."""
-    anchors = [anchor(title) for title in titles]
-    twice = sorted({title for title, name in zip(titles, anchors) if anchors.count(name) > 1})
-    if twice:
-        raise Unknown(f'{where}: one anchor for {", ".join(twice)}')
-
-
-def definitions(page: Page, crate: str) -> str:
-    """The words of a crate that contracts cite."""
-    words = [word for word in page.specs.cited.values() if word.crate == crate]
-    see_each_once([word.name for word in words], f'crates/{crate}/specs')
-    words.sort(key=lambda word: (word.file, [*page.specs.read(word.crate, word.file)[0]].index(word.name)))
-    return ''.join(f'\n## `{word.name}`\n\n{word.comment}\n\n```text\n{word.text}\n```\n' for word in words)
-
-
-def contracts(page: Page) -> str:
-    """The contract of each public item."""
-    found = [contract for _, listed in sorted(page.contracts.items(), key=lambda row: row[0]) for contract in listed]
-    see_each_once([title for title, _ in found], 'crates/*/src')
-    return ''.join(f'\n## {title}\n\n{text}' for title, text in found)
+        return [f'[{label}](crate::definitions::{page}#{anchor(title)})']

@@ -7,7 +7,6 @@ from collections.abc import Iterator
 
 from tools import ROOT, filled
 from tools.erase.crate import BY_HAND, Eraser, files, made_from
-from tools.erase.documentation import Page
 from tools.erase.library import Module, RustLibrary
 from tools.erase.source import Item
 
@@ -70,11 +69,11 @@ def only_laws(module: Module) -> bool:
 
 
 def made() -> dict[str, str | None]:
-    library, page = RustLibrary(ROOT / 'crates'), Page(ROOT / 'crates')
+    library = RustLibrary(ROOT / 'crates')
     library.read(CRATE, (), ROOT / 'crates' / CRATE / 'src' / 'lib.rt')
     texts = dict[str, str]()
     for module in [module for module in library.modules.values() if module.crate == CRATE and not only_laws(module)]:
-        eraser = Exports(module, library, page)
+        eraser = Exports(module, library)
         rust, sources = eraser.rust(), str(module.source.path)
         if not module.path:             # the root: the head by hand, and the modules
             modules = ''.join(line for line in rust.splitlines(True) if not line.startswith('//!')).lstrip()

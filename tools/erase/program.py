@@ -5,7 +5,6 @@ The library of the package is `intcalc_core`, erased as crate.py does it. What e
 `std::io` stays what it is. The program itself is by hand, since in Rattle the system hands it words and memory in other types."""
 from tools import ROOT
 from tools.erase.crate import BY_HAND, Eraser, files, made_from
-from tools.erase.documentation import Page
 from tools.erase.library import RustLibrary
 
 CRATE, PROGRAM = 'intcalc_core', BY_HAND / 'intcalc.rs'
@@ -22,11 +21,11 @@ class Program(Eraser):
 
 
 def made() -> dict[str, str | None]:
-    library, page = RustLibrary(ROOT / 'crates'), Page(ROOT / 'crates')
+    library = RustLibrary(ROOT / 'crates')
     library.read(CRATE, (), ROOT / 'crates' / CRATE / 'src' / 'lib.rt')
     texts = {'main.rs': made_from(PROGRAM.relative_to(ROOT), 'program') + PROGRAM.read_text()}
     for module in [module for module in library.modules.values() if module.crate == CRATE]:
-        rust, sources = Program(module, library, page).rust(), str(module.source.path)
+        rust, sources = Program(module, library).rust(), str(module.source.path)
         if not module.path:             # the root: its comment, the head by hand, and the modules
             comment = ''.join(line for line in rust.splitlines(True) if line.startswith('//!'))
             modules = ''.join(line for line in rust.splitlines(True) if not line.startswith('//!')).lstrip()

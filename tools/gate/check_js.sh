@@ -51,6 +51,8 @@ if [ -e "$CELLARCOVE/cellarcove.wasm" ]; then
     counted 'random calls' node "${@:3}" $tests/fuzz.js "${2:-0.1}"
     for name in esbuild rollup webpack; do has $name "bundles of $name" || true; done
     check 'bundles of those that are there' node "${@:3}" --test $tests/bundles.js
+    export REFERENCE=$work/reference
+    check 'the reference beside the page' tools/cellarcove make whole "$REFERENCE"
     ! has "${CHROMIUM:-chromium}" 'the page in Chromium' || check 'the page in Chromium' node --test $tests/page.js
     ! has "${FIREFOX:-firefox-esr}" 'the page in Firefox' || BROWSER=firefox check 'the page in Firefox' node --test $tests/page.js
 fi

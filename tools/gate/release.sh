@@ -105,7 +105,7 @@ for_npm() {
     rm -rf "$work/packed" && mkdir -p "$work/packed/package" "$work/packed/$top/try" &&
         "$1/bindings/js/build" "$work/packed/package" ${wasm:+"$wasm"} &&
         cp "$1/docs/try/index.html" "$work"/packed/package/* "$work/packed/$top/try" &&
-        cp -r "$1/docs/reference" "$work/packed/$top" && without_other_pages "$1/docs/CONTRACTS.md" >"$work/packed/$top/CONTRACTS.md" && packed package "$2/cellarcove-$version.tgz" && packed "$top" "$2/$top.tar.gz"
+        "$1/tools/cellarcove" make whole "$work/packed/$top/try/reference" && without_other_pages "$1/docs/CONTRACTS.md" >"$work/packed/$top/try/CONTRACTS.md" && packed package "$2/cellarcove-$version.tgz" && packed "$top" "$2/$top.tar.gz"
 }
 
 # for_intcalc CLONE FOLDER: the program that the gate has proved and built in this checkout, its manual page, and what shells complete.

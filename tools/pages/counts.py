@@ -63,7 +63,7 @@ def in_files() -> dict[str, int]:
         'of_rust': sum(int(number) for row in of_rust for number in row),
         'of_python': sum(int(number or 0) for row in of_python for number in row),
         'definitions': int(coq[0][0]), 'in_coq': int(coq[0][1]),
-        'theorems': len(re.findall('^### `', texts('docs/reference/theorems*.md'), re.M)),
+        'theorems': len(re.findall('^- `pub fn ', texts('docs/reference/theorems*.md'), re.M)),
         'callers': len(re.findall(r'^ *pub fn ', texts('crates/callers/src/**/*.rt'), re.M)),
         'exports': sum(map(len, EXPORTS().forms().values())),
     }

@@ -70,22 +70,24 @@ def compared(stated: dict[str, list[str]], rows: list[Row]) -> None:
         raise Unknown(f'{PLACE}: the sentences are not in the order of headline.rt')
 
 
-def page(module: Module, text: str, words: Words) -> str:
-    """The sections of the page, one for each theorem."""
+def page(module: Module, text: str, words: Words, whole: bool) -> str:
+    """The sections of the page, one for each theorem. Unless they are whole, links lead to the
+    contracts."""
     rows, stated = read(text), table(module.source.head())
     compared(stated, rows)
     told, lines = set[tuple[str, str, str]](), list[str]()
     for row in rows:
         title = row.theorem[0].upper() + row.theorem[1:]
         lines += [f'## {title}', '', row.sentence, '']
-        for name in row.functions:
+        for name in row.functions if whole else ():
             code = words.code(module, name)
             lines += ['```rust', code, '```', '']
             lines += unfolded(words.cited(module, code), told, words)
         others = [name for name in stated[row.theorem] if name not in row.functions]
-        if others:
-            links = ', '.join(f'[`{name}`](theorems.md#{name})' for name in others)
-            lines += [f'Also: {links}.', '']
+        named = (('Also', others),) if whole else (('Contract', row.functions), ('Also', others))
+        for said, names in named:
+            links = ', '.join(f'[`{name}`](theorems.md#{name})' for name in names)
+            lines += [f'{said}: {links}.', ''] * bool(names)
     return '\n'.join(lines)
 
 

@@ -9,7 +9,6 @@ from tools import write
 from tools.erase.library import CRATES, RustLibrary
 from tools.erase.crate import Eraser
 from tools.erase.exports import CRATE, Exports
-from tools.erase.documentation import Page
 
 GOLDEN = Path(__file__).resolve().parent / 'golden'
 
@@ -28,17 +27,16 @@ def change(file: Path, slip: str) -> None:
     file.write_text(text.replace(old, new.rstrip('\n'), 1))
 
 
-def erased(crate: str, texts: Mapping[str, str]) -> tuple[str, Page]:
-    """What is made of a crate of a library, and the pages that it fills. The texts are those of files, or of the roots of crates."""
+def erased(crate: str, texts: Mapping[str, str]) -> str:
+    """What is made of a crate of a library. The texts are those of files, or of the roots of crates."""
     with tempfile.TemporaryDirectory() as folder:
         crates = Path(folder) / 'crates'
         write(crates, {name if '/' in name else f'{name}/src/lib.rt': texts.get(name, '') for name in {*CRATES, *texts}})
         library = RustLibrary(crates)
         if CRATE in texts:
             library.read(CRATE, (), crates / CRATE / 'src' / 'lib.rt')
-        module, page = library.modules[crate, ()], Page(crates)
-        eraser = Exports(module, library, page) if crate == CRATE else Eraser(module, library, page)
-        return eraser.rust(), page
+        module = library.modules[crate, ()]
+        return (Exports if crate == CRATE else Eraser)(module, library).rust()
 
 
 def formatted(text: str) -> str:

@@ -27,7 +27,7 @@ def texts_of(crate: str, text: str) -> dict[str, str]:
 @pytest.mark.parametrize('name', sorted(source.stem for source in samples.GOLDEN.glob('*.rattle')))
 def test_rust_of_a_source(name: str) -> None:
     source, crate = samples.GOLDEN / f'{name}.rattle', name.split('.')[0]
-    made, _ = samples.erased(crate, texts_of(crate, source.read_text()))
+    made = samples.erased(crate, texts_of(crate, source.read_text()))
     assert samples.formatted(made) == source.with_suffix('.rs').read_text()
 
 
@@ -90,17 +90,9 @@ def test_comment_of_the_reference() -> None:
     assert documentation.of_rattle(lines) == ['Returns the half.', '', 'Plain Rust panics if it is odd.', '', 'Errors:', '', '- `Odd` never.']
 
 
-def test_contracts(tmp_path: Path) -> None:
-    golden = dict(samples.cases('contracts'))
-    rust, page = samples.erased(ROOT, {ROOT: golden['lib.rt'], f'{ROOT}/specs/Words.antt': golden['specs/Words.antt']})
-    assert '/// Returns the half.\n///\n/// [Contract](crate::definitions::contracts#half)\n' in rust
-    assert '/// A number with a half.\n///\n/// [Laws](crate::definitions::contracts#half)\n' in rust
-    write(tmp_path, {'contracts.md': 'Contracts.\n', 'definitions.md': 'Words: `ℕ`.\n', f'definitions/{ROOT}.md': 'Words of coefficients and checked calls.\n'})
-    with pytest.raises(Unknown, match='one anchor for `Half`, `half`'):
-        documentation.pages(page, tmp_path)
-    page.contracts[()][1] = ('`Halved`', page.contracts[()][1][1])
-    for name, (_, text) in documentation.pages(page, tmp_path).items():
-        assert text == golden[name]
-    (tmp_path / 'definitions.md').write_text('No words.\n')
-    with pytest.raises(Unknown, match='definitions.md: no ℕ'):
-        documentation.pages(page, tmp_path)
+def test_contracts() -> None:
+    """The comment of an item leads to its contract, which stands below the title that the reference gives it."""
+    rust = samples.erased('calendar', dict(samples.cases('contracts')))
+    for title in ('half', 'twice', 'default-for-twice', 'twicetimes'):
+        label = 'Laws' if title == 'half' else 'Contract'
+        assert f'/// [{label}](crate::definitions::calendar#{title})\n' in rust

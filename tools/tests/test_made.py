@@ -8,8 +8,9 @@ import pytest
 
 from tools import ROOT, as_made, write
 from tools.bindings import examples, exports, files, orders, python
-from tools.erase.source import Unknown
-from tools.pages import api, picture, reference
+from tools.erase import documentation
+from tools.erase.source import Source, Unknown
+from tools.pages import api, crate_page, picture, reference
 from tools.tests import samples
 
 
@@ -73,14 +74,25 @@ def test_call_without_an_example() -> None:
 def test_reference(tmp_path: Path, monkeypatch: pytest.MonkeyPatch) -> None:
     before, crates = reference.Reference().made(), tmp_path / 'crates'
     shutil.copytree(ROOT / 'crates', crates, ignore=shutil.ignore_patterns('out'))
+    brief = reference.Reference(whole=False).made()
     monkeypatch.setattr(reference, 'CRATES', crates)
     assert reference.Reference().made() == before
-    slips = [(*head.split(', '), slip) for head, slip in samples.cases('reference')]
-    for _, name, slip in slips:
+    slips = [(head.split(', '), slip) for head, slip in samples.cases('reference')]
+    for (_, name, *_), slip in slips:
         samples.change(crates / name, slip)
-    after = reference.Reference().made()
-    changed = {page for page in before if before[page] != after[page]}
-    assert changed >= {page for page, *_ in slips}
+    for pages, whole in ((before, True), (brief, False)):
+        after = reference.Reference(whole).made()
+        changed = {page.rpartition('/')[2] for page in pages if pages[page] != after[page]}
+        assert changed >= {page for (page, _, *of_whole), _ in slips if whole or not of_whole}
+
+
+@pytest.mark.parametrize('code, heads', samples.cases('signatures'))
+def test_brief_heads(code: str, heads: str) -> None:
+    """The head of an item in a line, and the clauses that say something."""
+    source = Source('sample.rt', heads.partition('\n----\n')[0])
+    item = source.items()[0]
+    lines = [crate_page.signature(source, item), *documentation.clauses_of(source, item)]
+    assert lines == heads.partition('\n----\n')[2].splitlines(), code
 
 
 @pytest.fixture(name='crates', scope='module')

@@ -9,6 +9,7 @@ import {opened} from './browser.js';
 
 const folder = resolve(process.env.CELLARCOVE ?? fileURLToPath(new URL('..', import.meta.url)));
 const docs = existsSync(join(folder, 'index.html')) ? join(folder, '..') : fileURLToPath(new URL('../../../docs', import.meta.url));
+const reference = process.env.REFERENCE ?? join(folder, 'reference');
 const TYPES = {html: 'text/html', js: 'text/javascript', wasm: 'application/wasm', md: 'text/plain'};
 const missing = [];
 // What the server has besides: workers, and pages under a policy, whose title says what became of a call.
@@ -34,7 +35,8 @@ const server = createServer(({url}, response) => {
   }
   try {
     const found = readFileSync(file === '/sums.js' ? new URL('sums.js', import.meta.url)
-      : file.startsWith('/try/') && !file.endsWith('.html') ? join(folder, file.slice(5)) : join(docs, file));
+      : file.startsWith('/try/reference/') ? join(reference, file.slice(15))
+        : file.startsWith('/try/') && !file.endsWith('.html') ? join(folder, file.slice(5)) : join(docs, file));
     response.writeHead(200, {'content-type': TYPES[file.split('.').pop()]}).end(found);
   } catch {
     missing.push(file);

@@ -3,7 +3,7 @@
 use core::marker::PhantomData;
 use num_traits::Num;
 
-/// [Contract](crate::definitions::contracts#marked)
+/// [Contract](crate::definitions::num_integer#marked)
 pub struct Marked<T> {
     mark: PhantomData<T>,
 }
