@@ -1,8 +1,9 @@
 """What hatchling cannot know: it makes the extensions of src/calls.c and src/ufuncs.c and the
 archive of the calls, and puts what they are made of into a source distribution.
 
-The archive is the one that `bindings/build` makes, or the one that the variable CELLARCOVE_ARCHIVE
-names. A source distribution has a copy of what it needs in `vendor`.
+In the repository it makes these two files first, for which it needs a Python from 3.11 on. The
+archive is the one that `bindings/build` makes, or the one that the variable CELLARCOVE_ARCHIVE names. A
+source distribution has the two files, and a copy of what else it needs in `vendor`.
 """
 
 from __future__ import annotations
@@ -45,6 +46,20 @@ if spec.DEFAULT_METADATA_VERSION < '2.4':
     constructors = {spec.DEFAULT_METADATA_VERSION: metadata}
     for module in (sdist, wheel):
         setattr(module, 'get_core_metadata_constructors', lambda: constructors)
+
+
+def make_sources() -> None:
+    """Makes src/calls.c and src/ufuncs.c, where the tools are."""
+    tools = ROOT / 'tools/cellarcove'
+    if not tools.is_file():
+        return
+    names = [sys.executable, 'python3', *(f'python3.{minor}' for minor in range(11, 20))]
+    for python in [found for found in map(shutil.which, names) if found]:
+        if subprocess.run([python, '-c', 'import tomllib'], capture_output=True).returncode == 0:
+            subprocess.run([python, tools, 'make', 'calls'], check=True)
+            return
+    sys.exit('cellarcove is built in its repository with Python 3.11: install it, or take '
+             'the source distribution')
 
 
 def archive() -> str:
@@ -104,11 +119,13 @@ class CustomBuildHook(BuildHookInterface[Any]):
         self.folder = tempfile.TemporaryDirectory()
         made = pathlib.Path(self.folder.name)
         if self.target_name == 'sdist':
+            make_sources()
             self.vendor(made)
             names = {str(ROOT / name): f'vendor/{name}' for name in VENDORED}
             build_data['force_include'] |= {f'{made}/registry': 'vendor/registry', **names}
             return
         headers()  # so that what is missing is said first
+        make_sources()
         folder, calls = HERE / 'src/cellarcove' if version == 'editable' else made, archive()
         extensions = [folder / f'_{name}.abi3.so' for name in ('calls', 'ufuncs')]
         for file, source in zip(extensions, ('calls.c', 'ufuncs.c')):

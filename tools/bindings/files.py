@@ -1,4 +1,6 @@
-"""Writes what C, C++, JavaScript and Python know of the exports, from the sources of crates/cellarcove_c."""
+"""Writes what C, C++, JavaScript and Python know of the exports, from the sources of crates/cellarcove_c. The calls of Python in C are
+in no commit: bindings/python/hatch_build.py has them made."""
+from tools import ROOT, write
 from tools.bindings import javascript
 from tools.bindings.c import header
 from tools.bindings.cpp import hpp
@@ -9,6 +11,14 @@ from tools.bindings.ufuncs import table, ufuncs_c
 
 def made() -> dict[str, str]:
     """The files, and what is to be in them."""
-    return {'bindings/c/cellarcove.h': header(), 'bindings/c/cellarcove.hpp': hpp(), 'bindings/python/src/calls.c': calls_c(),
-            'bindings/python/src/ufuncs.c': ufuncs_c(), 'bindings/python/src/cellarcove/_table.py': table(),
+    return {'bindings/c/cellarcove.h': header(), 'bindings/c/cellarcove.hpp': hpp(), 'bindings/python/src/cellarcove/_table.py': table(),
             'bindings/python/src/cellarcove/_calls.pyi': stubs(), 'docs/LANGUAGES.md': page()} | javascript.made()
+
+
+def calls() -> dict[str, str]:
+    """The files that are made when the package for Python is built."""
+    return {'bindings/python/src/calls.c': calls_c(), 'bindings/python/src/ufuncs.c': ufuncs_c()}
+
+
+def make_calls(_: list[str]) -> bool:
+    return write(ROOT, calls())

@@ -16,13 +16,13 @@ from tools.tests import samples
 
 @pytest.mark.parametrize('name, slip', samples.cases('exports'))
 def test_exports(tmp_path: Path, monkeypatch: pytest.MonkeyPatch, name: str, slip: str) -> None:
-    before = files.made()
+    before = files.made() | files.calls()
     monkeypatch.setattr(exports, 'SOURCES', shutil.copytree(exports.SOURCES, tmp_path / 'src'))
     samples.change(tmp_path / 'src' / name, slip)
     exports.EXPORTS.cache_clear()
     after = dict[str, str]()
     with contextlib.suppress(AssertionError):       # a call of another name has no example
-        after = files.made()
+        after = files.made() | files.calls()
     monkeypatch.undo()
     exports.EXPORTS.cache_clear()
     assert before != after
