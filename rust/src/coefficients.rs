@@ -89,7 +89,7 @@ fn coefficient_counted<T: Integer + Copy>(n: T, k: T, reason: &'static str) -> (
 ///
 /// If `n` or `k` is negative, or if the binomial coefficient does not fit.
 ///
-/// [Contract](crate::definitions::contracts#countedbinomial_counted)
+/// [Contract](crate::definitions::num_integer#countedbinomial_counted)
 #[track_caller]
 #[must_use]
 pub fn binomial_counted<T: Integer + Copy>(n: T, k: T) -> (T, u32) {
@@ -123,7 +123,7 @@ pub fn binomial_counted<T: Integer + Copy>(n: T, k: T) -> (T, u32) {
 ///
 /// If `n` or `k` is negative, or if the binomial coefficient does not fit.
 ///
-/// [Contract](crate::definitions::contracts#binomial)
+/// [Contract](crate::definitions::num_integer#binomial)
 #[track_caller]
 #[must_use]
 pub fn binomial<T: Integer + Copy>(n: T, k: T) -> T {
@@ -149,7 +149,7 @@ pub fn binomial<T: Integer + Copy>(n: T, k: T) -> T {
 ///
 /// If a count is negative, or if the multinomial coefficient does not fit.
 ///
-/// [Contract](crate::definitions::contracts#multinomial)
+/// [Contract](crate::definitions::num_integer#multinomial)
 #[track_caller]
 #[must_use]
 pub fn multinomial<T: Integer + Copy>(k: &[T]) -> T {

@@ -16,7 +16,7 @@ use crate::Fits;
 /// assert!(!is_coprime(i8::MIN, 0));
 /// ```
 ///
-/// [Contract](crate::definitions::contracts#coprimeis_coprime)
+/// [Contract](crate::definitions::applied#coprimeis_coprime)
 #[must_use]
 pub fn is_coprime<T: Fits>(a: T, b: T) -> bool {
     is_one(signed_gcd(a, b))
@@ -35,7 +35,7 @@ pub fn is_coprime<T: Fits>(a: T, b: T) -> bool {
 /// assert_eq!(reduced(0, 0), (0, 0));
 /// ```
 ///
-/// [Contract](crate::definitions::contracts#coprimereduced)
+/// [Contract](crate::definitions::applied#coprimereduced)
 #[must_use]
 pub fn reduced<T: Fits>(a: T, b: T) -> (T, T) {
     let divisor = signed_gcd(a, b);

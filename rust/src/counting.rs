@@ -25,7 +25,7 @@ use crate::Integer;
 ///
 /// If `n` is negative, or if the factorial does not fit.
 ///
-/// [Contract](crate::definitions::contracts#countingfactorial)
+/// [Contract](crate::definitions::applied#countingfactorial)
 #[track_caller]
 #[must_use]
 pub fn factorial<T: Integer + Copy>(n: T) -> T {
@@ -51,7 +51,7 @@ pub fn factorial<T: Integer + Copy>(n: T) -> T {
 ///
 /// If `n` or `k` is negative, or if the falling factorial does not fit.
 ///
-/// [Contract](crate::definitions::contracts#countingfalling)
+/// [Contract](crate::definitions::applied#countingfalling)
 #[track_caller]
 #[must_use]
 pub fn falling<T: Integer + Copy>(n: T, k: T) -> T {

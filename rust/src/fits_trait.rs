@@ -37,7 +37,7 @@ pub trait Fits: Integer + Copy {
     /// assert_eq!((-5).parts(), (true, 5));
     /// ```
     ///
-    /// [Contract](crate::definitions::contracts#fitsparts)
+    /// [Contract](crate::definitions::num_integer#fitsparts)
     #[must_use]
     fn parts(&self) -> (bool, u128);
 
@@ -51,7 +51,7 @@ pub trait Fits: Integer + Copy {
     /// assert_eq!(i8::ends(), (128, 127));
     /// ```
     ///
-    /// [Contract](crate::definitions::contracts#fitsends)
+    /// [Contract](crate::definitions::num_integer#fitsends)
     #[must_use]
     fn ends() -> (u128, u128);
 
@@ -66,7 +66,7 @@ pub trait Fits: Integer + Copy {
     /// assert!(!200u8.sum_fits(&56));
     /// ```
     ///
-    /// [Contract](crate::definitions::contracts#fitssum_fits)
+    /// [Contract](crate::definitions::num_integer#fitssum_fits)
     #[must_use]
     fn sum_fits(&self, other: &Self) -> bool {
         sum_is_within(self.parts(), other.parts(), Self::ends())
@@ -84,7 +84,7 @@ pub trait Fits: Integer + Copy {
     /// assert!(!2u8.difference_fits(&3));
     /// ```
     ///
-    /// [Contract](crate::definitions::contracts#fitsdifference_fits)
+    /// [Contract](crate::definitions::num_integer#fitsdifference_fits)
     #[must_use]
     fn difference_fits(&self, other: &Self) -> bool {
         let (negative, magnitude) = other.parts();
@@ -103,7 +103,7 @@ pub trait Fits: Integer + Copy {
     /// assert!(!16u8.product_fits(&16));
     /// ```
     ///
-    /// [Contract](crate::definitions::contracts#fitsproduct_fits)
+    /// [Contract](crate::definitions::num_integer#fitsproduct_fits)
     #[must_use]
     fn product_fits(&self, other: &Self) -> bool {
         product_is_within(self.parts(), other.parts(), Self::ends())
@@ -124,7 +124,7 @@ pub trait Fits: Integer + Copy {
     /// assert!(!i8::MIN.quotient_fits(&-1));
     /// ```
     ///
-    /// [Contract](crate::definitions::contracts#fitsquotient_fits)
+    /// [Contract](crate::definitions::num_integer#fitsquotient_fits)
     #[must_use]
     fn quotient_fits(&self, other: &Self) -> bool {
         if is_zero(*other) {
@@ -149,7 +149,7 @@ pub trait Fits: Integer + Copy {
     /// assert!(!251u8.next_multiple_fits(&8));
     /// ```
     ///
-    /// [Contract](crate::definitions::contracts#fitsnext_multiple_fits)
+    /// [Contract](crate::definitions::num_integer#fitsnext_multiple_fits)
     #[must_use]
     fn next_multiple_fits(&self, other: &Self) -> bool {
         if is_zero(*other) {
@@ -172,7 +172,7 @@ pub trait Fits: Integer + Copy {
     /// assert!(!(-125i8).prev_multiple_fits(&10));
     /// ```
     ///
-    /// [Contract](crate::definitions::contracts#fitsprev_multiple_fits)
+    /// [Contract](crate::definitions::num_integer#fitsprev_multiple_fits)
     #[must_use]
     fn prev_multiple_fits(&self, other: &Self) -> bool {
         !is_zero(*other) && self.difference_fits(&self.mod_floor(other))
@@ -192,7 +192,7 @@ pub trait Fits: Integer + Copy {
     /// assert!(!i8::MIN.gcd_fits(&0));
     /// ```
     ///
-    /// [Contract](crate::definitions::contracts#fitsgcd_fits)
+    /// [Contract](crate::definitions::num_integer#fitsgcd_fits)
     #[must_use]
     fn gcd_fits(&self, other: &Self) -> bool {
         let (_, high) = Self::ends();
@@ -217,7 +217,7 @@ pub trait Fits: Integer + Copy {
     /// assert!(!16u8.lcm_fits(&17));
     /// ```
     ///
-    /// [Contract](crate::definitions::contracts#fitslcm_fits)
+    /// [Contract](crate::definitions::num_integer#fitslcm_fits)
     #[must_use]
     fn lcm_fits(&self, other: &Self) -> bool {
         let (_, high) = Self::ends();
@@ -247,7 +247,7 @@ pub trait Fits: Integer + Copy {
     /// assert!(!10u8.pair_fits(&4));
     /// ```
     ///
-    /// [Contract](crate::definitions::contracts#fitspair_fits)
+    /// [Contract](crate::definitions::num_integer#fitspair_fits)
     #[must_use]
     fn pair_fits(&self, other: &Self) -> bool {
         Self::ends().0 != 0 || self.is_multiple_of(other) || other.is_multiple_of(self)
@@ -266,7 +266,7 @@ pub trait Fits: Integer + Copy {
     /// assert!(!11u8.binomial_fits(&4));
     /// ```
     ///
-    /// [Contract](crate::definitions::contracts#fitsbinomial_fits)
+    /// [Contract](crate::definitions::num_integer#fitsbinomial_fits)
     #[must_use]
     fn binomial_fits(&self, k: &Self) -> bool {
         checked::binomial(*self, *k).is_some()
@@ -285,7 +285,7 @@ pub trait Fits: Integer + Copy {
     /// assert!(!u8::multinomial_fits(&[255, 1]));
     /// ```
     ///
-    /// [Contract](crate::definitions::contracts#fitsmultinomial_fits)
+    /// [Contract](crate::definitions::num_integer#fitsmultinomial_fits)
     #[must_use]
     fn multinomial_fits(counts: &[Self]) -> bool {
         checked::multinomial(counts).is_some()

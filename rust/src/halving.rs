@@ -16,7 +16,7 @@ use crate::{average_floor, Average, Integer};
 /// assert_eq!(midpoint(100i8, 120), 110);
 /// ```
 ///
-/// [Contract](crate::definitions::contracts#halvingmidpoint)
+/// [Contract](crate::definitions::applied#halvingmidpoint)
 #[must_use]
 pub fn midpoint<T: Average>(a: T, b: T) -> T {
     average_floor(a, b)
@@ -37,7 +37,7 @@ pub fn midpoint<T: Average>(a: T, b: T) -> T {
 /// assert_eq!(lower_bound(&[1, 3], 4), 2);
 /// ```
 ///
-/// [Contract](crate::definitions::contracts#halvinglower_bound)
+/// [Contract](crate::definitions::applied#halvinglower_bound)
 #[must_use]
 pub fn lower_bound<T: Integer + Copy>(items: &[T], least: T) -> usize {
     let mut low = 0;

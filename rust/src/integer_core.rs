@@ -35,7 +35,7 @@ use operators::{difference, is_zero, predecessor, successor, sum};
 /// assert_eq!(12.gcd(&18), 6);
 /// ```
 ///
-/// [Laws](crate::definitions::contracts#integer)
+/// [Laws](crate::definitions::num_integer#integer)
 #[cfg_attr(
     has_diagnostic,
     diagnostic::on_unimplemented(
@@ -63,7 +63,7 @@ pub trait Integer: Sized + Num + PartialOrd + Ord + Eq {
     ///
     /// If `other` is 0, or if the quotient does not fit.
     ///
-    /// [Contract](crate::definitions::contracts#integerdiv_rem)
+    /// [Contract](crate::definitions::num_integer#integerdiv_rem)
     #[track_caller]
     #[must_use]
     fn div_rem(&self, other: &Self) -> (Self, Self);
@@ -85,7 +85,7 @@ pub trait Integer: Sized + Num + PartialOrd + Ord + Eq {
     ///
     /// If `other` is 0, or if the quotient does not fit.
     ///
-    /// [Contract](crate::definitions::contracts#integerdiv_floor)
+    /// [Contract](crate::definitions::num_integer#integerdiv_floor)
     #[track_caller]
     #[must_use]
     fn div_floor(&self, other: &Self) -> Self;
@@ -107,7 +107,7 @@ pub trait Integer: Sized + Num + PartialOrd + Ord + Eq {
     ///
     /// If `other` is 0.
     ///
-    /// [Contract](crate::definitions::contracts#integermod_floor)
+    /// [Contract](crate::definitions::num_integer#integermod_floor)
     #[track_caller]
     #[must_use]
     fn mod_floor(&self, other: &Self) -> Self;
@@ -130,7 +130,7 @@ pub trait Integer: Sized + Num + PartialOrd + Ord + Eq {
     ///
     /// If `other` is 0, or if the quotient does not fit.
     ///
-    /// [Contract](crate::definitions::contracts#integerdiv_mod_floor)
+    /// [Contract](crate::definitions::num_integer#integerdiv_mod_floor)
     #[track_caller]
     #[must_use]
     fn div_mod_floor(&self, other: &Self) -> (Self, Self) {
@@ -154,7 +154,7 @@ pub trait Integer: Sized + Num + PartialOrd + Ord + Eq {
     ///
     /// If `other` is 0, or if the quotient does not fit.
     ///
-    /// [Contract](crate::definitions::contracts#integerdiv_ceil)
+    /// [Contract](crate::definitions::num_integer#integerdiv_ceil)
     #[track_caller]
     #[must_use]
     fn div_ceil(&self, other: &Self) -> Self {
@@ -185,7 +185,7 @@ pub trait Integer: Sized + Num + PartialOrd + Ord + Eq {
     ///
     /// If `other` is 0, or if the multiple does not fit.
     ///
-    /// [Contract](crate::definitions::contracts#integernext_multiple_of)
+    /// [Contract](crate::definitions::num_integer#integernext_multiple_of)
     #[track_caller]
     #[must_use]
     fn next_multiple_of(&self, other: &Self) -> Self
@@ -219,7 +219,7 @@ pub trait Integer: Sized + Num + PartialOrd + Ord + Eq {
     ///
     /// If `other` is 0, or if the multiple does not fit.
     ///
-    /// [Contract](crate::definitions::contracts#integerprev_multiple_of)
+    /// [Contract](crate::definitions::num_integer#integerprev_multiple_of)
     #[track_caller]
     #[must_use]
     fn prev_multiple_of(&self, other: &Self) -> Self
@@ -239,7 +239,7 @@ pub trait Integer: Sized + Num + PartialOrd + Ord + Eq {
     /// assert!(9.is_multiple_of(&3));
     /// ```
     ///
-    /// [Contract](crate::definitions::contracts#integeris_multiple_of)
+    /// [Contract](crate::definitions::num_integer#integeris_multiple_of)
     #[must_use]
     fn is_multiple_of(&self, other: &Self) -> bool;
 
@@ -253,7 +253,7 @@ pub trait Integer: Sized + Num + PartialOrd + Ord + Eq {
     /// assert!(9.divides(&3));
     /// ```
     ///
-    /// [Contract](crate::definitions::contracts#integerdivides)
+    /// [Contract](crate::definitions::num_integer#integerdivides)
     #[deprecated(note = "Please use is_multiple_of instead")]
     #[must_use]
     fn divides(&self, other: &Self) -> bool {
@@ -270,7 +270,7 @@ pub trait Integer: Sized + Num + PartialOrd + Ord + Eq {
     /// assert!(4.is_even());
     /// ```
     ///
-    /// [Contract](crate::definitions::contracts#integeris_even)
+    /// [Contract](crate::definitions::num_integer#integeris_even)
     #[must_use]
     fn is_even(&self) -> bool;
 
@@ -284,7 +284,7 @@ pub trait Integer: Sized + Num + PartialOrd + Ord + Eq {
     /// assert!(3.is_odd());
     /// ```
     ///
-    /// [Contract](crate::definitions::contracts#integeris_odd)
+    /// [Contract](crate::definitions::num_integer#integeris_odd)
     #[must_use]
     fn is_odd(&self) -> bool;
 
@@ -306,7 +306,7 @@ pub trait Integer: Sized + Num + PartialOrd + Ord + Eq {
     ///
     /// If the result does not fit.
     ///
-    /// [Contract](crate::definitions::contracts#integerinc)
+    /// [Contract](crate::definitions::num_integer#integerinc)
     #[track_caller]
     fn inc(&mut self)
     where
@@ -333,7 +333,7 @@ pub trait Integer: Sized + Num + PartialOrd + Ord + Eq {
     ///
     /// If the result does not fit.
     ///
-    /// [Contract](crate::definitions::contracts#integerdec)
+    /// [Contract](crate::definitions::num_integer#integerdec)
     #[track_caller]
     fn dec(&mut self)
     where
@@ -360,7 +360,7 @@ pub trait Integer: Sized + Num + PartialOrd + Ord + Eq {
     ///
     /// If the greatest common divisor does not fit.
     ///
-    /// [Contract](crate::definitions::contracts#integergcd)
+    /// [Contract](crate::definitions::num_integer#integergcd)
     #[track_caller]
     #[must_use]
     fn gcd(&self, other: &Self) -> Self;
@@ -383,7 +383,7 @@ pub trait Integer: Sized + Num + PartialOrd + Ord + Eq {
     ///
     /// If the least common multiple does not fit.
     ///
-    /// [Contract](crate::definitions::contracts#integerlcm)
+    /// [Contract](crate::definitions::num_integer#integerlcm)
     #[track_caller]
     #[must_use]
     fn lcm(&self, other: &Self) -> Self;
@@ -406,7 +406,7 @@ pub trait Integer: Sized + Num + PartialOrd + Ord + Eq {
     ///
     /// If the greatest common divisor or the least common multiple does not fit.
     ///
-    /// [Contract](crate::definitions::contracts#integergcd_lcm)
+    /// [Contract](crate::definitions::num_integer#integergcd_lcm)
     #[track_caller]
     #[must_use]
     fn gcd_lcm(&self, other: &Self) -> (Self, Self) {
@@ -433,7 +433,7 @@ pub trait Integer: Sized + Num + PartialOrd + Ord + Eq {
     /// If the greatest common divisor does not fit, or if the type is unsigned and neither number
     /// divides the other.
     ///
-    /// [Contract](crate::definitions::contracts#integerextended_gcd)
+    /// [Contract](crate::definitions::num_integer#integerextended_gcd)
     #[track_caller]
     #[must_use]
     fn extended_gcd(&self, other: &Self) -> ExtendedGcd<Self>
@@ -461,7 +461,7 @@ pub trait Integer: Sized + Num + PartialOrd + Ord + Eq {
     ///
     /// If the greatest common divisor or the least common multiple does not fit.
     ///
-    /// [Contract](crate::definitions::contracts#integerextended_gcd_lcm)
+    /// [Contract](crate::definitions::num_integer#integerextended_gcd_lcm)
     #[track_caller]
     #[must_use]
     fn extended_gcd_lcm(&self, other: &Self) -> (ExtendedGcd<Self>, Self)
@@ -522,7 +522,7 @@ pub trait Integer: Sized + Num + PartialOrd + Ord + Eq {
 ///
 /// If `y` is 0, or if the quotient does not fit.
 ///
-/// [Contract](crate::definitions::contracts#div_rem)
+/// [Contract](crate::definitions::num_integer#div_rem)
 #[track_caller]
 #[must_use]
 pub fn div_rem<T: Integer>(x: T, y: T) -> (T, T) {
@@ -546,7 +546,7 @@ pub fn div_rem<T: Integer>(x: T, y: T) -> (T, T) {
 ///
 /// If `y` is 0, or if the quotient does not fit.
 ///
-/// [Contract](crate::definitions::contracts#div_floor)
+/// [Contract](crate::definitions::num_integer#div_floor)
 #[track_caller]
 #[must_use]
 pub fn div_floor<T: Integer>(x: T, y: T) -> T {
@@ -570,7 +570,7 @@ pub fn div_floor<T: Integer>(x: T, y: T) -> T {
 ///
 /// If `y` is 0.
 ///
-/// [Contract](crate::definitions::contracts#mod_floor)
+/// [Contract](crate::definitions::num_integer#mod_floor)
 #[track_caller]
 #[must_use]
 pub fn mod_floor<T: Integer>(x: T, y: T) -> T {
@@ -594,7 +594,7 @@ pub fn mod_floor<T: Integer>(x: T, y: T) -> T {
 ///
 /// If `y` is 0, or if the quotient does not fit.
 ///
-/// [Contract](crate::definitions::contracts#div_mod_floor)
+/// [Contract](crate::definitions::num_integer#div_mod_floor)
 #[track_caller]
 #[must_use]
 pub fn div_mod_floor<T: Integer>(x: T, y: T) -> (T, T) {
@@ -618,7 +618,7 @@ pub fn div_mod_floor<T: Integer>(x: T, y: T) -> (T, T) {
 ///
 /// If `y` is 0, or if the quotient does not fit.
 ///
-/// [Contract](crate::definitions::contracts#div_ceil)
+/// [Contract](crate::definitions::num_integer#div_ceil)
 #[track_caller]
 #[must_use]
 pub fn div_ceil<T: Integer>(x: T, y: T) -> T {
@@ -641,7 +641,7 @@ pub fn div_ceil<T: Integer>(x: T, y: T) -> T {
 ///
 /// If the greatest common divisor does not fit.
 ///
-/// [Contract](crate::definitions::contracts#gcd)
+/// [Contract](crate::definitions::num_integer#gcd)
 #[track_caller]
 #[must_use]
 pub fn gcd<T: Integer>(x: T, y: T) -> T {
@@ -664,7 +664,7 @@ pub fn gcd<T: Integer>(x: T, y: T) -> T {
 ///
 /// If the least common multiple does not fit.
 ///
-/// [Contract](crate::definitions::contracts#lcm)
+/// [Contract](crate::definitions::num_integer#lcm)
 #[track_caller]
 #[must_use]
 pub fn lcm<T: Integer>(x: T, y: T) -> T {
@@ -687,7 +687,7 @@ pub fn lcm<T: Integer>(x: T, y: T) -> T {
 ///
 /// If the greatest common divisor or the least common multiple does not fit.
 ///
-/// [Contract](crate::definitions::contracts#gcd_lcm)
+/// [Contract](crate::definitions::num_integer#gcd_lcm)
 #[track_caller]
 #[must_use]
 pub fn gcd_lcm<T: Integer>(x: T, y: T) -> (T, T) {

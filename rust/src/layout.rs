@@ -21,7 +21,7 @@ use crate::{mod_floor, Fits, Integer};
 ///
 /// If the alignment is not positive.
 ///
-/// [Contract](crate::definitions::contracts#layoutalign_up)
+/// [Contract](crate::definitions::applied#layoutalign_up)
 #[track_caller]
 #[must_use]
 pub fn align_up<T: Fits>(offset: T, alignment: T) -> Option<T> {
@@ -48,7 +48,7 @@ pub fn align_up<T: Fits>(offset: T, alignment: T) -> Option<T> {
 ///
 /// If the alignment is not positive.
 ///
-/// [Contract](crate::definitions::contracts#layoutpadding)
+/// [Contract](crate::definitions::applied#layoutpadding)
 #[track_caller]
 #[must_use]
 pub fn padding<T: Integer + Copy>(offset: T, alignment: T) -> T {

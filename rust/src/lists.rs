@@ -27,7 +27,7 @@ use crate::Fits;
 ///
 /// If the greatest common divisor does not fit.
 ///
-/// [Contract](crate::definitions::contracts#listsgcd_of)
+/// [Contract](crate::definitions::applied#listsgcd_of)
 #[track_caller]
 #[must_use]
 pub fn gcd_of<T: Fits>(numbers: &[T]) -> T {
@@ -56,7 +56,7 @@ pub fn gcd_of<T: Fits>(numbers: &[T]) -> T {
 ///
 /// If the least common multiple does not fit.
 ///
-/// [Contract](crate::definitions::contracts#listslcm_of)
+/// [Contract](crate::definitions::applied#listslcm_of)
 #[track_caller]
 #[must_use]
 pub fn lcm_of<T: Fits>(numbers: &[T]) -> T {

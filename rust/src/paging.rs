@@ -20,7 +20,7 @@ use crate::{checked, div_ceil, div_floor, div_mod_floor, Fits, Integer};
 ///
 /// If the page size is not positive.
 ///
-/// [Contract](crate::definitions::contracts#pagingpages)
+/// [Contract](crate::definitions::applied#pagingpages)
 #[track_caller]
 #[must_use]
 pub fn pages<T: Integer>(items: T, page_size: T) -> T {
@@ -43,7 +43,7 @@ pub fn pages<T: Integer>(items: T, page_size: T) -> T {
 ///
 /// If the page size is not positive.
 ///
-/// [Contract](crate::definitions::contracts#pagingplace_of)
+/// [Contract](crate::definitions::applied#pagingplace_of)
 #[track_caller]
 #[must_use]
 pub fn place_of<T: Integer>(item: T, page_size: T) -> (T, T) {
@@ -67,7 +67,7 @@ pub fn place_of<T: Integer>(item: T, page_size: T) -> (T, T) {
 ///
 /// If the place is negative or not below the page size.
 ///
-/// [Contract](crate::definitions::contracts#pagingitem_at)
+/// [Contract](crate::definitions::applied#pagingitem_at)
 #[track_caller]
 #[must_use]
 pub fn item_at<T: Fits>(page: T, place: T, page_size: T) -> Option<T> {
@@ -103,7 +103,7 @@ pub fn item_at<T: Fits>(page: T, place: T, page_size: T) -> Option<T> {
 ///
 /// If the page size is not positive, or if the number of items is negative.
 ///
-/// [Contract](crate::definitions::contracts#pagingrange_of_page)
+/// [Contract](crate::definitions::applied#pagingrange_of_page)
 #[track_caller]
 #[must_use]
 pub fn range_of_page<T: Integer + Copy>(page: T, page_size: T, items: T) -> (T, T) {
@@ -142,7 +142,7 @@ pub fn range_of_page<T: Integer + Copy>(page: T, page_size: T, items: T) -> (T, 
 ///
 /// If the part is negative or not below the number of parts, or if the number of items is negative.
 ///
-/// [Contract](crate::definitions::contracts#pagingrange_of_part)
+/// [Contract](crate::definitions::applied#pagingrange_of_part)
 #[track_caller]
 #[must_use]
 pub fn range_of_part<T: Integer + Copy>(part: T, parts: T, items: T) -> (T, T) {

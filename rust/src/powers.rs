@@ -21,7 +21,7 @@ use num_traits::Pow;
 /// assert!(!is_square(-144));
 /// ```
 ///
-/// [Contract](crate::definitions::contracts#powersis_square)
+/// [Contract](crate::definitions::applied#powersis_square)
 #[must_use]
 pub fn is_square<T: Roots + Copy>(n: T) -> bool {
     if is_negative(n) {
@@ -46,7 +46,7 @@ pub fn is_square<T: Roots + Copy>(n: T) -> bool {
 ///
 /// If `degree` is 0.
 ///
-/// [Contract](crate::definitions::contracts#powersis_power)
+/// [Contract](crate::definitions::applied#powersis_power)
 #[track_caller]
 #[must_use]
 pub fn is_power<T: Roots + Copy + Pow<u32, Output = T>>(n: T, degree: u32) -> bool {
@@ -68,7 +68,7 @@ pub fn is_power<T: Roots + Copy + Pow<u32, Output = T>>(n: T, degree: u32) -> bo
 /// assert!(!is_perfect_power(72));
 /// ```
 ///
-/// [Contract](crate::definitions::contracts#powersis_perfect_power)
+/// [Contract](crate::definitions::applied#powersis_perfect_power)
 #[must_use]
 pub fn is_perfect_power(n: u64) -> bool {
     for degree in 2..64 {
@@ -97,7 +97,7 @@ pub fn is_perfect_power(n: u64) -> bool {
 ///
 /// If `n` is negative.
 ///
-/// [Contract](crate::definitions::contracts#powerssqrt_rem)
+/// [Contract](crate::definitions::applied#powerssqrt_rem)
 #[track_caller]
 #[must_use]
 pub fn sqrt_rem<T: Roots + Copy>(n: T) -> (T, T) {
@@ -125,7 +125,7 @@ pub fn sqrt_rem<T: Roots + Copy>(n: T) -> (T, T) {
 ///
 /// If the number is not positive, or if `base` is below 2.
 ///
-/// [Contract](crate::definitions::contracts#powersilog)
+/// [Contract](crate::definitions::applied#powersilog)
 #[track_caller]
 #[must_use]
 pub fn ilog<T: Integer + Copy>(number: T, base: T) -> u32 {

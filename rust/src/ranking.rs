@@ -20,7 +20,7 @@ use crate::{binomial, checked, Fits};
 /// assert!(!is_choice(&[0, 2, 5], 5));
 /// ```
 ///
-/// [Contract](crate::definitions::contracts#rankingis_choice)
+/// [Contract](crate::definitions::applied#rankingis_choice)
 #[must_use]
 pub fn is_choice(numbers: &[u64], n: u64) -> bool {
     for place in 0..numbers.len() {
@@ -42,7 +42,7 @@ pub fn is_choice(numbers: &[u64], n: u64) -> bool {
 /// assert!(!rank_fits(&[0, 10000000000]));
 /// ```
 ///
-/// [Contract](crate::definitions::contracts#rankingrank_fits)
+/// [Contract](crate::definitions::applied#rankingrank_fits)
 #[must_use]
 pub fn rank_fits(choice: &[u64]) -> bool {
     checked_rank(choice).is_some()
@@ -76,7 +76,7 @@ fn checked_rank(choice: &[u64]) -> Option<u64> {
 ///
 /// If the numbers do not increase, or one is not below `n`, or if the rank does not fit.
 ///
-/// [Contract](crate::definitions::contracts#rankingrank)
+/// [Contract](crate::definitions::applied#rankingrank)
 #[track_caller]
 #[must_use]
 pub fn rank(choice: &[u64], n: u64) -> u64 {
@@ -113,7 +113,7 @@ pub fn rank(choice: &[u64], n: u64) -> u64 {
 ///
 /// If there are no more than `rank` choices.
 ///
-/// [Contract](crate::definitions::contracts#rankingchoice_of_rank)
+/// [Contract](crate::definitions::applied#rankingchoice_of_rank)
 #[track_caller]
 pub fn choice_of_rank(rank: u64, n: u64, choice: &mut [u64]) {
     check_rank(rank, n, choice.len(), "no choice has the rank");
@@ -172,7 +172,7 @@ fn is_within(n: u64, k: u64, limit: u64) -> bool {
 ///
 /// If the numbers do not increase, or one is not below `n`.
 ///
-/// [Contract](crate::definitions::contracts#rankingnext_choice)
+/// [Contract](crate::definitions::applied#rankingnext_choice)
 #[track_caller]
 pub fn next_choice(choice: &mut [u64], n: u64) -> bool {
     check_choice(

@@ -15,7 +15,7 @@ use crate::modular::{difference_modulo, power_modulo, product_modulo, sum_modulo
 /// assert_eq!(RollingHash::new(10, 97, 3).hash(&[1, 2, 3]), 26);
 /// ```
 ///
-/// [Contract](crate::definitions::contracts#rolling_hashrollinghash)
+/// [Contract](crate::definitions::applied#rolling_hashrollinghash)
 #[derive(PartialEq, Eq, Hash, Debug, Clone, Copy)]
 pub struct RollingHash {
     pub(crate) base: u64,
@@ -42,7 +42,7 @@ impl RollingHash {
     ///
     /// If the modulus is not positive, or if the length is 0.
     ///
-    /// [Contract](crate::definitions::contracts#rolling_hashrollinghashnew)
+    /// [Contract](crate::definitions::applied#rolling_hashrollinghashnew)
     #[track_caller]
     #[must_use]
     pub fn new(base: u64, modulus: u64, length: u64) -> Self {
@@ -67,7 +67,7 @@ impl RollingHash {
     /// assert_eq!(RollingHash::new(10, 97, 3).base(), 10);
     /// ```
     ///
-    /// [Contract](crate::definitions::contracts#rolling_hashrollinghashbase)
+    /// [Contract](crate::definitions::applied#rolling_hashrollinghashbase)
     #[must_use]
     pub const fn base(&self) -> u64 {
         self.base
@@ -83,7 +83,7 @@ impl RollingHash {
     /// assert_eq!(RollingHash::new(10, 97, 3).modulus(), 97);
     /// ```
     ///
-    /// [Contract](crate::definitions::contracts#rolling_hashrollinghashmodulus)
+    /// [Contract](crate::definitions::applied#rolling_hashrollinghashmodulus)
     #[must_use]
     pub const fn modulus(&self) -> u64 {
         self.modulus
@@ -99,7 +99,7 @@ impl RollingHash {
     /// assert_eq!(RollingHash::new(10, 97, 3).length(), 3);
     /// ```
     ///
-    /// [Contract](crate::definitions::contracts#rolling_hashrollinghashlength)
+    /// [Contract](crate::definitions::applied#rolling_hashrollinghashlength)
     #[must_use]
     pub const fn length(&self) -> u64 {
         self.length
@@ -120,7 +120,7 @@ impl RollingHash {
     ///
     /// If the window has another length than the hash function is for.
     ///
-    /// [Contract](crate::definitions::contracts#rolling_hashrollinghashhash)
+    /// [Contract](crate::definitions::applied#rolling_hashrollinghashhash)
     #[track_caller]
     #[must_use]
     pub fn hash(&self, window: &[u8]) -> u64 {
@@ -147,7 +147,7 @@ impl RollingHash {
     /// assert_eq!(RollingHash::new(10, 97, 3).slide(26, 1, 4), 40);
     /// ```
     ///
-    /// [Contract](crate::definitions::contracts#rolling_hashrollinghashslide)
+    /// [Contract](crate::definitions::applied#rolling_hashrollinghashslide)
     #[must_use]
     pub fn slide(&self, hash: u64, leaving: u8, entering: u8) -> u64 {
         let first = product_modulo(u64::from(leaving), self.weight, self.modulus);

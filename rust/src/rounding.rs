@@ -25,7 +25,7 @@ use crate::{div_mod_floor, Integer};
 ///
 /// If `y` is 0, or if the quotient does not fit.
 ///
-/// [Contract](crate::definitions::contracts#roundingdiv_round)
+/// [Contract](crate::definitions::applied#roundingdiv_round)
 #[track_caller]
 #[must_use]
 pub fn div_round<T: Integer + Copy>(x: T, y: T) -> T {
@@ -53,7 +53,7 @@ pub fn div_round<T: Integer + Copy>(x: T, y: T) -> T {
 ///
 /// If `y` is 0, or if the quotient does not fit.
 ///
-/// [Contract](crate::definitions::contracts#roundingdiv_round_even)
+/// [Contract](crate::definitions::applied#roundingdiv_round_even)
 #[track_caller]
 #[must_use]
 pub fn div_round_even<T: Integer + Copy>(x: T, y: T) -> T {

@@ -49,7 +49,7 @@ impl<T: Integer> IterBinomial<T> {
     ///
     /// If an item does not fit: not this call, but the one that asks for the item.
     ///
-    /// [Contract](crate::definitions::contracts#iterbinomialnew)
+    /// [Contract](crate::definitions::num_integer#iterbinomialnew)
     #[track_caller]
     #[must_use]
     pub fn new(n: T) -> Self {
@@ -76,7 +76,7 @@ fn item_at<T: Integer + Copy>(n: T, k: T, previous: T) -> T {
     }
 }
 
-/// [Contract](crate::definitions::contracts#iterator-for-iterbinomial)
+/// [Contract](crate::definitions::num_integer#iterator-for-iterbinomial)
 impl<T: Integer + Copy> Iterator for IterBinomial<T> {
     type Item = T;
 

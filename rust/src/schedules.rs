@@ -38,7 +38,7 @@ pub type Schedule<T> = (T, T);
 ///
 /// If a period is not positive.
 ///
-/// [Contract](crate::definitions::contracts#schedulesnext_meeting)
+/// [Contract](crate::definitions::applied#schedulesnext_meeting)
 #[track_caller]
 #[must_use]
 pub fn next_meeting<T: Modular + Fits>(
@@ -69,7 +69,7 @@ pub fn next_meeting<T: Modular + Fits>(
 ///
 /// If a period is not positive.
 ///
-/// [Contract](crate::definitions::contracts#schedulesnext_meeting_of)
+/// [Contract](crate::definitions::applied#schedulesnext_meeting_of)
 #[track_caller]
 #[must_use]
 pub fn next_meeting_of<T: Modular + Fits>(now: T, schedules: &[Schedule<T>]) -> CommonSolution<T> {
@@ -94,7 +94,7 @@ pub fn next_meeting_of<T: Modular + Fits>(now: T, schedules: &[Schedule<T>]) -> 
 ///
 /// If the period is not positive.
 ///
-/// [Contract](crate::definitions::contracts#schedulescount)
+/// [Contract](crate::definitions::applied#schedulescount)
 #[track_caller]
 #[must_use]
 pub fn count<T: Fits>(from: T, to: T, schedule: Schedule<T>) -> Option<T> {

@@ -40,7 +40,7 @@ pub use remainders::{shares_by_largest_remainder, signed_shares_by_largest_remai
 ///
 /// If it returns an error, it writes nothing.
 ///
-/// [Contract](crate::definitions::contracts#sharesshares)
+/// [Contract](crate::definitions::applied#sharesshares)
 pub fn shares(amount: u64, weights: &[u64], shares: &mut [u64]) -> Result<(), SharesError> {
     let total = total_to_share(weights, shares)?;
     let mut ahead = 0;
@@ -78,7 +78,7 @@ pub fn shares(amount: u64, weights: &[u64], shares: &mut [u64]) -> Result<(), Sh
 ///
 /// If it returns an error, it writes nothing.
 ///
-/// [Contract](crate::definitions::contracts#sharessigned_shares)
+/// [Contract](crate::definitions::applied#sharessigned_shares)
 pub fn signed_shares(amount: i64, weights: &[u64], shares: &mut [i64]) -> Result<(), SharesError> {
     let total = total_to_share(weights, shares)?;
     let mut ahead = 0;

@@ -26,7 +26,7 @@ pub struct BoundedError;
 /// assert_eq!(BoundedError.to_string(), "not an integer of the range");
 /// ```
 ///
-/// [Contract](crate::definitions::contracts#display-for-bounded_integersboundederror)
+/// [Contract](crate::definitions::bounded_integers#display-for-boundederror)
 impl fmt::Display for BoundedError {
     fn fmt(&self, f: &mut fmt::Formatter<'_>) -> fmt::Result {
         f.pad("not an integer of the range")

@@ -66,4 +66,13 @@ impl<R: Range> Fits for Bounded<R> {
     }
 }
 
-impl<R: Range> Modular for Bounded<R> {}
+impl<R: Range> Modular for Bounded<R> {
+    fn product_modulo(&self, other: &Bounded<R>, modulus: &Bounded<R>) -> Bounded<R> {
+        Bounded::new(self.number.product_modulo(&other.number, &modulus.number))
+    }
+
+    fn power_modulo_counted(&self, exponent: u128, modulus: &Bounded<R>) -> (Bounded<R>, u32) {
+        let (power, iterations) = self.number.power_modulo_counted(exponent, &modulus.number);
+        (Bounded::new(power), iterations)
+    }
+}

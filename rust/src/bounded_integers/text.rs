@@ -15,7 +15,7 @@ use core::str::FromStr;
 /// assert_eq!(Percent::new(7).to_string(), "7");
 /// ```
 ///
-/// [Contract](crate::definitions::contracts#display-for-bounded_integersbounded)
+/// [Contract](crate::definitions::bounded_integers#display-for-bounded)
 impl<R: Range> fmt::Display for Bounded<R> {
     fn fmt(&self, f: &mut fmt::Formatter<'_>) -> fmt::Result {
         self.number.fmt(f)
@@ -37,7 +37,7 @@ impl<R: Range> fmt::Display for Bounded<R> {
 ///
 /// - [`BoundedError`] if the string is not an integer of the range.
 ///
-/// [Contract](crate::definitions::contracts#fromstr-for-bounded_integersbounded)
+/// [Contract](crate::definitions::bounded_integers#fromstr-for-bounded)
 impl<R: Range> FromStr for Bounded<R> {
     type Err = BoundedError;
 

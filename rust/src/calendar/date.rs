@@ -28,7 +28,7 @@ const EPOCH_IN_ERA_0: i64 = 865566;
 /// assert_eq!(Date::new(2000, 2, 29) < Date::new(2000, 3, 1), true);
 /// ```
 ///
-/// [Contract](crate::definitions::contracts#calendardate)
+/// [Contract](crate::definitions::calendar#date)
 #[derive(Debug, Clone, Copy, PartialEq, Eq, PartialOrd, Ord, Hash)]
 pub struct Date {
     pub(in crate::calendar) year: i64,
@@ -47,7 +47,7 @@ impl Date {
     /// assert_eq!(Date::new(2024, 2, 29).unwrap().year(), 2024);
     /// ```
     ///
-    /// [Contract](crate::definitions::contracts#calendardateyear)
+    /// [Contract](crate::definitions::calendar#dateyear)
     #[must_use]
     pub const fn year(&self) -> i64 {
         self.year
@@ -63,7 +63,7 @@ impl Date {
     /// assert_eq!(Date::new(2024, 2, 29).unwrap().month(), 2);
     /// ```
     ///
-    /// [Contract](crate::definitions::contracts#calendardatemonth)
+    /// [Contract](crate::definitions::calendar#datemonth)
     #[must_use]
     pub const fn month(&self) -> u8 {
         self.month
@@ -79,7 +79,7 @@ impl Date {
     /// assert_eq!(Date::new(2024, 2, 29).unwrap().day_of_month(), 29);
     /// ```
     ///
-    /// [Contract](crate::definitions::contracts#calendardateday_of_month)
+    /// [Contract](crate::definitions::calendar#dateday_of_month)
     #[must_use]
     pub const fn day_of_month(&self) -> u8 {
         self.day_of_month
@@ -96,7 +96,7 @@ impl Date {
     /// assert_eq!(Date::new(1900, 2, 29), None);
     /// ```
     ///
-    /// [Contract](crate::definitions::contracts#calendardatenew)
+    /// [Contract](crate::definitions::calendar#datenew)
     #[must_use]
     #[inline]
     pub const fn new(year: i64, month: u8, day_of_month: u8) -> Option<Self> {
@@ -124,7 +124,7 @@ impl Date {
     /// assert_eq!(Some(Date::from_day_number(-1)), Date::new(1969, 12, 31));
     /// ```
     ///
-    /// [Contract](crate::definitions::contracts#calendardatefrom_day_number)
+    /// [Contract](crate::definitions::calendar#datefrom_day_number)
     #[must_use]
     #[inline]
     pub const fn from_day_number(day: i64) -> Self {
@@ -149,7 +149,7 @@ impl Date {
     /// assert_eq!(Date::new(i64::MAX, 1, 1).unwrap().day_number(), None);
     /// ```
     ///
-    /// [Contract](crate::definitions::contracts#calendardateday_number)
+    /// [Contract](crate::definitions::calendar#dateday_number)
     #[must_use]
     #[inline]
     pub fn day_number(&self) -> Option<i64> {
@@ -180,7 +180,7 @@ impl Date {
     /// assert_eq!(Date::new(i64::MAX, 12, 31).unwrap().next(), None);
     /// ```
     ///
-    /// [Contract](crate::definitions::contracts#calendardatenext)
+    /// [Contract](crate::definitions::calendar#datenext)
     #[must_use]
     #[inline]
     pub fn next(&self) -> Option<Self> {
@@ -224,7 +224,7 @@ impl Date {
     /// assert_eq!(Date::new(i64::MIN, 1, 1).unwrap().previous(), None);
     /// ```
     ///
-    /// [Contract](crate::definitions::contracts#calendardateprevious)
+    /// [Contract](crate::definitions::calendar#dateprevious)
     #[must_use]
     #[inline]
     pub fn previous(&self) -> Option<Self> {
@@ -261,7 +261,7 @@ impl Date {
     /// assert_eq!(Date::new(2000, 12, 31).unwrap().day_of_year(), 366);
     /// ```
     ///
-    /// [Contract](crate::definitions::contracts#calendardateday_of_year)
+    /// [Contract](crate::definitions::calendar#dateday_of_year)
     #[must_use]
     #[inline]
     pub const fn day_of_year(&self) -> u16 {
@@ -280,7 +280,7 @@ impl Date {
     /// assert_eq!(Date::from_year_day(1900, 366), None);
     /// ```
     ///
-    /// [Contract](crate::definitions::contracts#calendardatefrom_year_day)
+    /// [Contract](crate::definitions::calendar#datefrom_year_day)
     #[must_use]
     pub const fn from_year_day(year: i64, day_of_year: u16) -> Option<Self> {
         if 0 < day_of_year && day_of_year <= days_in_year(year) {
@@ -302,7 +302,7 @@ impl Date {
     /// assert_eq!(Date::new(i64::MAX, 12, 31).unwrap().plus_days(1), None);
     /// ```
     ///
-    /// [Contract](crate::definitions::contracts#calendardateplus_days)
+    /// [Contract](crate::definitions::calendar#dateplus_days)
     #[must_use]
     #[inline]
     pub fn plus_days(&self, days: i64) -> Option<Self> {
@@ -337,7 +337,7 @@ impl Date {
     /// assert_eq!(Date::new(i64::MIN, 1, 1).unwrap().minus_days(1), None);
     /// ```
     ///
-    /// [Contract](crate::definitions::contracts#calendardateminus_days)
+    /// [Contract](crate::definitions::calendar#dateminus_days)
     #[must_use]
     pub fn minus_days(&self, days: i64) -> Option<Self> {
         let (era, day) = self.day_of_era();

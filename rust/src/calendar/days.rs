@@ -37,7 +37,7 @@ impl Date {
     /// );
     /// ```
     ///
-    /// [Contract](crate::definitions::contracts#calendardatedays_until)
+    /// [Contract](crate::definitions::calendar#datedays_until)
     #[must_use]
     pub fn days_until(self, end: Self) -> Days {
         Days { next: self, end }
@@ -55,7 +55,7 @@ impl Days {
     /// assert_eq!(Date::from_day_number(0).days_until(Date::from_day_number(3)).len(), Some(3));
     /// ```
     ///
-    /// [Contract](crate::definitions::contracts#calendardayslen)
+    /// [Contract](crate::definitions::calendar#dayslen)
     #[must_use]
     pub fn len(&self) -> Option<usize> {
         usize::try_from(days_left(&self.next, &self.end)).ok()
@@ -71,14 +71,14 @@ impl Days {
     /// assert!(Date::from_day_number(3).days_until(Date::from_day_number(0)).is_empty());
     /// ```
     ///
-    /// [Contract](crate::definitions::contracts#calendardaysis_empty)
+    /// [Contract](crate::definitions::calendar#daysis_empty)
     #[must_use]
     pub fn is_empty(&self) -> bool {
         !is_earlier(&self.next, &self.end)
     }
 }
 
-/// [Contract](crate::definitions::contracts#iterator-for-calendardays)
+/// [Contract](crate::definitions::calendar#iterator-for-days)
 impl Iterator for Days {
     type Item = Date;
 

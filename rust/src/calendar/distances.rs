@@ -21,7 +21,7 @@ impl Date {
     /// assert_eq!(Date::new(2000, 2, 29).unwrap().plus_months(1), Date::new(2000, 3, 29));
     /// ```
     ///
-    /// [Contract](crate::definitions::contracts#calendardateplus_months)
+    /// [Contract](crate::definitions::calendar#dateplus_months)
     #[must_use]
     pub fn plus_months(&self, months: i64) -> Option<Self> {
         let (year, month) = month_of(self.month_number() + i128::from(months))?;
@@ -43,7 +43,7 @@ impl Date {
     /// assert_eq!(Date::from_day_number(5).days_between(&Date::from_day_number(3)), Some(-2));
     /// ```
     ///
-    /// [Contract](crate::definitions::contracts#calendardatedays_between)
+    /// [Contract](crate::definitions::calendar#datedays_between)
     #[must_use]
     #[inline]
     pub fn days_between(&self, to: &Self) -> Option<i64> {
@@ -71,7 +71,7 @@ impl Date {
     /// );
     /// ```
     ///
-    /// [Contract](crate::definitions::contracts#calendardatemonths_between)
+    /// [Contract](crate::definitions::calendar#datemonths_between)
     #[must_use]
     pub fn months_between(&self, to: &Self) -> Option<i64> {
         narrowed(whole_months(self, to))
@@ -97,7 +97,7 @@ impl Date {
     /// );
     /// ```
     ///
-    /// [Contract](crate::definitions::contracts#calendardateyears_between)
+    /// [Contract](crate::definitions::calendar#dateyears_between)
     #[must_use]
     pub fn years_between(&self, to: &Self) -> Option<i64> {
         narrowed(div_floor(whole_months(self, to), 12))
@@ -120,7 +120,7 @@ impl Date {
 /// assert_eq!(days_between(&Date::from_day_number(5), &Date::from_day_number(3)), Some(-2));
 /// ```
 ///
-/// [Contract](crate::definitions::contracts#calendardays_between)
+/// [Contract](crate::definitions::calendar#days_between)
 #[must_use]
 pub fn days_between(from: &Date, to: &Date) -> Option<i64> {
     from.days_between(to)
@@ -145,7 +145,7 @@ pub fn days_between(from: &Date, to: &Date) -> Option<i64> {
 /// );
 /// ```
 ///
-/// [Contract](crate::definitions::contracts#calendarmonths_between)
+/// [Contract](crate::definitions::calendar#months_between)
 #[must_use]
 pub fn months_between(from: &Date, to: &Date) -> Option<i64> {
     from.months_between(to)
@@ -170,7 +170,7 @@ pub fn months_between(from: &Date, to: &Date) -> Option<i64> {
 /// );
 /// ```
 ///
-/// [Contract](crate::definitions::contracts#calendaryears_between)
+/// [Contract](crate::definitions::calendar#years_between)
 #[must_use]
 pub fn years_between(from: &Date, to: &Date) -> Option<i64> {
     from.years_between(to)

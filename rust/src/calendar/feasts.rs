@@ -15,7 +15,7 @@ use crate::integer_core::{div_floor, mod_floor};
 /// assert_eq!(Some(easter(2024)), Date::new(2024, 3, 31));
 /// ```
 ///
-/// [Contract](crate::definitions::contracts#calendareaster)
+/// [Contract](crate::definitions::calendar#easter)
 #[must_use]
 pub fn easter(year: i64) -> Date {
     let full_moon = paschal_full_moon(year);

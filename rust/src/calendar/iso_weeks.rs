@@ -16,7 +16,7 @@ use crate::calendar::{Date, Weekday};
 /// assert_eq!(Date::from_day_number(4).iso_week(), IsoWeek::new(1970, 2));
 /// ```
 ///
-/// [Contract](crate::definitions::contracts#calendarisoweek)
+/// [Contract](crate::definitions::calendar#isoweek)
 #[derive(Debug, Clone, Copy, PartialEq, Eq, PartialOrd, Ord, Hash)]
 pub struct IsoWeek {
     pub(in crate::calendar) year: i64,
@@ -34,7 +34,7 @@ impl IsoWeek {
     /// assert_eq!(IsoWeek::new(2004, 53).unwrap().year(), 2004);
     /// ```
     ///
-    /// [Contract](crate::definitions::contracts#calendarisoweekyear)
+    /// [Contract](crate::definitions::calendar#isoweekyear)
     #[must_use]
     pub const fn year(&self) -> i64 {
         self.year
@@ -50,7 +50,7 @@ impl IsoWeek {
     /// assert_eq!(IsoWeek::new(2004, 53).unwrap().week(), 53);
     /// ```
     ///
-    /// [Contract](crate::definitions::contracts#calendarisoweekweek)
+    /// [Contract](crate::definitions::calendar#isoweekweek)
     #[must_use]
     pub const fn week(&self) -> u8 {
         self.week
@@ -67,7 +67,7 @@ impl IsoWeek {
     /// assert_eq!(IsoWeek::new(2005, 53), None);
     /// ```
     ///
-    /// [Contract](crate::definitions::contracts#calendarisoweeknew)
+    /// [Contract](crate::definitions::calendar#isoweeknew)
     #[must_use]
     pub const fn new(year: i64, week: u8) -> Option<Self> {
         match days_to_thursday_of_week(year, week) {
@@ -87,7 +87,7 @@ impl IsoWeek {
     /// assert_eq!(IsoWeek::new(2009, 53).unwrap().date_on(Weekday::Sunday), Date::new(2010, 1, 3));
     /// ```
     ///
-    /// [Contract](crate::definitions::contracts#calendarisoweekdate_on)
+    /// [Contract](crate::definitions::calendar#isoweekdate_on)
     #[must_use]
     pub fn date_on(&self, weekday: Weekday) -> Option<Date> {
         Date::from_iso_week(self.year, self.week, weekday)
@@ -106,7 +106,7 @@ impl Date {
     /// assert_eq!(Date::new(2005, 1, 1).unwrap().iso_week(), IsoWeek::new(2004, 53));
     /// ```
     ///
-    /// [Contract](crate::definitions::contracts#calendardateiso_week)
+    /// [Contract](crate::definitions::calendar#dateiso_week)
     #[must_use]
     #[inline]
     pub fn iso_week(&self) -> Option<IsoWeek> {
@@ -128,7 +128,7 @@ impl Date {
     /// assert_eq!(Date::from_iso_week(2009, 53, Weekday::Sunday), Date::new(2010, 1, 3));
     /// ```
     ///
-    /// [Contract](crate::definitions::contracts#calendardatefrom_iso_week)
+    /// [Contract](crate::definitions::calendar#datefrom_iso_week)
     #[must_use]
     pub fn from_iso_week(year: i64, week: u8, weekday: Weekday) -> Option<Self> {
         let thursday = days_to_thursday_of_week(year, week)?;
@@ -146,7 +146,7 @@ impl Date {
 /// assert_eq!(weeks_in_year(2004), 53);
 /// ```
 ///
-/// [Contract](crate::definitions::contracts#calendarweeks_in_year)
+/// [Contract](crate::definitions::calendar#weeks_in_year)
 #[must_use]
 pub fn weeks_in_year(year: i64) -> u8 {
     match days_to_thursday_of_week(year, 53) {

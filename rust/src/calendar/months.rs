@@ -21,7 +21,7 @@ use crate::integer_core::guards::check;
 ///
 /// If `month` is 0 or above 12.
 ///
-/// [Contract](crate::definitions::contracts#calendardays_in_month)
+/// [Contract](crate::definitions::calendar#days_in_month)
 #[track_caller]
 #[must_use]
 pub fn days_in_month(year: i64, month: u8) -> u8 {

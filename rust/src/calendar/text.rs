@@ -19,7 +19,7 @@ use core::{fmt, str};
 #[derive(Debug, Clone, Copy, PartialEq, Eq, Hash)]
 pub struct DateError;
 
-/// [Contract](crate::definitions::contracts#display-for-calendardateerror)
+/// [Contract](crate::definitions::calendar#display-for-dateerror)
 impl fmt::Display for DateError {
     fn fmt(&self, f: &mut fmt::Formatter<'_>) -> fmt::Result {
         f.pad("not the text of a date")
@@ -40,7 +40,7 @@ impl Error for DateError {}
 /// assert_eq!(Date::new(-1, 1, 1).unwrap().to_string(), "-0001-01-01");
 /// ```
 ///
-/// [Contract](crate::definitions::contracts#display-for-calendardate)
+/// [Contract](crate::definitions::calendar#display-for-date)
 impl fmt::Display for Date {
     fn fmt(&self, f: &mut fmt::Formatter<'_>) -> fmt::Result {
         self.pad(f)
@@ -91,7 +91,7 @@ fn write_ascii<W: fmt::Write>(text: &[u8], f: &mut W) -> fmt::Result {
 /// assert_eq!(IsoWeek::new(2004, 53).unwrap().to_string(), "2004-W53");
 /// ```
 ///
-/// [Contract](crate::definitions::contracts#display-for-calendarisoweek)
+/// [Contract](crate::definitions::calendar#display-for-isoweek)
 impl fmt::Display for IsoWeek {
     fn fmt(&self, f: &mut fmt::Formatter<'_>) -> fmt::Result {
         self.pad(f)
@@ -128,7 +128,7 @@ fn write_year<W: fmt::Write>(year: i64, f: &mut W) -> fmt::Result {
 ///
 /// - [`DateError`] if the string is not the one that `Display` writes of a date.
 ///
-/// [Contract](crate::definitions::contracts#fromstr-for-calendardate)
+/// [Contract](crate::definitions::calendar#fromstr-for-date)
 impl FromStr for Date {
     type Err = DateError;
 

@@ -45,7 +45,7 @@ impl Weekday {
     /// assert_eq!(Weekday::Sunday.iso_number(), 7);
     /// ```
     ///
-    /// [Contract](crate::definitions::contracts#calendarweekdayiso_number)
+    /// [Contract](crate::definitions::calendar#weekdayiso_number)
     #[must_use]
     pub fn iso_number(self) -> u8 {
         (self.days_after_sunday() + 6) % 7 + 1
@@ -62,7 +62,7 @@ impl Weekday {
     /// assert_eq!(Weekday::from_iso_number(7), Some(Weekday::Sunday));
     /// ```
     ///
-    /// [Contract](crate::definitions::contracts#calendarweekdayfrom_iso_number)
+    /// [Contract](crate::definitions::calendar#weekdayfrom_iso_number)
     #[must_use]
     pub fn from_iso_number(number: u8) -> Option<Self> {
         match number {
@@ -109,7 +109,7 @@ impl Weekday {
 #[derive(Debug, Clone, Copy, PartialEq, Eq, Hash)]
 pub struct WeekdayError;
 
-/// [Contract](crate::definitions::contracts#display-for-calendarweekdayerror)
+/// [Contract](crate::definitions::calendar#display-for-weekdayerror)
 impl fmt::Display for WeekdayError {
     fn fmt(&self, f: &mut fmt::Formatter<'_>) -> fmt::Result {
         f.pad("not the name of a day of the week")
@@ -128,7 +128,7 @@ impl Error for WeekdayError {}
 /// assert_eq!(Weekday::Monday.to_string(), "Monday");
 /// ```
 ///
-/// [Contract](crate::definitions::contracts#display-for-calendarweekday)
+/// [Contract](crate::definitions::calendar#display-for-weekday)
 impl fmt::Display for Weekday {
     fn fmt(&self, f: &mut fmt::Formatter<'_>) -> fmt::Result {
         f.pad(self.name())
@@ -149,7 +149,7 @@ impl fmt::Display for Weekday {
 ///
 /// - [`WeekdayError`] if the string is not the English name of a day of the week.
 ///
-/// [Contract](crate::definitions::contracts#fromstr-for-calendarweekday)
+/// [Contract](crate::definitions::calendar#fromstr-for-weekday)
 impl FromStr for Weekday {
     type Err = WeekdayError;
 
@@ -178,7 +178,7 @@ impl Date {
     /// assert_eq!(Date::new(2000, 2, 29).unwrap().weekday(), Weekday::Tuesday);
     /// ```
     ///
-    /// [Contract](crate::definitions::contracts#calendardateweekday)
+    /// [Contract](crate::definitions::calendar#dateweekday)
     #[must_use]
     #[inline]
     pub fn weekday(&self) -> Weekday {
@@ -198,7 +198,7 @@ impl Date {
 /// assert_eq!(weekday_of(-1), Weekday::Wednesday);
 /// ```
 ///
-/// [Contract](crate::definitions::contracts#calendarweekday_of)
+/// [Contract](crate::definitions::calendar#weekday_of)
 #[must_use]
 #[inline]
 pub fn weekday_of(day: i64) -> Weekday {

@@ -16,7 +16,7 @@ use crate::calendar::{weekday_of, Date, Weekday};
 /// assert_eq!(first_weekday_on_or_after(3, Weekday::Sunday), Some(3));
 /// ```
 ///
-/// [Contract](crate::definitions::contracts#calendarfirst_weekday_on_or_after)
+/// [Contract](crate::definitions::calendar#first_weekday_on_or_after)
 #[must_use]
 pub fn first_weekday_on_or_after(day: i64, weekday: Weekday) -> Option<i64> {
     day.checked_add(i64::from(weekday_of(day).days_until(weekday)))
@@ -34,7 +34,7 @@ pub fn first_weekday_on_or_after(day: i64, weekday: Weekday) -> Option<i64> {
 /// assert_eq!(last_weekday_on_or_before(3, Weekday::Sunday), Some(3));
 /// ```
 ///
-/// [Contract](crate::definitions::contracts#calendarlast_weekday_on_or_before)
+/// [Contract](crate::definitions::calendar#last_weekday_on_or_before)
 #[must_use]
 pub fn last_weekday_on_or_before(day: i64, weekday: Weekday) -> Option<i64> {
     day.checked_sub(i64::from(weekday.days_until(weekday_of(day))))
@@ -53,7 +53,7 @@ pub fn last_weekday_on_or_before(day: i64, weekday: Weekday) -> Option<i64> {
 /// assert_eq!(nth_weekday_of_month(2026, 11, Weekday::Monday, 5), Date::new(2026, 11, 30));
 /// ```
 ///
-/// [Contract](crate::definitions::contracts#calendarnth_weekday_of_month)
+/// [Contract](crate::definitions::calendar#nth_weekday_of_month)
 #[must_use]
 pub fn nth_weekday_of_month(year: i64, month: u8, weekday: Weekday, n: u8) -> Option<Date> {
     let first = Date::new(year, month, 1)?;
@@ -74,7 +74,7 @@ pub fn nth_weekday_of_month(year: i64, month: u8, weekday: Weekday, n: u8) -> Op
 /// assert_eq!(last_weekday_of_month(2026, 10, Weekday::Friday), Date::new(2026, 10, 30));
 /// ```
 ///
-/// [Contract](crate::definitions::contracts#calendarlast_weekday_of_month)
+/// [Contract](crate::definitions::calendar#last_weekday_of_month)
 #[must_use]
 pub fn last_weekday_of_month(year: i64, month: u8, weekday: Weekday) -> Option<Date> {
     match month {
@@ -98,7 +98,7 @@ impl Date {
     /// );
     /// ```
     ///
-    /// [Contract](crate::definitions::contracts#calendardatenext_last_weekday)
+    /// [Contract](crate::definitions::calendar#datenext_last_weekday)
     #[must_use]
     pub fn next_last_weekday(&self, weekday: Weekday) -> Option<Self> {
         let of_this_month = last_weekday(self.year, self.month, weekday);
@@ -124,7 +124,7 @@ impl Date {
 /// );
 /// ```
 ///
-/// [Contract](crate::definitions::contracts#calendarnext_last_weekday)
+/// [Contract](crate::definitions::calendar#next_last_weekday)
 #[must_use]
 pub fn next_last_weekday(after: &Date, weekday: Weekday) -> Option<Date> {
     after.next_last_weekday(weekday)

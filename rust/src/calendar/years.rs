@@ -13,7 +13,7 @@
 /// assert!(is_leap_year(0));
 /// ```
 ///
-/// [Contract](crate::definitions::contracts#calendaris_leap_year)
+/// [Contract](crate::definitions::calendar#is_leap_year)
 #[must_use]
 #[inline]
 pub const fn is_leap_year(year: i64) -> bool {
@@ -42,7 +42,7 @@ const fn is_multiple(year: i64, number: u16) -> bool {
 /// assert_eq!(days_in_year(1900), 365);
 /// ```
 ///
-/// [Contract](crate::definitions::contracts#calendardays_in_year)
+/// [Contract](crate::definitions::calendar#days_in_year)
 #[must_use]
 #[inline]
 pub const fn days_in_year(year: i64) -> u16 {

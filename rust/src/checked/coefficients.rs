@@ -19,7 +19,7 @@ use crate::rows::IterBinomial;
 /// assert_eq!(binomial(11u8, 4), None);
 /// ```
 ///
-/// [Contract](crate::definitions::contracts#checkedbinomial)
+/// [Contract](crate::definitions::num_integer#checkedbinomial)
 #[must_use]
 pub fn binomial<T: Fits>(n: T, k: T) -> Option<T> {
     if is_negative(n) || is_negative(k) {
@@ -51,7 +51,7 @@ pub fn binomial<T: Fits>(n: T, k: T) -> Option<T> {
 /// assert_eq!(multinomial(&[255u8, 1]), None);
 /// ```
 ///
-/// [Contract](crate::definitions::contracts#checkedmultinomial)
+/// [Contract](crate::definitions::num_integer#checkedmultinomial)
 #[must_use]
 pub fn multinomial<T: Fits>(k: &[T]) -> Option<T> {
     let mut multinomial = one();
@@ -78,7 +78,7 @@ pub fn multinomial<T: Fits>(k: &[T]) -> Option<T> {
 /// assert!(!row(11u8).is_some());
 /// ```
 ///
-/// [Contract](crate::definitions::contracts#checkedrow)
+/// [Contract](crate::definitions::num_integer#checkedrow)
 #[must_use]
 pub fn row<T: Fits>(n: T) -> Option<IterBinomial<T>> {
     if row_fits(n) {

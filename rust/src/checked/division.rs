@@ -17,7 +17,7 @@ use crate::integer_core::operators::is_zero;
 /// assert_eq!(div_rem(i8::MIN, -1), None);
 /// ```
 ///
-/// [Contract](crate::definitions::contracts#checkeddiv_rem)
+/// [Contract](crate::definitions::num_integer#checkeddiv_rem)
 #[must_use]
 pub fn div_rem<T: Fits>(x: T, y: T) -> Option<(T, T)> {
     if x.quotient_fits(&y) {
@@ -39,7 +39,7 @@ pub fn div_rem<T: Fits>(x: T, y: T) -> Option<(T, T)> {
 /// assert_eq!(div_floor(i8::MIN, -1), None);
 /// ```
 ///
-/// [Contract](crate::definitions::contracts#checkeddiv_floor)
+/// [Contract](crate::definitions::num_integer#checkeddiv_floor)
 #[must_use]
 pub fn div_floor<T: Fits>(x: T, y: T) -> Option<T> {
     if x.quotient_fits(&y) {
@@ -61,7 +61,7 @@ pub fn div_floor<T: Fits>(x: T, y: T) -> Option<T> {
 /// assert_eq!(mod_floor(8, 0), None);
 /// ```
 ///
-/// [Contract](crate::definitions::contracts#checkedmod_floor)
+/// [Contract](crate::definitions::num_integer#checkedmod_floor)
 #[must_use]
 pub fn mod_floor<T: Fits>(x: T, y: T) -> Option<T> {
     if is_zero(y) {
@@ -83,7 +83,7 @@ pub fn mod_floor<T: Fits>(x: T, y: T) -> Option<T> {
 /// assert_eq!(div_mod_floor(i8::MIN, -1), None);
 /// ```
 ///
-/// [Contract](crate::definitions::contracts#checkeddiv_mod_floor)
+/// [Contract](crate::definitions::num_integer#checkeddiv_mod_floor)
 #[must_use]
 pub fn div_mod_floor<T: Fits>(x: T, y: T) -> Option<(T, T)> {
     if x.quotient_fits(&y) {
@@ -105,7 +105,7 @@ pub fn div_mod_floor<T: Fits>(x: T, y: T) -> Option<(T, T)> {
 /// assert_eq!(div_ceil(8, 0), None);
 /// ```
 ///
-/// [Contract](crate::definitions::contracts#checkeddiv_ceil)
+/// [Contract](crate::definitions::num_integer#checkeddiv_ceil)
 #[must_use]
 pub fn div_ceil<T: Fits>(x: T, y: T) -> Option<T> {
     if x.quotient_fits(&y) {
@@ -127,7 +127,7 @@ pub fn div_ceil<T: Fits>(x: T, y: T) -> Option<T> {
 /// assert_eq!(next_multiple_of(251u8, 8), None);
 /// ```
 ///
-/// [Contract](crate::definitions::contracts#checkednext_multiple_of)
+/// [Contract](crate::definitions::num_integer#checkednext_multiple_of)
 #[must_use]
 pub fn next_multiple_of<T: Fits>(x: T, y: T) -> Option<T> {
     if x.next_multiple_fits(&y) {
@@ -149,7 +149,7 @@ pub fn next_multiple_of<T: Fits>(x: T, y: T) -> Option<T> {
 /// assert_eq!(prev_multiple_of(-125i8, 10), None);
 /// ```
 ///
-/// [Contract](crate::definitions::contracts#checkedprev_multiple_of)
+/// [Contract](crate::definitions::num_integer#checkedprev_multiple_of)
 #[must_use]
 pub fn prev_multiple_of<T: Fits>(x: T, y: T) -> Option<T> {
     if x.prev_multiple_fits(&y) {

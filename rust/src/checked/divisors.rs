@@ -20,7 +20,7 @@ use num_traits::Signed;
 /// assert_eq!(gcd(i8::MIN, 0), None);
 /// ```
 ///
-/// [Contract](crate::definitions::contracts#checkedgcd)
+/// [Contract](crate::definitions::num_integer#checkedgcd)
 #[must_use]
 pub fn gcd<T: Fits>(x: T, y: T) -> Option<T> {
     if x.gcd_fits(&y) {
@@ -42,7 +42,7 @@ pub fn gcd<T: Fits>(x: T, y: T) -> Option<T> {
 /// assert_eq!(lcm(16u8, 17), None);
 /// ```
 ///
-/// [Contract](crate::definitions::contracts#checkedlcm)
+/// [Contract](crate::definitions::num_integer#checkedlcm)
 #[must_use]
 pub fn lcm<T: Fits>(x: T, y: T) -> Option<T> {
     if is_zero(x) || is_zero(y) {
@@ -63,7 +63,7 @@ pub fn lcm<T: Fits>(x: T, y: T) -> Option<T> {
 /// assert_eq!(gcd_lcm(16u8, 17), None);
 /// ```
 ///
-/// [Contract](crate::definitions::contracts#checkedgcd_lcm)
+/// [Contract](crate::definitions::num_integer#checkedgcd_lcm)
 #[must_use]
 pub fn gcd_lcm<T: Fits>(x: T, y: T) -> Option<(T, T)> {
     let g = gcd(x, y)?;
@@ -84,7 +84,7 @@ pub fn gcd_lcm<T: Fits>(x: T, y: T) -> Option<(T, T)> {
 /// assert_eq!(extended_gcd(10u8, 4), None);
 /// ```
 ///
-/// [Contract](crate::definitions::contracts#checkedextended_gcd)
+/// [Contract](crate::definitions::num_integer#checkedextended_gcd)
 #[must_use]
 pub fn extended_gcd<T: Fits>(x: T, y: T) -> Option<ExtendedGcd<T>> {
     if x.gcd_fits(&y) && x.pair_fits(&y) {
@@ -107,7 +107,7 @@ pub fn extended_gcd<T: Fits>(x: T, y: T) -> Option<ExtendedGcd<T>> {
 /// assert_eq!(extended_gcd_lcm(99i8, 100), None);
 /// ```
 ///
-/// [Contract](crate::definitions::contracts#checkedextended_gcd_lcm)
+/// [Contract](crate::definitions::num_integer#checkedextended_gcd_lcm)
 #[must_use]
 pub fn extended_gcd_lcm<T: Fits + Signed>(x: T, y: T) -> Option<(ExtendedGcd<T>, T)> {
     let e = extended_gcd(x, y)?;

@@ -17,7 +17,7 @@ use crate::integer_core::operators::{one, zero};
 /// assert_eq!(sum(200u8, 56), None);
 /// ```
 ///
-/// [Contract](crate::definitions::contracts#checkedsum)
+/// [Contract](crate::definitions::num_integer#checkedsum)
 #[must_use]
 pub fn sum<T: Fits>(a: T, b: T) -> Option<T> {
     if a.sum_fits(&b) {
@@ -38,7 +38,7 @@ pub fn sum<T: Fits>(a: T, b: T) -> Option<T> {
 /// assert_eq!(difference(2u8, 3), None);
 /// ```
 ///
-/// [Contract](crate::definitions::contracts#checkeddifference)
+/// [Contract](crate::definitions::num_integer#checkeddifference)
 #[must_use]
 pub fn difference<T: Fits>(a: T, b: T) -> Option<T> {
     if a.difference_fits(&b) {
@@ -59,7 +59,7 @@ pub fn difference<T: Fits>(a: T, b: T) -> Option<T> {
 /// assert_eq!(product(16u8, 16), None);
 /// ```
 ///
-/// [Contract](crate::definitions::contracts#checkedproduct)
+/// [Contract](crate::definitions::num_integer#checkedproduct)
 #[must_use]
 pub fn product<T: Fits>(a: T, b: T) -> Option<T> {
     if a.product_fits(&b) {
@@ -80,7 +80,7 @@ pub fn product<T: Fits>(a: T, b: T) -> Option<T> {
 /// assert_eq!(negated(7u8), None);
 /// ```
 ///
-/// [Contract](crate::definitions::contracts#checkednegated)
+/// [Contract](crate::definitions::num_integer#checkednegated)
 #[must_use]
 pub fn negated<T: Fits>(a: T) -> Option<T> {
     difference(zero(), a)
@@ -98,7 +98,7 @@ pub fn negated<T: Fits>(a: T) -> Option<T> {
 /// assert_eq!(inc(u8::MAX), None);
 /// ```
 ///
-/// [Contract](crate::definitions::contracts#checkedinc)
+/// [Contract](crate::definitions::num_integer#checkedinc)
 #[must_use]
 pub fn inc<T: Fits>(x: T) -> Option<T> {
     sum(x, one())
@@ -116,7 +116,7 @@ pub fn inc<T: Fits>(x: T) -> Option<T> {
 /// assert_eq!(dec(0u8), None);
 /// ```
 ///
-/// [Contract](crate::definitions::contracts#checkeddec)
+/// [Contract](crate::definitions::num_integer#checkeddec)
 #[must_use]
 pub fn dec<T: Fits>(x: T) -> Option<T> {
     difference(x, one())

@@ -16,7 +16,7 @@ use crate::integer_roots::Roots;
 /// assert_eq!(nth_root(-9, 2), None);
 /// ```
 ///
-/// [Contract](crate::definitions::contracts#checkednth_root)
+/// [Contract](crate::definitions::num_integer#checkednth_root)
 #[must_use]
 pub fn nth_root<T: Roots + Copy>(x: T, n: u32) -> Option<T> {
     if n != 0 && (n % 2 != 0 || !is_negative(x)) {
@@ -37,7 +37,7 @@ pub fn nth_root<T: Roots + Copy>(x: T, n: u32) -> Option<T> {
 /// assert_eq!(sqrt(-1), None);
 /// ```
 ///
-/// [Contract](crate::definitions::contracts#checkedsqrt)
+/// [Contract](crate::definitions::num_integer#checkedsqrt)
 #[must_use]
 pub fn sqrt<T: Roots + Copy>(x: T) -> Option<T> {
     if is_negative(x) {

@@ -25,7 +25,7 @@ use crate::sign_magnitude::{number_of, parts_of, parts_of_product};
 /// assert_eq!(product_div_mod_floor(i64::MAX, 3, 2), None);
 /// ```
 ///
-/// [Contract](crate::definitions::contracts#checkedproduct_div_mod_floor)
+/// [Contract](crate::definitions::num_integer#checkedproduct_div_mod_floor)
 #[must_use]
 pub fn product_div_mod_floor<T: NativeInteger<Magnitude = u64>>(
     a: T,

@@ -18,7 +18,7 @@ use crate::Fits;
 /// assert_eq!(factorial(6u8), None);
 /// ```
 ///
-/// [Contract](crate::definitions::contracts#countingcheckedfactorial)
+/// [Contract](crate::definitions::applied#countingcheckedfactorial)
 #[must_use]
 pub fn factorial<T: Fits>(n: T) -> Option<T> {
     if is_negative(n) {
@@ -40,7 +40,7 @@ pub fn factorial<T: Fits>(n: T) -> Option<T> {
 /// assert_eq!(falling(8u8, 3), None);
 /// ```
 ///
-/// [Contract](crate::definitions::contracts#countingcheckedfalling)
+/// [Contract](crate::definitions::applied#countingcheckedfalling)
 #[must_use]
 pub fn falling<T: Fits>(n: T, k: T) -> Option<T> {
     if is_negative(n) || is_negative(k) {

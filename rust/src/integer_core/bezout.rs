@@ -103,7 +103,7 @@ fn last_row<T: Integer + Clone>(a: T, b: T) -> (Row<T>, u32) {
 /// If the greatest common divisor does not fit, or if the type is unsigned and neither number
 /// divides the other.
 ///
-/// [Contract](crate::definitions::contracts#countedextended_gcd_counted)
+/// [Contract](crate::definitions::num_integer#countedextended_gcd_counted)
 #[track_caller]
 #[must_use]
 pub fn extended_gcd_counted<T: Integer + Clone>(a: T, b: T) -> (ExtendedGcd<T>, u32) {

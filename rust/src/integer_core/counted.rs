@@ -31,7 +31,7 @@ pub trait GcdCounted: Integer {
     ///
     /// If the greatest common divisor does not fit.
     ///
-    /// [Contract](crate::definitions::contracts#countedgcdcountedgcd_counted)
+    /// [Contract](crate::definitions::num_integer#countedgcdcountedgcd_counted)
     #[track_caller]
     #[must_use]
     fn gcd_counted(&self, other: &Self) -> (Self, u32);

@@ -15,7 +15,7 @@ use num_traits::Num;
 /// assert_eq!(narrowed::<i8>(128), None);
 /// ```
 ///
-/// [Contract](crate::definitions::contracts#narrowingnarrowed)
+/// [Contract](crate::definitions::num_integer#narrowingnarrowed)
 #[must_use]
 #[inline]
 pub fn narrowed<T: Num + TryFrom<i128, Error = TryFromIntError>>(number: i128) -> Option<T> {

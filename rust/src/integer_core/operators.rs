@@ -20,7 +20,7 @@ use num_traits::Num;
 /// assert_eq!(zero::<i64>(), 0);
 /// ```
 ///
-/// [Contract](crate::definitions::contracts#operatorszero)
+/// [Contract](crate::definitions::num_integer#operatorszero)
 #[must_use]
 pub fn zero<T: Num>() -> T {
     T::zero()
@@ -36,7 +36,7 @@ pub fn zero<T: Num>() -> T {
 /// assert_eq!(one::<i64>(), 1);
 /// ```
 ///
-/// [Contract](crate::definitions::contracts#operatorsone)
+/// [Contract](crate::definitions::num_integer#operatorsone)
 #[must_use]
 pub fn one<T: Num>() -> T {
     T::one()
@@ -52,7 +52,7 @@ pub fn one<T: Num>() -> T {
 /// assert!(!is_zero(7));
 /// ```
 ///
-/// [Contract](crate::definitions::contracts#operatorsis_zero)
+/// [Contract](crate::definitions::num_integer#operatorsis_zero)
 #[must_use]
 pub fn is_zero<T: Num>(a: T) -> bool {
     a.is_zero()
@@ -68,7 +68,7 @@ pub fn is_zero<T: Num>(a: T) -> bool {
 /// assert!(!is_one(7));
 /// ```
 ///
-/// [Contract](crate::definitions::contracts#operatorsis_one)
+/// [Contract](crate::definitions::num_integer#operatorsis_one)
 #[must_use]
 pub fn is_one<T: Num>(a: T) -> bool {
     a.is_one()
@@ -85,7 +85,7 @@ pub fn is_one<T: Num>(a: T) -> bool {
 /// assert!(!is_equal(2, 3));
 /// ```
 ///
-/// [Contract](crate::definitions::contracts#operatorsis_equal)
+/// [Contract](crate::definitions::num_integer#operatorsis_equal)
 #[must_use]
 pub fn is_equal<T: Num>(a: T, b: T) -> bool {
     a == b
@@ -102,7 +102,7 @@ pub fn is_equal<T: Num>(a: T, b: T) -> bool {
 /// assert!(!is_below(3, 3));
 /// ```
 ///
-/// [Contract](crate::definitions::contracts#operatorsis_below)
+/// [Contract](crate::definitions::num_integer#operatorsis_below)
 #[must_use]
 pub fn is_below<T: Num + PartialOrd>(a: T, b: T) -> bool {
     a < b
@@ -119,7 +119,7 @@ pub fn is_below<T: Num + PartialOrd>(a: T, b: T) -> bool {
 /// assert!(!is_negative(0));
 /// ```
 ///
-/// [Contract](crate::definitions::contracts#operatorsis_negative)
+/// [Contract](crate::definitions::num_integer#operatorsis_negative)
 #[must_use]
 pub fn is_negative<T: Num + PartialOrd>(a: T) -> bool {
     is_below(a, zero())
@@ -135,7 +135,7 @@ pub fn is_negative<T: Num + PartialOrd>(a: T) -> bool {
 /// assert!(is_minus_one(-1));
 /// ```
 ///
-/// [Contract](crate::definitions::contracts#operatorsis_minus_one)
+/// [Contract](crate::definitions::num_integer#operatorsis_minus_one)
 #[must_use]
 pub fn is_minus_one<T: Copy + Num + PartialOrd>(a: T) -> bool {
     is_negative(a) && is_zero(fitting::successor(a))
@@ -155,7 +155,7 @@ pub fn is_minus_one<T: Copy + Num + PartialOrd>(a: T) -> bool {
 ///
 /// If the result does not fit.
 ///
-/// [Contract](crate::definitions::contracts#operatorssum)
+/// [Contract](crate::definitions::num_integer#operatorssum)
 #[inline]
 #[track_caller]
 #[must_use]
@@ -177,7 +177,7 @@ pub fn sum<T: Integer>(a: T, b: T) -> T {
 ///
 /// If the result does not fit.
 ///
-/// [Contract](crate::definitions::contracts#operatorsdifference)
+/// [Contract](crate::definitions::num_integer#operatorsdifference)
 #[inline]
 #[track_caller]
 #[must_use]
@@ -199,7 +199,7 @@ pub fn difference<T: Integer>(a: T, b: T) -> T {
 ///
 /// If the result does not fit.
 ///
-/// [Contract](crate::definitions::contracts#operatorsproduct)
+/// [Contract](crate::definitions::num_integer#operatorsproduct)
 #[inline]
 #[track_caller]
 #[must_use]
@@ -221,7 +221,7 @@ pub fn product<T: Integer>(a: T, b: T) -> T {
 ///
 /// If `b` is 0, or if the quotient does not fit.
 ///
-/// [Contract](crate::definitions::contracts#operatorsquotient)
+/// [Contract](crate::definitions::num_integer#operatorsquotient)
 #[track_caller]
 #[must_use]
 pub fn quotient<T: Num>(a: T, b: T) -> T {
@@ -242,7 +242,7 @@ pub fn quotient<T: Num>(a: T, b: T) -> T {
 ///
 /// If `b` is 0, or if the quotient does not fit.
 ///
-/// [Contract](crate::definitions::contracts#operatorsremainder)
+/// [Contract](crate::definitions::num_integer#operatorsremainder)
 #[track_caller]
 #[must_use]
 pub fn remainder<T: Num>(a: T, b: T) -> T {
@@ -263,7 +263,7 @@ pub fn remainder<T: Num>(a: T, b: T) -> T {
 ///
 /// If the result does not fit.
 ///
-/// [Contract](crate::definitions::contracts#operatorssuccessor)
+/// [Contract](crate::definitions::num_integer#operatorssuccessor)
 #[inline]
 #[track_caller]
 #[must_use]
@@ -285,7 +285,7 @@ pub fn successor<T: Integer>(a: T) -> T {
 ///
 /// If the result does not fit.
 ///
-/// [Contract](crate::definitions::contracts#operatorspredecessor)
+/// [Contract](crate::definitions::num_integer#operatorspredecessor)
 #[inline]
 #[track_caller]
 #[must_use]
@@ -307,7 +307,7 @@ pub fn predecessor<T: Integer>(a: T) -> T {
 ///
 /// If the result does not fit.
 ///
-/// [Contract](crate::definitions::contracts#operatorsnegated)
+/// [Contract](crate::definitions::num_integer#operatorsnegated)
 #[inline]
 #[track_caller]
 #[must_use]

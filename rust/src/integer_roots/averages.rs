@@ -33,7 +33,7 @@ pub trait Average: Integer {
     /// assert_eq!(3.average_floor(&10), 6);
     /// ```
     ///
-    /// [Contract](crate::definitions::contracts#averageaverage_floor)
+    /// [Contract](crate::definitions::num_integer#averageaverage_floor)
     #[must_use]
     fn average_floor(&self, other: &Self) -> Self;
 
@@ -47,7 +47,7 @@ pub trait Average: Integer {
     /// assert_eq!((-2).average_ceil(&-5), -3);
     /// ```
     ///
-    /// [Contract](crate::definitions::contracts#averageaverage_ceil)
+    /// [Contract](crate::definitions::num_integer#averageaverage_ceil)
     #[must_use]
     fn average_ceil(&self, other: &Self) -> Self;
 }
@@ -62,7 +62,7 @@ pub trait Average: Integer {
 /// assert_eq!(average_floor(3, 10), 6);
 /// ```
 ///
-/// [Contract](crate::definitions::contracts#average_floor)
+/// [Contract](crate::definitions::num_integer#average_floor)
 #[must_use]
 pub fn average_floor<T: Average>(x: T, y: T) -> T {
     x.average_floor(&y)
@@ -78,7 +78,7 @@ pub fn average_floor<T: Average>(x: T, y: T) -> T {
 /// assert_eq!(average_ceil(3, 10), 7);
 /// ```
 ///
-/// [Contract](crate::definitions::contracts#average_ceil)
+/// [Contract](crate::definitions::num_integer#average_ceil)
 #[must_use]
 pub fn average_ceil<T: Average>(x: T, y: T) -> T {
     x.average_ceil(&y)

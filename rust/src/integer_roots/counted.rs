@@ -28,7 +28,7 @@ pub trait SqrtCounted: Roots {
     ///
     /// If the number is negative.
     ///
-    /// [Contract](crate::definitions::contracts#countedsqrtcountedsqrt_counted)
+    /// [Contract](crate::definitions::num_integer#countedsqrtcountedsqrt_counted)
     #[track_caller]
     #[must_use]
     fn sqrt_counted(&self) -> (Self, u32);

@@ -21,7 +21,7 @@ use crate::integer_roots::magnitude_roots::{
 /// assert_eq!(27.cbrt(), 3);
 /// ```
 ///
-/// [Laws](crate::definitions::contracts#roots)
+/// [Laws](crate::definitions::num_integer#roots)
 #[cfg_attr(
     has_diagnostic,
     diagnostic::on_unimplemented(
@@ -49,7 +49,7 @@ pub trait Roots: Integer {
     ///
     /// If `n` is 0, or if `n` is even and the number is negative.
     ///
-    /// [Contract](crate::definitions::contracts#rootsnth_root)
+    /// [Contract](crate::definitions::num_integer#rootsnth_root)
     #[track_caller]
     #[must_use]
     fn nth_root(&self, n: u32) -> Self;
@@ -70,7 +70,7 @@ pub trait Roots: Integer {
     ///
     /// If the number is negative.
     ///
-    /// [Contract](crate::definitions::contracts#rootssqrt)
+    /// [Contract](crate::definitions::num_integer#rootssqrt)
     #[track_caller]
     #[must_use]
     fn sqrt(&self) -> Self {
@@ -91,7 +91,7 @@ pub trait Roots: Integer {
     /// assert_eq!((-9).cbrt(), -2);
     /// ```
     ///
-    /// [Contract](crate::definitions::contracts#rootscbrt)
+    /// [Contract](crate::definitions::num_integer#rootscbrt)
     #[must_use]
     fn cbrt(&self) -> Self {
         self.nth_root(3)
@@ -115,7 +115,7 @@ pub trait Roots: Integer {
 ///
 /// If `n` is 0, or if `n` is even and the number is negative.
 ///
-/// [Contract](crate::definitions::contracts#nth_root)
+/// [Contract](crate::definitions::num_integer#nth_root)
 #[track_caller]
 #[must_use]
 pub fn nth_root<T: Roots>(x: T, n: u32) -> T {
@@ -138,7 +138,7 @@ pub fn nth_root<T: Roots>(x: T, n: u32) -> T {
 ///
 /// If the number is negative.
 ///
-/// [Contract](crate::definitions::contracts#sqrt)
+/// [Contract](crate::definitions::num_integer#sqrt)
 #[track_caller]
 #[must_use]
 pub fn sqrt<T: Roots>(x: T) -> T {
@@ -155,7 +155,7 @@ pub fn sqrt<T: Roots>(x: T) -> T {
 /// assert_eq!(cbrt(-9), -2);
 /// ```
 ///
-/// [Contract](crate::definitions::contracts#cbrt)
+/// [Contract](crate::definitions::num_integer#cbrt)
 #[must_use]
 pub fn cbrt<T: Roots>(x: T) -> T {
     x.cbrt()

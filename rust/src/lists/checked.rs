@@ -21,7 +21,7 @@ use crate::{checked, Fits, NativeInteger};
 /// assert_eq!(gcd_of(&[i8::MIN, 0]), None);
 /// ```
 ///
-/// [Contract](crate::definitions::contracts#listscheckedgcd_of)
+/// [Contract](crate::definitions::applied#listscheckedgcd_of)
 #[must_use]
 pub fn gcd_of<T: Fits>(numbers: &[T]) -> Option<T> {
     let divisor = signed_gcd_of(numbers);
@@ -69,7 +69,7 @@ fn divisor_of_both<T: Fits>(divisor: T, number: T) -> T {
 /// assert_eq!(lcm_of(&[16u8, 17, 0]), Some(0));
 /// ```
 ///
-/// [Contract](crate::definitions::contracts#listscheckedlcm_of)
+/// [Contract](crate::definitions::applied#listscheckedlcm_of)
 #[must_use]
 pub fn lcm_of<T: Fits>(numbers: &[T]) -> Option<T> {
     if has_zero(numbers) {
@@ -117,7 +117,7 @@ fn has_zero<T: Fits>(numbers: &[T]) -> bool {
 /// assert_eq!(sum_of::<i64>(&[]), Some(0));
 /// ```
 ///
-/// [Contract](crate::definitions::contracts#listscheckedsum_of)
+/// [Contract](crate::definitions::applied#listscheckedsum_of)
 #[must_use]
 pub fn sum_of<T: NativeInteger<Magnitude = u64>>(numbers: &[T]) -> Option<T> {
     let mut total = Total::zero();
@@ -140,7 +140,7 @@ pub fn sum_of<T: NativeInteger<Magnitude = u64>>(numbers: &[T]) -> Option<T> {
 /// assert_eq!(dot_product(&[(100i8, 100), (-100, 99)]), Some(100));
 /// ```
 ///
-/// [Contract](crate::definitions::contracts#listscheckeddot_product)
+/// [Contract](crate::definitions::applied#listscheckeddot_product)
 #[must_use]
 pub fn dot_product<T: NativeInteger<Magnitude = u64>>(pairs: &[(T, T)]) -> Option<T> {
     let mut total = Total::zero();

@@ -19,7 +19,7 @@ use crate::{Fits, Integer};
 /// assert_eq!(residue(-3, 0), None);
 /// ```
 ///
-/// [Contract](crate::definitions::contracts#modularcheckedresidue)
+/// [Contract](crate::definitions::modular#checkedresidue)
 #[must_use]
 pub fn residue<T: Integer + Copy>(a: T, m: T) -> Option<T> {
     if is_positive(m) {
@@ -40,7 +40,7 @@ pub fn residue<T: Integer + Copy>(a: T, m: T) -> Option<T> {
 /// assert_eq!(sum_modulo(5, 4, -7), None);
 /// ```
 ///
-/// [Contract](crate::definitions::contracts#modularcheckedsum_modulo)
+/// [Contract](crate::definitions::modular#checkedsum_modulo)
 #[must_use]
 pub fn sum_modulo<T: Integer + Copy>(a: T, b: T, m: T) -> Option<T> {
     if is_positive(m) {
@@ -62,7 +62,7 @@ pub fn sum_modulo<T: Integer + Copy>(a: T, b: T, m: T) -> Option<T> {
 /// assert_eq!(difference_modulo(2, 5, 0), None);
 /// ```
 ///
-/// [Contract](crate::definitions::contracts#modularcheckeddifference_modulo)
+/// [Contract](crate::definitions::modular#checkeddifference_modulo)
 #[must_use]
 pub fn difference_modulo<T: Integer + Copy>(a: T, b: T, m: T) -> Option<T> {
     if is_positive(m) {
@@ -83,7 +83,7 @@ pub fn difference_modulo<T: Integer + Copy>(a: T, b: T, m: T) -> Option<T> {
 /// assert_eq!(negation_modulo(2, 0), None);
 /// ```
 ///
-/// [Contract](crate::definitions::contracts#modularcheckednegation_modulo)
+/// [Contract](crate::definitions::modular#checkednegation_modulo)
 #[must_use]
 pub fn negation_modulo<T: Integer + Copy>(a: T, m: T) -> Option<T> {
     if is_positive(m) {
@@ -104,7 +104,7 @@ pub fn negation_modulo<T: Integer + Copy>(a: T, m: T) -> Option<T> {
 /// assert_eq!(product_modulo(4, 5, 0), None);
 /// ```
 ///
-/// [Contract](crate::definitions::contracts#modularcheckedproduct_modulo)
+/// [Contract](crate::definitions::modular#checkedproduct_modulo)
 #[must_use]
 pub fn product_modulo<T: Modular>(a: T, b: T, m: T) -> Option<T> {
     if is_positive(m) {
@@ -125,7 +125,7 @@ pub fn product_modulo<T: Modular>(a: T, b: T, m: T) -> Option<T> {
 /// assert_eq!(power_modulo(3, 4, 0), None);
 /// ```
 ///
-/// [Contract](crate::definitions::contracts#modularcheckedpower_modulo)
+/// [Contract](crate::definitions::modular#checkedpower_modulo)
 #[must_use]
 pub fn power_modulo<T: Modular>(a: T, exponent: u128, m: T) -> Option<T> {
     if is_positive(m) {
@@ -147,7 +147,7 @@ pub fn power_modulo<T: Modular>(a: T, exponent: u128, m: T) -> Option<T> {
 /// assert_eq!(inverse_modulo(3, 0), None);
 /// ```
 ///
-/// [Contract](crate::definitions::contracts#modularcheckedinverse_modulo)
+/// [Contract](crate::definitions::modular#checkedinverse_modulo)
 #[must_use]
 pub fn inverse_modulo<T: Integer + Copy>(a: T, m: T) -> Option<T> {
     if is_positive(m) {
@@ -169,7 +169,7 @@ pub fn inverse_modulo<T: Integer + Copy>(a: T, m: T) -> Option<T> {
 /// assert_eq!(quotient_modulo(2, 3, 0), None);
 /// ```
 ///
-/// [Contract](crate::definitions::contracts#modularcheckedquotient_modulo)
+/// [Contract](crate::definitions::modular#checkedquotient_modulo)
 #[must_use]
 pub fn quotient_modulo<T: Modular>(a: T, b: T, m: T) -> Option<T> {
     if is_positive(m) {
@@ -191,7 +191,7 @@ pub fn quotient_modulo<T: Modular>(a: T, b: T, m: T) -> Option<T> {
 /// assert_eq!(solutions(6, 4, 0), None);
 /// ```
 ///
-/// [Contract](crate::definitions::contracts#modularcheckedsolutions)
+/// [Contract](crate::definitions::modular#checkedsolutions)
 #[must_use]
 pub fn solutions<T: Modular>(a: T, b: T, m: T) -> Option<(T, T)> {
     if is_positive(m) {
@@ -213,7 +213,7 @@ pub fn solutions<T: Modular>(a: T, b: T, m: T) -> Option<(T, T)> {
 /// assert_eq!(next_congruent(10, 1, 0), None);
 /// ```
 ///
-/// [Contract](crate::definitions::contracts#modularcheckednext_congruent)
+/// [Contract](crate::definitions::modular#checkednext_congruent)
 #[must_use]
 pub fn next_congruent<T: Fits>(from: T, residue: T, modulus: T) -> Option<T> {
     if is_positive(modulus) {
@@ -235,7 +235,7 @@ pub fn next_congruent<T: Fits>(from: T, residue: T, modulus: T) -> Option<T> {
 /// assert_eq!(previous_congruent(10, 1, 0), None);
 /// ```
 ///
-/// [Contract](crate::definitions::contracts#modularcheckedprevious_congruent)
+/// [Contract](crate::definitions::modular#checkedprevious_congruent)
 #[must_use]
 pub fn previous_congruent<T: Fits>(to: T, residue: T, modulus: T) -> Option<T> {
     if is_positive(modulus) {
@@ -257,7 +257,7 @@ pub fn previous_congruent<T: Fits>(to: T, residue: T, modulus: T) -> Option<T> {
 /// assert_eq!(count_congruent(1, 10, 1, 0), None);
 /// ```
 ///
-/// [Contract](crate::definitions::contracts#modularcheckedcount_congruent)
+/// [Contract](crate::definitions::modular#checkedcount_congruent)
 #[must_use]
 pub fn count_congruent<T: Fits>(from: T, to: T, residue: T, modulus: T) -> Option<T> {
     if is_positive(modulus) {
@@ -280,7 +280,7 @@ pub fn count_congruent<T: Fits>(from: T, to: T, residue: T, modulus: T) -> Optio
 /// assert_eq!(chinese_remainder(1, 4, 3, 0), None);
 /// ```
 ///
-/// [Contract](crate::definitions::contracts#modularcheckedchinese_remainder)
+/// [Contract](crate::definitions::modular#checkedchinese_remainder)
 #[must_use]
 pub fn chinese_remainder<T: Modular + Fits>(a: T, m: T, b: T, n: T) -> Option<(T, T)> {
     if is_positive(m) && is_positive(n) && m.lcm_fits(&n) {
@@ -303,7 +303,7 @@ pub fn chinese_remainder<T: Modular + Fits>(a: T, m: T, b: T, n: T) -> Option<(T
 /// assert_eq!(next_common_solution(10, 1, 0, 3, 6), None);
 /// ```
 ///
-/// [Contract](crate::definitions::contracts#modularcheckednext_common_solution)
+/// [Contract](crate::definitions::modular#checkednext_common_solution)
 #[must_use]
 pub fn next_common_solution<T: Modular + Fits>(
     from: T,
@@ -335,7 +335,7 @@ pub fn next_common_solution<T: Modular + Fits>(
 /// assert_eq!(next_common_solution_of(10, &[(1, 4), (3, 0)]), None);
 /// ```
 ///
-/// [Contract](crate::definitions::contracts#modularcheckednext_common_solution_of)
+/// [Contract](crate::definitions::modular#checkednext_common_solution_of)
 #[must_use]
 pub fn next_common_solution_of<T: Modular + Fits>(
     from: T,

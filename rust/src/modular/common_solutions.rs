@@ -29,7 +29,7 @@ use crate::{checked, Fits};
 ///
 /// If a modulus is not positive, or if the least common multiple does not fit.
 ///
-/// [Contract](crate::definitions::contracts#modularchinese_remainder)
+/// [Contract](crate::definitions::modular#chinese_remainder)
 #[track_caller]
 #[must_use]
 pub fn chinese_remainder<T: Modular>(a: T, m: T, b: T, n: T) -> Option<(T, T)> {
@@ -76,7 +76,7 @@ impl<T> CommonSolution<T> {
     /// assert_eq!(CommonSolution::<i64>::Never.value(), None);
     /// ```
     ///
-    /// [Contract](crate::definitions::contracts#modularcommonsolutionvalue)
+    /// [Contract](crate::definitions::modular#commonsolutionvalue)
     #[must_use]
     pub fn value(self) -> Option<T> {
         match self {
@@ -107,7 +107,7 @@ impl<T> CommonSolution<T> {
 ///
 /// If a modulus is not positive.
 ///
-/// [Contract](crate::definitions::contracts#modularnext_common_solution)
+/// [Contract](crate::definitions::modular#next_common_solution)
 #[track_caller]
 #[must_use]
 pub fn next_common_solution<T: Modular + Fits>(

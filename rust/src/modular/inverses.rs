@@ -27,7 +27,7 @@ use crate::Integer;
 ///
 /// If the modulus is not positive.
 ///
-/// [Contract](crate::definitions::contracts#modularinverse_modulo)
+/// [Contract](crate::definitions::modular#inverse_modulo)
 #[track_caller]
 #[must_use]
 pub fn inverse_modulo<T: Integer + Copy>(a: T, m: T) -> Option<T> {
@@ -58,7 +58,7 @@ pub fn inverse_modulo<T: Integer + Copy>(a: T, m: T) -> Option<T> {
 ///
 /// If the modulus is not positive.
 ///
-/// [Contract](crate::definitions::contracts#modularquotient_modulo)
+/// [Contract](crate::definitions::modular#quotient_modulo)
 #[track_caller]
 #[must_use]
 pub fn quotient_modulo<T: Modular>(a: T, b: T, m: T) -> Option<T> {

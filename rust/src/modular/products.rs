@@ -42,7 +42,7 @@ pub trait Modular: Integer + Copy {
     ///
     /// If the modulus is not positive.
     ///
-    /// [Contract](crate::definitions::contracts#modularmodularproduct_modulo)
+    /// [Contract](crate::definitions::modular#modularproduct_modulo)
     #[track_caller]
     #[must_use]
     fn product_modulo(&self, other: &Self, modulus: &Self) -> Self {
@@ -69,7 +69,7 @@ pub trait Modular: Integer + Copy {
     ///
     /// If the modulus is not positive.
     ///
-    /// [Contract](crate::definitions::contracts#modularmodularpower_modulo_counted)
+    /// [Contract](crate::definitions::modular#modularpower_modulo_counted)
     #[track_caller]
     #[must_use]
     fn power_modulo_counted(&self, exponent: u128, modulus: &Self) -> (Self, u32) {
@@ -101,7 +101,7 @@ pub trait Modular: Integer + Copy {
 ///
 /// If the modulus is not positive.
 ///
-/// [Contract](crate::definitions::contracts#modularproduct_modulo)
+/// [Contract](crate::definitions::modular#product_modulo)
 #[track_caller]
 #[must_use]
 pub fn product_modulo<T: Modular>(a: T, b: T, m: T) -> T {
@@ -127,7 +127,7 @@ pub fn product_modulo<T: Modular>(a: T, b: T, m: T) -> T {
 ///
 /// If the modulus is not positive.
 ///
-/// [Contract](crate::definitions::contracts#modularpower_modulo)
+/// [Contract](crate::definitions::modular#power_modulo)
 #[track_caller]
 #[must_use]
 pub fn power_modulo<T: Modular>(a: T, exponent: u128, m: T) -> T {
@@ -150,7 +150,7 @@ pub fn power_modulo<T: Modular>(a: T, exponent: u128, m: T) -> T {
 ///
 /// If the modulus is not positive.
 ///
-/// [Contract](crate::definitions::contracts#modularcountedpower_modulo_counted)
+/// [Contract](crate::definitions::modular#countedpower_modulo_counted)
 #[track_caller]
 #[must_use]
 pub fn power_modulo_counted<T: Modular>(a: T, exponent: u128, m: T) -> (T, u32) {

@@ -29,7 +29,7 @@ use crate::{checked, Fits, Integer};
 ///
 /// If the modulus is not positive.
 ///
-/// [Contract](crate::definitions::contracts#modularsolutions)
+/// [Contract](crate::definitions::modular#solutions)
 #[track_caller]
 #[must_use]
 pub fn solutions<T: Modular>(a: T, b: T, m: T) -> Option<(T, T)> {
@@ -61,7 +61,7 @@ pub fn solutions<T: Modular>(a: T, b: T, m: T) -> Option<(T, T)> {
 ///
 /// If the modulus is not positive.
 ///
-/// [Contract](crate::definitions::contracts#modularnext_congruent)
+/// [Contract](crate::definitions::modular#next_congruent)
 #[track_caller]
 #[must_use]
 pub fn next_congruent<T: Fits>(from: T, residue: T, modulus: T) -> Option<T> {
@@ -87,7 +87,7 @@ pub fn next_congruent<T: Fits>(from: T, residue: T, modulus: T) -> Option<T> {
 ///
 /// If the modulus is not positive.
 ///
-/// [Contract](crate::definitions::contracts#modularprevious_congruent)
+/// [Contract](crate::definitions::modular#previous_congruent)
 #[track_caller]
 #[must_use]
 pub fn previous_congruent<T: Fits>(to: T, residue: T, modulus: T) -> Option<T> {
@@ -113,7 +113,7 @@ pub fn previous_congruent<T: Fits>(to: T, residue: T, modulus: T) -> Option<T> {
 ///
 /// If the modulus is not positive.
 ///
-/// [Contract](crate::definitions::contracts#modularcount_congruent)
+/// [Contract](crate::definitions::modular#count_congruent)
 #[track_caller]
 #[must_use]
 pub fn count_congruent<T: Fits>(from: T, to: T, residue: T, modulus: T) -> Option<T> {

@@ -22,7 +22,7 @@ use crate::{mod_floor, Integer};
 ///
 /// If the modulus is not positive.
 ///
-/// [Contract](crate::definitions::contracts#modularresidue)
+/// [Contract](crate::definitions::modular#residue)
 #[track_caller]
 #[must_use]
 pub fn residue<T: Integer>(a: T, m: T) -> T {
@@ -48,7 +48,7 @@ pub fn residue<T: Integer>(a: T, m: T) -> T {
 ///
 /// If the modulus is not positive.
 ///
-/// [Contract](crate::definitions::contracts#modularsum_modulo)
+/// [Contract](crate::definitions::modular#sum_modulo)
 #[track_caller]
 #[must_use]
 pub fn sum_modulo<T: Integer + Copy>(a: T, b: T, m: T) -> T {
@@ -83,7 +83,7 @@ pub(crate) fn sum_of_residues<T: Integer + Copy>(x: T, y: T, m: T) -> T {
 ///
 /// If the modulus is not positive.
 ///
-/// [Contract](crate::definitions::contracts#modulardifference_modulo)
+/// [Contract](crate::definitions::modular#difference_modulo)
 #[track_caller]
 #[must_use]
 pub fn difference_modulo<T: Integer + Copy>(a: T, b: T, m: T) -> T {
@@ -108,7 +108,7 @@ pub fn difference_modulo<T: Integer + Copy>(a: T, b: T, m: T) -> T {
 ///
 /// If the modulus is not positive.
 ///
-/// [Contract](crate::definitions::contracts#modularnegation_modulo)
+/// [Contract](crate::definitions::modular#negation_modulo)
 #[track_caller]
 #[must_use]
 pub fn negation_modulo<T: Integer + Copy>(a: T, m: T) -> T {

@@ -29,7 +29,7 @@ use crate::{checked, Fits, Integer};
 ///
 /// If a modulus is not positive.
 ///
-/// [Contract](crate::definitions::contracts#modularnext_common_solution_of)
+/// [Contract](crate::definitions::modular#next_common_solution_of)
 #[track_caller]
 #[must_use]
 pub fn next_common_solution_of<T: Modular + Fits>(

@@ -17,7 +17,7 @@ use crate::{Integer, Roots};
 /// assert_eq!(sqrt_rem(-99), None);
 /// ```
 ///
-/// [Contract](crate::definitions::contracts#powerscheckedsqrt_rem)
+/// [Contract](crate::definitions::applied#powerscheckedsqrt_rem)
 #[must_use]
 pub fn sqrt_rem<T: Roots + Copy>(n: T) -> Option<(T, T)> {
     if is_negative(n) {
@@ -40,7 +40,7 @@ pub fn sqrt_rem<T: Roots + Copy>(n: T) -> Option<(T, T)> {
 /// assert_eq!(ilog(1000, 1), None);
 /// ```
 ///
-/// [Contract](crate::definitions::contracts#powerscheckedilog)
+/// [Contract](crate::definitions::applied#powerscheckedilog)
 #[must_use]
 pub fn ilog<T: Integer + Copy>(number: T, base: T) -> Option<u32> {
     if is_below(zero(), number) && is_below(one(), base) {

@@ -21,7 +21,7 @@ use core::fmt;
 /// );
 /// ```
 ///
-/// [Contract](crate::definitions::contracts#ratio64decimal)
+/// [Contract](crate::definitions::ratio64#decimal)
 #[derive(Debug, Clone, Copy, PartialEq, Eq, Hash)]
 pub struct Decimal {
     units: i128,
@@ -39,7 +39,7 @@ impl Decimal {
     /// assert_eq!(Ratio::new(1234, 5).unwrap().to_decimal(2).unwrap().units(), 24680);
     /// ```
     ///
-    /// [Contract](crate::definitions::contracts#ratio64decimalunits)
+    /// [Contract](crate::definitions::ratio64#decimalunits)
     #[must_use]
     pub const fn units(&self) -> i128 {
         self.units
@@ -55,7 +55,7 @@ impl Decimal {
     /// assert_eq!(Ratio::new(1234, 5).unwrap().to_decimal(2).unwrap().places(), 2);
     /// ```
     ///
-    /// [Contract](crate::definitions::contracts#ratio64decimalplaces)
+    /// [Contract](crate::definitions::ratio64#decimalplaces)
     #[must_use]
     pub const fn places(&self) -> u32 {
         self.places
@@ -76,7 +76,7 @@ impl Ratio {
     /// assert_eq!(Ratio::new(1, 2).unwrap().to_decimal(19), None);
     /// ```
     ///
-    /// [Contract](crate::definitions::contracts#ratio64ratioto_decimal)
+    /// [Contract](crate::definitions::ratio64#ratioto_decimal)
     #[must_use]
     pub fn to_decimal(&self, places: u32) -> Option<Decimal> {
         let scale = 10_i64.checked_pow(places)?;
@@ -97,7 +97,7 @@ impl Ratio {
 /// assert_eq!(Ratio::new(-1, 20).unwrap().to_decimal(2).unwrap().to_string(), "-0.05");
 /// ```
 ///
-/// [Contract](crate::definitions::contracts#display-for-ratio64decimal)
+/// [Contract](crate::definitions::ratio64#display-for-decimal)
 impl fmt::Display for Decimal {
     fn fmt(&self, f: &mut fmt::Formatter<'_>) -> fmt::Result {
         self.pad_number(f)

@@ -33,7 +33,7 @@ impl RatioError {
     /// assert_eq!(RatioError::NotFitting.number(), 2);
     /// ```
     ///
-    /// [Contract](crate::definitions::contracts#ratio64ratioerrornumber)
+    /// [Contract](crate::definitions::ratio64#ratioerrornumber)
     #[must_use]
     pub const fn number(&self) -> u32 {
         match self {
@@ -53,7 +53,7 @@ impl RatioError {
 /// assert_eq!(RatioError::ZeroDenominator.to_string(), "the denominator is 0");
 /// ```
 ///
-/// [Contract](crate::definitions::contracts#display-for-ratio64ratioerror)
+/// [Contract](crate::definitions::ratio64#display-for-ratioerror)
 impl fmt::Display for RatioError {
     fn fmt(&self, f: &mut fmt::Formatter<'_>) -> fmt::Result {
         match self {

@@ -26,7 +26,7 @@ use core::fmt;
 /// assert_eq!(Ratio::new(2, 4), Ratio::new(1, 2));
 /// ```
 ///
-/// [Contract](crate::definitions::contracts#ratio64ratio)
+/// [Contract](crate::definitions::ratio64#ratio)
 #[derive(Debug, Clone, Copy, PartialEq, Eq, Hash)]
 pub struct Ratio {
     num: i64,
@@ -52,7 +52,7 @@ impl Ratio {
     /// - [`RatioError::ZeroDenominator`] if `den` is 0;
     /// - [`RatioError::NotFitting`] if a part of the reduced fraction does not fit an `i64`.
     ///
-    /// [Contract](crate::definitions::contracts#ratio64rationew)
+    /// [Contract](crate::definitions::ratio64#rationew)
     pub fn new(num: i64, den: i64) -> Result<Self, RatioError> {
         Self::reduced(i128::from(num), i128::from(den))
     }
@@ -67,7 +67,7 @@ impl Ratio {
     /// assert_eq!(Ok(Ratio::from_integer(5)), Ratio::new(5, 1));
     /// ```
     ///
-    /// [Contract](crate::definitions::contracts#ratio64ratiofrom_integer)
+    /// [Contract](crate::definitions::ratio64#ratiofrom_integer)
     #[must_use]
     pub const fn from_integer(num: i64) -> Self {
         Self { num, den: 1 }
@@ -83,7 +83,7 @@ impl Ratio {
     /// assert_eq!(Ok(Ratio::zero()), Ratio::new(0, 1));
     /// ```
     ///
-    /// [Contract](crate::definitions::contracts#ratio64ratiozero)
+    /// [Contract](crate::definitions::ratio64#ratiozero)
     #[must_use]
     pub const fn zero() -> Self {
         Self::from_integer(0)
@@ -99,7 +99,7 @@ impl Ratio {
     /// assert_eq!(Ok(Ratio::one()), Ratio::new(1, 1));
     /// ```
     ///
-    /// [Contract](crate::definitions::contracts#ratio64ratioone)
+    /// [Contract](crate::definitions::ratio64#ratioone)
     #[must_use]
     pub const fn one() -> Self {
         Self::from_integer(1)
@@ -115,7 +115,7 @@ impl Ratio {
     /// assert_eq!(Ratio::new(6, -4).unwrap().num(), -3);
     /// ```
     ///
-    /// [Contract](crate::definitions::contracts#ratio64rationum)
+    /// [Contract](crate::definitions::ratio64#rationum)
     #[must_use]
     pub const fn num(&self) -> i64 {
         self.num
@@ -131,7 +131,7 @@ impl Ratio {
     /// assert_eq!(Ratio::new(6, -4).unwrap().den(), 2);
     /// ```
     ///
-    /// [Contract](crate::definitions::contracts#ratio64ratioden)
+    /// [Contract](crate::definitions::ratio64#ratioden)
     #[must_use]
     pub const fn den(&self) -> i64 {
         self.den
@@ -147,7 +147,7 @@ impl Ratio {
     /// assert_eq!(Ratio::new(-3, 2).unwrap().floor(), -2);
     /// ```
     ///
-    /// [Contract](crate::definitions::contracts#ratio64ratiofloor)
+    /// [Contract](crate::definitions::ratio64#ratiofloor)
     #[must_use]
     pub fn floor(&self) -> i64 {
         div_floor(self.num, self.den)
@@ -163,7 +163,7 @@ impl Ratio {
     /// assert_eq!(Ratio::new(-3, 2).unwrap().ceil(), -1);
     /// ```
     ///
-    /// [Contract](crate::definitions::contracts#ratio64ratioceil)
+    /// [Contract](crate::definitions::ratio64#ratioceil)
     #[must_use]
     pub fn ceil(&self) -> i64 {
         div_ceil(self.num, self.den)
@@ -183,7 +183,7 @@ impl Ratio {
     ///
     /// - [`RatioError::NotFitting`] if a part of the sum does not fit an `i64`.
     ///
-    /// [Contract](crate::definitions::contracts#ratio64ratiochecked_add)
+    /// [Contract](crate::definitions::ratio64#ratiochecked_add)
     pub fn checked_add(&self, other: &Self) -> Result<Self, RatioError> {
         let num = numerator_of_sum(self.num, self.den, other.num, other.den);
         self.over_product_of_denominators(other, num)
@@ -203,7 +203,7 @@ impl Ratio {
     ///
     /// - [`RatioError::NotFitting`] if a part of the difference does not fit an `i64`.
     ///
-    /// [Contract](crate::definitions::contracts#ratio64ratiochecked_sub)
+    /// [Contract](crate::definitions::ratio64#ratiochecked_sub)
     pub fn checked_sub(&self, other: &Self) -> Result<Self, RatioError> {
         let num = numerator_of_difference(self.num, self.den, other.num, other.den);
         self.over_product_of_denominators(other, num)
@@ -223,7 +223,7 @@ impl Ratio {
     ///
     /// - [`RatioError::NotFitting`] if a part of the product does not fit an `i64`.
     ///
-    /// [Contract](crate::definitions::contracts#ratio64ratiochecked_mul)
+    /// [Contract](crate::definitions::ratio64#ratiochecked_mul)
     pub fn checked_mul(&self, other: &Self) -> Result<Self, RatioError> {
         self.over_product_of_denominators(other, product(self.num, other.num))
     }
@@ -243,7 +243,7 @@ impl Ratio {
     /// - [`RatioError::ZeroDenominator`] if `other` is 0;
     /// - [`RatioError::NotFitting`] if a part of the quotient does not fit an `i64`.
     ///
-    /// [Contract](crate::definitions::contracts#ratio64ratiochecked_div)
+    /// [Contract](crate::definitions::ratio64#ratiochecked_div)
     pub fn checked_div(&self, other: &Self) -> Result<Self, RatioError> {
         Self::reduced(product(self.num, other.den), product(other.num, self.den))
     }
@@ -263,7 +263,7 @@ impl Ratio {
     /// - [`RatioError::ZeroDenominator`] if the fraction is 0;
     /// - [`RatioError::NotFitting`] if the numerator is `i64::MIN`.
     ///
-    /// [Contract](crate::definitions::contracts#ratio64ratiochecked_recip)
+    /// [Contract](crate::definitions::ratio64#ratiochecked_recip)
     pub fn checked_recip(&self) -> Result<Self, RatioError> {
         Self::new(self.den, self.num)
     }
@@ -322,7 +322,7 @@ impl Ratio {
 /// assert_eq!(Ok(Ratio::from(5)), Ratio::new(5, 1));
 /// ```
 ///
-/// [Contract](crate::definitions::contracts#from-for-ratio64ratio)
+/// [Contract](crate::definitions::ratio64#from-for-ratio)
 impl From<i64> for Ratio {
     fn from(num: i64) -> Self {
         Self::from_integer(num)
@@ -339,7 +339,7 @@ impl From<i64> for Ratio {
 /// assert_eq!(Ratio::default(), Ratio::zero());
 /// ```
 ///
-/// [Contract](crate::definitions::contracts#default-for-ratio64ratio)
+/// [Contract](crate::definitions::ratio64#default-for-ratio)
 impl Default for Ratio {
     fn default() -> Self {
         Self::zero()
@@ -364,7 +364,7 @@ impl Default for Ratio {
 /// assert_eq!(format!("{:5}", Ratio::new(1, 2).unwrap()), "  1/2");
 /// ```
 ///
-/// [Contract](crate::definitions::contracts#display-for-ratio64ratio)
+/// [Contract](crate::definitions::ratio64#display-for-ratio)
 impl fmt::Display for Ratio {
     fn fmt(&self, f: &mut fmt::Formatter<'_>) -> fmt::Result {
         let Some(places) = f.precision() else {

@@ -12,7 +12,7 @@
 /// assert!(!is_integer("+7"));
 /// ```
 ///
-/// [Contract](crate::definitions::contracts#ratio64integer_wordsis_integer)
+/// [Contract](crate::definitions::ratio64#integer_wordsis_integer)
 #[must_use]
 pub fn is_integer(text: &str) -> bool {
     let digits = without_minus(text.as_bytes());

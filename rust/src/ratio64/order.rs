@@ -15,14 +15,14 @@ use core::cmp::Ordering;
 /// assert_eq!(Ratio::zero().max(Ratio::one()), Ratio::one());
 /// ```
 ///
-/// [Contract](crate::definitions::contracts#ord-for-ratio64ratio)
+/// [Contract](crate::definitions::ratio64#ord-for-ratio)
 impl Ord for Ratio {
     fn cmp(&self, other: &Self) -> Ordering {
         product(self.num(), other.den()).cmp(&product(other.num(), self.den()))
     }
 }
 
-/// [Contract](crate::definitions::contracts#partialord-for-ratio64ratio)
+/// [Contract](crate::definitions::ratio64#partialord-for-ratio)
 impl PartialOrd for Ratio {
     fn partial_cmp(&self, other: &Self) -> Option<Ordering> {
         Some(self.cmp(other))

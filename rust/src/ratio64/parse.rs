@@ -42,7 +42,7 @@ pub enum ParseRatioError {
 /// );
 /// ```
 ///
-/// [Contract](crate::definitions::contracts#from-for-ratio64parseratioerror)
+/// [Contract](crate::definitions::ratio64#from-for-parseratioerror)
 impl From<RatioError> for ParseRatioError {
     fn from(error: RatioError) -> Self {
         match error {
@@ -62,7 +62,7 @@ impl From<RatioError> for ParseRatioError {
 /// assert_eq!(ParseRatioError::NotAFraction.to_string(), "the text is not a fraction");
 /// ```
 ///
-/// [Contract](crate::definitions::contracts#display-for-ratio64parseratioerror)
+/// [Contract](crate::definitions::ratio64#display-for-parseratioerror)
 impl fmt::Display for ParseRatioError {
     fn fmt(&self, f: &mut fmt::Formatter<'_>) -> fmt::Result {
         match self {
@@ -98,7 +98,7 @@ impl Error for ParseRatioError {}
 /// - [`ParseRatioError::ZeroDenominator`] if the denominator is 0;
 /// - [`ParseRatioError::NotFitting`] if a part of the reduced fraction does not fit an `i64`.
 ///
-/// [Contract](crate::definitions::contracts#fromstr-for-ratio64ratio)
+/// [Contract](crate::definitions::ratio64#fromstr-for-ratio)
 impl FromStr for Ratio {
     type Err = ParseRatioError;
 

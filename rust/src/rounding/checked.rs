@@ -18,7 +18,7 @@ use crate::{Fits, NativeInteger};
 /// assert_eq!(div_round(i8::MIN, -1), None);
 /// ```
 ///
-/// [Contract](crate::definitions::contracts#roundingcheckeddiv_round)
+/// [Contract](crate::definitions::applied#roundingcheckeddiv_round)
 #[must_use]
 pub fn div_round<T: Fits>(x: T, y: T) -> Option<T> {
     if x.quotient_fits(&y) {
@@ -40,7 +40,7 @@ pub fn div_round<T: Fits>(x: T, y: T) -> Option<T> {
 /// assert_eq!(div_round_even(5, 0), None);
 /// ```
 ///
-/// [Contract](crate::definitions::contracts#roundingcheckeddiv_round_even)
+/// [Contract](crate::definitions::applied#roundingcheckeddiv_round_even)
 #[must_use]
 pub fn div_round_even<T: Fits>(x: T, y: T) -> Option<T> {
     if x.quotient_fits(&y) {
@@ -72,7 +72,7 @@ pub fn div_round_even<T: Fits>(x: T, y: T) -> Option<T> {
 /// assert_eq!(product_div_round(i64::MAX, 3, 2), None);
 /// ```
 ///
-/// [Contract](crate::definitions::contracts#roundingcheckedproduct_div_round)
+/// [Contract](crate::definitions::applied#roundingcheckedproduct_div_round)
 #[must_use]
 pub fn product_div_round<T: NativeInteger<Magnitude = u64>>(a: T, b: T, d: T) -> Option<T> {
     if is_zero(d) {
@@ -106,7 +106,7 @@ fn wide_product_div_round<T: NativeInteger<Magnitude = u64>>(a: T, b: T, d: T) -
 /// assert_eq!(product_div_round_even(350, 1, 100), Some(4));
 /// ```
 ///
-/// [Contract](crate::definitions::contracts#roundingcheckedproduct_div_round_even)
+/// [Contract](crate::definitions::applied#roundingcheckedproduct_div_round_even)
 #[must_use]
 pub fn product_div_round_even<T: NativeInteger<Magnitude = u64>>(a: T, b: T, d: T) -> Option<T> {
     if is_zero(d) {

@@ -31,7 +31,7 @@ pub enum SharesError {
 /// assert_eq!(SharesError::ZeroWeights.to_string(), "the weights are all 0");
 /// ```
 ///
-/// [Contract](crate::definitions::contracts#display-for-sharesshareserror)
+/// [Contract](crate::definitions::applied#display-for-sharesshareserror)
 impl fmt::Display for SharesError {
     fn fmt(&self, f: &mut fmt::Formatter<'_>) -> fmt::Result {
         match self {

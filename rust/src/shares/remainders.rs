@@ -40,7 +40,7 @@ use crate::shares::{total_to_share, with_sign_of, SharesError};
 ///
 /// If it returns an error, it writes nothing.
 ///
-/// [Contract](crate::definitions::contracts#sharesshares_by_largest_remainder)
+/// [Contract](crate::definitions::applied#sharesshares_by_largest_remainder)
 pub fn shares_by_largest_remainder(
     amount: u64,
     weights: &[u64],
@@ -83,7 +83,7 @@ pub fn shares_by_largest_remainder(
 ///
 /// If it returns an error, it writes nothing.
 ///
-/// [Contract](crate::definitions::contracts#sharessigned_shares_by_largest_remainder)
+/// [Contract](crate::definitions::applied#sharessigned_shares_by_largest_remainder)
 pub fn signed_shares_by_largest_remainder(
     amount: i64,
     weights: &[u64],

@@ -25,7 +25,7 @@ impl Ratio {
     ///
     /// If the limit is not positive.
     ///
-    /// [Contract](crate::definitions::contracts#ratio64ratiolimit_denominator)
+    /// [Contract](crate::definitions::ratio64#ratiolimit_denominator)
     #[track_caller]
     #[must_use]
     pub fn limit_denominator(&self, max: i64) -> Self {
@@ -64,7 +64,7 @@ impl Ratio {
     ///
     /// If the limit is not positive.
     ///
-    /// [Contract](crate::definitions::contracts#ratio64ratiolimit_parts)
+    /// [Contract](crate::definitions::ratio64#ratiolimit_parts)
     #[track_caller]
     #[must_use]
     pub fn limit_parts(&self, max: i64) -> Self {

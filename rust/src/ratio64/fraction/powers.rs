@@ -21,7 +21,7 @@ impl Ratio {
     /// - [`RatioError::ZeroDenominator`] if the fraction is 0 and the exponent is negative;
     /// - [`RatioError::NotFitting`] if a part of the power does not fit an `i64`.
     ///
-    /// [Contract](crate::definitions::contracts#ratio64ratiochecked_pow)
+    /// [Contract](crate::definitions::ratio64#ratiochecked_pow)
     pub fn checked_pow(&self, exponent: i32) -> Result<Self, RatioError> {
         if exponent < 0 {
             self.checked_recip()?.power(exponent.unsigned_abs())

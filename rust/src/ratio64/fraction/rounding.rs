@@ -19,7 +19,7 @@ impl Ratio {
     /// assert!(!Ratio::new(1, 2).unwrap().is_integer());
     /// ```
     ///
-    /// [Contract](crate::definitions::contracts#ratio64ratiois_integer)
+    /// [Contract](crate::definitions::ratio64#ratiois_integer)
     #[must_use]
     pub const fn is_integer(&self) -> bool {
         self.den == 1
@@ -35,7 +35,7 @@ impl Ratio {
     /// assert_eq!(Ratio::new(-3, 2).unwrap().trunc(), -1);
     /// ```
     ///
-    /// [Contract](crate::definitions::contracts#ratio64ratiotrunc)
+    /// [Contract](crate::definitions::ratio64#ratiotrunc)
     #[must_use]
     pub fn trunc(&self) -> i64 {
         let (whole, _) = div_rem(self.num, self.den);
@@ -53,7 +53,7 @@ impl Ratio {
     /// assert_eq!(Ratio::new(-3, 2).unwrap().round(), -2);
     /// ```
     ///
-    /// [Contract](crate::definitions::contracts#ratio64ratioround)
+    /// [Contract](crate::definitions::ratio64#ratioround)
     #[must_use]
     pub fn round(&self) -> i64 {
         nearest(self.num, self.den)
@@ -71,7 +71,7 @@ impl Ratio {
     /// assert_eq!(Ratio::new(-3, 2).unwrap().round_even(), -2);
     /// ```
     ///
-    /// [Contract](crate::definitions::contracts#ratio64ratioround_even)
+    /// [Contract](crate::definitions::ratio64#ratioround_even)
     #[must_use]
     pub fn round_even(&self) -> i64 {
         nearest_even(self.num, self.den)
@@ -87,7 +87,7 @@ impl Ratio {
     /// assert_eq!(Ok(Ratio::new(-3, 2).unwrap().fract()), Ratio::new(-1, 2));
     /// ```
     ///
-    /// [Contract](crate::definitions::contracts#ratio64ratiofract)
+    /// [Contract](crate::definitions::ratio64#ratiofract)
     #[must_use]
     pub fn fract(&self) -> Self {
         let (_, rest) = div_rem(self.num, self.den);

@@ -14,7 +14,7 @@ impl Ratio {
     /// assert!(Ratio::zero().is_zero());
     /// ```
     ///
-    /// [Contract](crate::definitions::contracts#ratio64ratiois_zero)
+    /// [Contract](crate::definitions::ratio64#ratiois_zero)
     #[must_use]
     pub const fn is_zero(&self) -> bool {
         self.num == 0
@@ -31,7 +31,7 @@ impl Ratio {
     /// assert!(!Ratio::zero().is_positive());
     /// ```
     ///
-    /// [Contract](crate::definitions::contracts#ratio64ratiois_positive)
+    /// [Contract](crate::definitions::ratio64#ratiois_positive)
     #[must_use]
     pub const fn is_positive(&self) -> bool {
         self.num > 0
@@ -48,7 +48,7 @@ impl Ratio {
     /// assert!(!Ratio::zero().is_negative());
     /// ```
     ///
-    /// [Contract](crate::definitions::contracts#ratio64ratiois_negative)
+    /// [Contract](crate::definitions::ratio64#ratiois_negative)
     #[must_use]
     pub const fn is_negative(&self) -> bool {
         self.num < 0
@@ -64,7 +64,7 @@ impl Ratio {
     /// assert_eq!(Ratio::new(-3, 2).unwrap().signum(), Ratio::from(-1));
     /// ```
     ///
-    /// [Contract](crate::definitions::contracts#ratio64ratiosignum)
+    /// [Contract](crate::definitions::ratio64#ratiosignum)
     #[must_use]
     pub fn signum(&self) -> Self {
         Self::from(self.num.signum())
@@ -84,7 +84,7 @@ impl Ratio {
     ///
     /// - [`RatioError::NotFitting`] if the numerator is `i64::MIN`.
     ///
-    /// [Contract](crate::definitions::contracts#ratio64ratiochecked_neg)
+    /// [Contract](crate::definitions::ratio64#ratiochecked_neg)
     pub fn checked_neg(&self) -> Result<Self, RatioError> {
         match self.num.checked_neg() {
             Some(num) => Ok(Self { num, den: self.den }),
@@ -106,7 +106,7 @@ impl Ratio {
     ///
     /// - [`RatioError::NotFitting`] if the numerator is `i64::MIN`.
     ///
-    /// [Contract](crate::definitions::contracts#ratio64ratiochecked_abs)
+    /// [Contract](crate::definitions::ratio64#ratiochecked_abs)
     pub fn checked_abs(&self) -> Result<Self, RatioError> {
         match self.num.checked_abs() {
             Some(num) => Ok(Self { num, den: self.den }),

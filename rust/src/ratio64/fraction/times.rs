@@ -22,7 +22,7 @@ impl Ratio {
     /// assert_eq!(Ratio::new(2, 3).unwrap().floor_times(i64::MAX), Some(6148914691236517204));
     /// ```
     ///
-    /// [Contract](crate::definitions::contracts#ratio64ratiofloor_times)
+    /// [Contract](crate::definitions::ratio64#ratiofloor_times)
     #[must_use]
     pub fn floor_times(&self, n: i64) -> Option<i64> {
         narrowed(self.wide_floor_times(n))
@@ -38,7 +38,7 @@ impl Ratio {
     /// assert_eq!(Ratio::new(2, 3).unwrap().ceil_times(100), Some(67));
     /// ```
     ///
-    /// [Contract](crate::definitions::contracts#ratio64ratioceil_times)
+    /// [Contract](crate::definitions::ratio64#ratioceil_times)
     #[must_use]
     pub fn ceil_times(&self, n: i64) -> Option<i64> {
         narrowed(self.wide_ceil_times(n))
@@ -56,7 +56,7 @@ impl Ratio {
     /// assert_eq!(Ratio::new(1, 2).unwrap().round_times(-3), Some(-2));
     /// ```
     ///
-    /// [Contract](crate::definitions::contracts#ratio64ratioround_times)
+    /// [Contract](crate::definitions::ratio64#ratioround_times)
     #[must_use]
     pub fn round_times(&self, n: i64) -> Option<i64> {
         narrowed(self.wide_round_times(n))
@@ -74,7 +74,7 @@ impl Ratio {
     /// assert_eq!(Ratio::new(1, 2).unwrap().round_even_times(-3), Some(-2));
     /// ```
     ///
-    /// [Contract](crate::definitions::contracts#ratio64ratioround_even_times)
+    /// [Contract](crate::definitions::ratio64#ratioround_even_times)
     #[must_use]
     pub fn round_even_times(&self, n: i64) -> Option<i64> {
         narrowed(self.wide_round_even_times(n))
@@ -95,7 +95,7 @@ impl Ratio {
     /// - [`RatioError::ZeroDenominator`] if `d` is 0;
     /// - [`RatioError::NotFitting`] if a part of the product does not fit an `i64`.
     ///
-    /// [Contract](crate::definitions::contracts#ratio64ratiochecked_times)
+    /// [Contract](crate::definitions::ratio64#ratiochecked_times)
     pub fn checked_times(&self, n: i64, d: i64) -> Result<Self, RatioError> {
         Self::reduced(product(self.num, n), product(d, self.den))
     }
@@ -119,7 +119,7 @@ impl Ratio {
     ///
     /// - [`RatioError::NotFitting`] if a part of the result does not fit an `i64`.
     ///
-    /// [Contract](crate::definitions::contracts#ratio64ratiofloor_to)
+    /// [Contract](crate::definitions::ratio64#ratiofloor_to)
     #[track_caller]
     pub fn floor_to(&self, parts: i64) -> Result<Self, RatioError> {
         check(parts > 0, "the number of parts is not positive");
@@ -145,7 +145,7 @@ impl Ratio {
     ///
     /// - [`RatioError::NotFitting`] if a part of the result does not fit an `i64`.
     ///
-    /// [Contract](crate::definitions::contracts#ratio64ratioceil_to)
+    /// [Contract](crate::definitions::ratio64#ratioceil_to)
     #[track_caller]
     pub fn ceil_to(&self, parts: i64) -> Result<Self, RatioError> {
         check(parts > 0, "the number of parts is not positive");
@@ -173,7 +173,7 @@ impl Ratio {
     ///
     /// - [`RatioError::NotFitting`] if a part of the result does not fit an `i64`.
     ///
-    /// [Contract](crate::definitions::contracts#ratio64ratioround_to)
+    /// [Contract](crate::definitions::ratio64#ratioround_to)
     #[track_caller]
     pub fn round_to(&self, parts: i64) -> Result<Self, RatioError> {
         check(parts > 0, "the number of parts is not positive");
@@ -200,7 +200,7 @@ impl Ratio {
     ///
     /// - [`RatioError::NotFitting`] if a part of the result does not fit an `i64`.
     ///
-    /// [Contract](crate::definitions::contracts#ratio64ratioround_even_to)
+    /// [Contract](crate::definitions::ratio64#ratioround_even_to)
     #[track_caller]
     pub fn round_even_to(&self, parts: i64) -> Result<Self, RatioError> {
         check(parts > 0, "the number of parts is not positive");
