@@ -8,7 +8,7 @@ pub use Rattle.applied.proofs.ListDivisors.{gcd_of_exists, gcd_of_fits_exactly, 
 pub use Rattle.applied.proofs.FirstMultiples.{lcm_of_is_first_common_multiple}
 pub use Rattle.applied.proofs.FallingFactorials.{falling_by_coefficient, falling_formula}
 pub use Rattle.applied.proofs.PowersAndRoots.{logarithm_is_only}
-pub use Rattle.applied.proofs.NearestQuotients.{nearest_even_quotient_is_only, nearest_quotient_exists, nearest_quotient_fits_exactly, nearest_quotient_is_only, no_integer_is_nearer}
+pub use Rattle.num_integer.proofs.Laws.{nearest_even_quotient_is_only, nearest_quotient_exists, nearest_quotient_fits_exactly, nearest_quotient_is_only, no_integer_is_nearer}
 
 -- ---- pages and parts
 

@@ -9,7 +9,6 @@ pub mod ListDivisors
 pub mod SignedSums
 pub mod WeightedShares
 pub mod LargestRemainders
-pub mod NearestQuotients
 pub mod NearestAnswers
 pub mod FallingFactorials
 pub mod FirstMultiples

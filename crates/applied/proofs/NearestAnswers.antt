@@ -1,15 +1,8 @@
 -- Calls that return a quotient rounded to the nearest integer, if it fits. Each fact is of both kinds.
-use Rattle.applied.proofs.Common.{◌≡◌, ◌≢◌, ◌↔◌, ◌≤ℤ◌, ◌<ℤ◌, ◌*ℤ◌, IsSome, beq, floored, AnswersQuotient, Bool, not, signed, ℕ, ℤ, pos, Option, IsTrue, linear, arith, refl, answer_only, answers_as, answers_only, part_fits, some_in_domain, AnswersWhere, FitsWith, IsFloored, IsQuotient, EachFits, IsRange}
-use Rattle.applied.proofs.NearestQuotients.{IsRounding, quotient_by_magnitudes, same_fit}
+use Rattle.applied.proofs.Common.{◌≡◌, ◌≢◌, ◌≤ℤ◌, ◌<ℤ◌, ◌*ℤ◌, IsSome, beq, AnswersQuotient, Bool, not, signed, ℕ, ℤ, pos, Option, linear, arith, refl, answer_only, answers_as, answers_only, part_fits, some_in_domain, AnswersWhere, FitsWith, IsQuotient, EachFits, IsRange}
+use Rattle.num_integer.proofs.NearestQuotients.{IsRounding, quotient_by_magnitudes}
 
 module _ {Kind : ℤ → ℤ → ℤ → ℤ → Type 0} (rounding : IsRounding Kind) where
-  -- the test whether the quotient rounded down fits is that whether the nearest one does
-  pub test_of_nearest : {fits : ℤ → Type 0} {low high n d : ℤ} {test : Bool} → IsRange fits low high → fits n → fits d → IsTrue test ↔ ((d ≢ pos 0) × EachFits fits (IsQuotient IsFloored n d))
-      → IsTrue test ↔ ((d ≢ pos 0) × EachFits fits (IsQuotient Kind n d))
-  test_of_nearest range n_fits d_fits test =
-      let same = same_fit range n_fits d_fits floored rounding.kind in
-      (λ t. let domain = test.0 t in (domain.0, same.0 domain.1), λ domain. test.1 (domain.0, same.1 domain.1))
-
   -- a nearest quotient that fits is a result in the domain, also if the number n is given as m
   pub nearest_answer : {fits : ℤ → Type 0} {n m d q : ℤ} → n ≡ m → d ≢ pos 0 → fits q → IsQuotient Kind n d q → ((d ≢ pos 0) × EachFits fits (IsQuotient Kind m d)) × (fits q × IsQuotient Kind m d q)
   nearest_answer {fits} {n} {m} {d} {q} same nonzero q_fits h =

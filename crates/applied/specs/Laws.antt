@@ -1,9 +1,8 @@
 -- The laws of the calls. Each is proved in proofs/Laws.antt, by a lemma of its name in small letters.
-use Rattle.std.specs.Prelude.{◌≡◌, ◌≢◌, ◌⊎◌, ◌↔◌, ◌<◌, ◌≤◌, ◌≤ℤ◌, ◌<ℤ◌, ◌+ℤ◌, ◌-ℤ◌, ◌*ℤ◌, ℕ, ℤ, pos, List, length, ◌-◌, ◌*◌, unsigned_abs}
+use Rattle.std.specs.Prelude.{◌≡◌, ◌≢◌, ◌↔◌, ◌<◌, ◌≤◌, ◌≤ℤ◌, ◌<ℤ◌, ◌+ℤ◌, ◌-ℤ◌, ◌*ℤ◌, ℕ, ℤ, pos, List, length, ◌-◌, ◌*◌}
 use Rattle.std.specs.List.{All, AllWithin}
 use Rattle.modular.specs.declared.common_solutions.CommonSolution.{CommonSolution}
 use Rattle.num_integer.specs.Coefficient.{coefficient, factorial}
-use Rattle.num_integer.specs.Division.{IsFloored, IsQuotient}
 use Rattle.num_integer.specs.Divisors.{Divides}
 use Rattle.num_integer.specs.Least.{IsLeastFrom}
 use Rattle.num_integer.specs.Only.{IsOnly}
@@ -15,7 +14,6 @@ use Rattle.applied.specs.Ranking.{IsChoice, IsChoiceOfRank, rank_of}
 use Rattle.applied.specs.ReducedPairs.{IsReducedPair}
 use Rattle.applied.specs.Counting.{falling}
 use Rattle.applied.specs.Powers.{IsLogarithm}
-use Rattle.applied.specs.Rounding.{IsNearest, IsNearestEven}
 use Rattle.applied.specs.Schedules.{IsCountOfTimes, IsLeastTime}
 use Rattle.applied.specs.Shares.{AreSharesByRemainder}
 
@@ -127,31 +125,6 @@ LcmOfIsOnly = (numbers : List ℤ) (l : ℤ) → IsLeastCommonMultipleOf numbers
 abbrev pub LcmOfIsFirstCommonMultiple : Type 0
 LcmOfIsFirstCommonMultiple = (numbers : List ℤ) (l : ℤ) → All (λ x. x ≢ pos 0) numbers
     → IsLeastCommonMultipleOf numbers l ↔ IsLeastFrom (pos 1) (λ u. All (λ x. Divides x u) numbers) l
-
--- ---- nearest quotients
-
--- For each divisor except 0, there is a nearest quotient of both kinds.
-abbrev pub NearestQuotientExists : Type 0
-NearestQuotientExists = (n d : ℤ) → d ≢ pos 0 → ((q : ℤ) × IsQuotient IsNearest n d q) × ((q : ℤ) × IsQuotient IsNearestEven n d q)
-
--- No integer times the divisor is nearer to the number.
-abbrev pub NoIntegerIsNearer : Type 0
-NoIntegerIsNearer = (n d q : ℤ) → (IsQuotient IsNearest n d q ⊎ IsQuotient IsNearestEven n d q)
-    → (m : ℤ) → unsigned_abs (n -ℤ q *ℤ d) ≤ unsigned_abs (n -ℤ m *ℤ d)
-
--- Two numbers have at most one nearest quotient, if a half is rounded away from zero.
-abbrev pub NearestQuotientIsOnly : Type 0
-NearestQuotientIsOnly = (n d q : ℤ) → IsQuotient IsNearest n d q → IsOnly (IsQuotient IsNearest n d) q
-
--- Two numbers have at most one nearest quotient, if a half is rounded to the even integer.
-abbrev pub NearestEvenQuotientIsOnly : Type 0
-NearestEvenQuotientIsOnly = (n d q : ℤ) → IsQuotient IsNearestEven n d q → IsOnly (IsQuotient IsNearestEven n d) q
-
--- A nearest quotient of two numbers of a type fits exactly if the quotient rounded down does.
-abbrev pub NearestQuotientFitsExactly : (ℤ → Type 0) → Type 0
-NearestQuotientFitsExactly fits = (low high n d : ℤ) → IsRange fits low high → fits n → fits d
-    → (EachFits fits (IsQuotient IsFloored n d) ↔ EachFits fits (IsQuotient IsNearest n d))
-    × (EachFits fits (IsQuotient IsFloored n d) ↔ EachFits fits (IsQuotient IsNearestEven n d))
 
 -- ---- logarithms and factorials
 

@@ -8,7 +8,7 @@ pub mod ReducedPairs
 pub mod Shares
 pub mod Totals
 pub mod SharesError
-pub mod Rounding
+pub use Rattle.num_integer.specs.Rounding
 pub mod Powers
 pub mod Counting
 pub mod Laws

@@ -16,6 +16,7 @@ pub use Rattle.integer_roots.proofs.OnlyAnswers.{average_ceil_is_only, average_f
 pub use Rattle.num_integer.proofs.DivisorSums.{sum_of_divisors_ends_at_the_number, sum_of_divisors_exists, sum_of_divisors_is_only}
 pub use Rattle.num_integer.proofs.Powers.{exponents_add}
 pub use Rattle.num_integer.proofs.Multiples.{gcd_is_at_most_each_bound, lcm_is_first_common_multiple}
+pub use Rattle.num_integer.proofs.NearestQuotients.{nearest_even_quotient_is_only, nearest_quotient_exists, nearest_quotient_fits_exactly, nearest_quotient_is_only, no_integer_is_nearer}
 pub use Rattle.num_integer.proofs.Multinomials.{is_multinomial as multinomial_formula, multinomial_ignores_order}
 pub use Rattle.num_integer.proofs.Pascal.{coefficient_mirror, divides_factorials as factorial_formula, none_above as coefficient_above_row}
 pub use Rattle.num_integer.proofs.RowSteps.{row_is_greatest_in_middle, row_is_palindrome, row_length}

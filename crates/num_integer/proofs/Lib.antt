@@ -8,5 +8,6 @@ pub mod FlooredProducts
 pub mod Multiples
 pub mod Powers
 pub mod DivisorSums
+pub mod NearestQuotients
 pub mod Laws
 pub mod ForCallers

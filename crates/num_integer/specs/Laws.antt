@@ -1,5 +1,5 @@
 -- The laws of the definitions. Each is proved by a lemma of its name in small letters, which proofs/Laws.antt has or passes on.
-use Rattle.std.specs.Prelude.{◌≡◌, ◌≢◌, ◌⊎◌, ◌↔◌, ◌+◌, ◌-◌, ◌*◌, ◌<◌, ◌≤◌, ◌+ℤ◌, ◌*ℤ◌, ◌≤ℤ◌, ℕ, ℤ, pos, neg_ℤ, unsigned_abs, List, map, length, reverse}
+use Rattle.std.specs.Prelude.{◌≡◌, ◌≢◌, ◌⊎◌, ◌↔◌, ◌+◌, ◌-◌, ◌*◌, ◌<◌, ◌≤◌, ◌+ℤ◌, ◌-ℤ◌, ◌*ℤ◌, ◌≤ℤ◌, ℕ, ℤ, pos, neg_ℤ, unsigned_abs, List, map, length, reverse}
 use Rattle.std.specs.Int.{int_pow}
 use Rattle.std.specs.List.{All}
 use Rattle.std.specs.List.Sorted.{IsPermutation}
@@ -16,6 +16,7 @@ use Rattle.integer_roots.specs.SquareRuns.{AreSquareRootIterations}
 use Rattle.num_integer.specs.Coefficient.{coefficient, factorial}
 use Rattle.num_integer.specs.DivisorSums.{IsSumOfDivisorsTo}
 use Rattle.num_integer.specs.Multinomial.{IsMultinomial, coefficients_from, product}
+use Rattle.num_integer.specs.Rounding.{IsNearest, IsNearestEven}
 use Rattle.num_integer.specs.Row.{middle_of, row_of}
 
 -- ---- division and multiples
@@ -49,6 +50,31 @@ FlooredPartsAddUp = (n d q r : ℤ) → IsQuotient IsFloored n d q → IsRemaind
 -- the next multiple of a divisor is the previous multiple of its negation
 abbrev pub NegationTurnsMultiples : Type 0
 NegationTurnsMultiples = (n d m : ℤ) → IsMultiple IsCeiled n (neg_ℤ d) m ↔ IsMultiple IsFloored n d m
+
+-- ---- nearest quotients
+
+-- For each divisor except 0, there is a nearest quotient of both kinds.
+abbrev pub NearestQuotientExists : Type 0
+NearestQuotientExists = (n d : ℤ) → d ≢ pos 0 → ((q : ℤ) × IsQuotient IsNearest n d q) × ((q : ℤ) × IsQuotient IsNearestEven n d q)
+
+-- No integer times the divisor is nearer to the number.
+abbrev pub NoIntegerIsNearer : Type 0
+NoIntegerIsNearer = (n d q : ℤ) → (IsQuotient IsNearest n d q ⊎ IsQuotient IsNearestEven n d q)
+    → (m : ℤ) → unsigned_abs (n -ℤ q *ℤ d) ≤ unsigned_abs (n -ℤ m *ℤ d)
+
+-- Two numbers have at most one nearest quotient, if a half is rounded away from zero.
+abbrev pub NearestQuotientIsOnly : Type 0
+NearestQuotientIsOnly = (n d q : ℤ) → IsQuotient IsNearest n d q → IsOnly (IsQuotient IsNearest n d) q
+
+-- Two numbers have at most one nearest quotient, if a half is rounded to the even integer.
+abbrev pub NearestEvenQuotientIsOnly : Type 0
+NearestEvenQuotientIsOnly = (n d q : ℤ) → IsQuotient IsNearestEven n d q → IsOnly (IsQuotient IsNearestEven n d) q
+
+-- A nearest quotient of two numbers of a type fits exactly if the quotient rounded down does.
+abbrev pub NearestQuotientFitsExactly : (ℤ → Type 0) → Type 0
+NearestQuotientFitsExactly fits = (low high n d : ℤ) → IsRange fits low high → fits n → fits d
+    → (EachFits fits (IsQuotient IsFloored n d) ↔ EachFits fits (IsQuotient IsNearest n d))
+    × (EachFits fits (IsQuotient IsFloored n d) ↔ EachFits fits (IsQuotient IsNearestEven n d))
 
 -- ---- common divisors and multiples
 

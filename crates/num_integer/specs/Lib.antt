@@ -23,3 +23,4 @@ pub mod Multinomial
 pub mod Row
 pub mod Parts
 pub mod DivisorSums
+pub mod Rounding

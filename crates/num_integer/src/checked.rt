@@ -5,6 +5,7 @@
 mod coefficients;
 mod division;
 mod divisors;
+mod nearest;
 mod operators;
 mod roots;
 mod scaling;
@@ -14,6 +15,7 @@ pub use division::{
     div_ceil, div_floor, div_mod_floor, div_rem, mod_floor, next_multiple_of, prev_multiple_of,
 };
 pub use divisors::{extended_gcd, extended_gcd_lcm, gcd, gcd_lcm, lcm};
+pub use nearest::{div_round, div_round_even};
 pub use operators::{dec, difference, inc, negated, product, sum};
 pub use roots::{nth_root, sqrt};
 pub use scaling::product_div_mod_floor;

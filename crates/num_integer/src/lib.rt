@@ -6,6 +6,7 @@ pub mod checked;
 mod coefficients;
 pub mod counted;
 mod fits_trait;
+mod nearest;
 mod rows;
 pub mod sign_magnitude;
 
@@ -16,4 +17,5 @@ pub use integer_core::{
     fitting, gcd, gcd_lcm, guards, lcm, mod_floor, narrowing, operators, padded,
 };
 pub use integer_roots::{Average, Roots, average_ceil, average_floor, cbrt, nth_root, sqrt};
+pub use nearest::{div_round, div_round_even};
 pub use rows::IterBinomial;

@@ -21,13 +21,13 @@ pub use Rattle.std.specs.Prelude.{Err, FitsSigned, IfErr, IfOk, IsOk, IsTrue, Li
 pub use Rattle.std.specs.Result.{result_ok}
 pub use Rattle.std.specs.Str.Parse.{AllDigits, IsNumeral, digits_value, starts_with_minus}
 pub use Rattle.std.specs.declared.cmp.Ordering.TheVariants.{Equal, Greater, Less}
-pub use Rattle.num_integer.proofs.ForCallers.{Divides-refl, Divides-sum, Divides-trans, LiesWithin, cancel, ceiled_by_range, ceiled_remainder_range, comm, coprime_divides, divided_by_gcd, divisor_at_most, divisor_size, even_or_next, exact_quotient, expand, factor_positive, floored_by_range, floored_range, from_not_less, from_test, gcd-divisor, gcd-nonzero, gcd-positive, gcd-swap, int_pow-suc, int_pow-zero, linear, mul-neg, mul-one, multiples_apart, neg-mul, not_both_even, one_divides, power_of_zero, power_size, product_from_zero, products, rest_is, sizes, within_fits}
+pub use Rattle.num_integer.proofs.ForCallers.{Divides-refl, Divides-sum, Divides-trans, LiesWithin, cancel, ceiled_by_range, ceiled_remainder_range, comm, coprime_divides, divided_by_gcd, divisor_at_most, divisor_size, exact_quotient, expand, factor_positive, floored_by_range, floored_range, from_not_less, from_test, gcd-divisor, gcd-nonzero, gcd-positive, gcd-swap, int_pow-suc, int_pow-zero, linear, mul-neg, mul-one, multiples_apart, neg-mul, one_divides, power_of_zero, power_size, product_from_zero, products, rest_is, sizes}
 pub use Rattle.num_integer.proofs.Laws.{division_is_only, gcd_exists}
 pub use Rattle.num_integer.specs.Checked.{AnswersWhere}
-pub use Rattle.num_integer.specs.Division.{IsCeiled, IsDivision, IsFloored, IsQuotient, IsTruncated}
-pub use Rattle.num_integer.specs.Divisors.{Divides, IsEven, IsGreatestCommonDivisor}
+pub use Rattle.num_integer.specs.Division.{IsCeiled, IsDivision, IsFloored, IsQuotient}
+pub use Rattle.num_integer.specs.Divisors.{Divides, IsGreatestCommonDivisor}
 pub use Rattle.num_integer.specs.Only.{IsOnly}
-pub use Rattle.num_integer.specs.Range.{EachFits, IsRange}
+pub use Rattle.num_integer.specs.Range.{EachFits}
 pub use Rattle.ratio64.specs.Decimal.{SpellsDecimal, decimal_text, places_of, units_of}
 unfoldable pub use Rattle.ratio64.specs.Decimal.{last_digits}
 pub use Rattle.ratio64.specs.Fraction.{AreEqual, IsExact, IsFraction, IsOutsideI64, IsReduced, fraction_cmp}

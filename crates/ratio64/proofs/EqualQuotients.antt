@@ -60,14 +60,20 @@ magnitudes s t u v e = sym (unsigned_abs-mul s t) ∙ ap unsigned_abs e ∙ unsi
 -- Equal fractions, rounded to the nearest integer, are the same integer.
 pub equal_rounded : {a b c d r : ℤ} → pos 0 <ℤ b → pos 0 <ℤ d → AreEqual a b c d → IsRounded a b r → IsRounded c d r
 equal_rounded {a} {b} {c} {d} {r} b_up d_up equal h =
-    let rest = magnitudes (a -ℤ r *ℤ b) d (c -ℤ r *ℤ d) b (rests r equal) in
+    let own = h.division in
+    let rest = magnitudes _ d (c -ℤ r *ℤ d) b (rw (← rest_is own.division) at (rests r equal)) in
     let products = magnitudes (r *ℤ b) d (r *ℤ d) b (simp expand) in
+    let near = (halves _ _ _ _ (omega (arith, sizes)) rest).0 own.nearest in
     record {
-      nearest = (halves _ _ _ _ (omega (arith, sizes)) rest).0 h.nearest;
-      tie = λ half.
-          let least = (halves (unsigned_abs d) (unsigned_abs b) _ _ (omega (arith, sizes)) (sym rest)).1 (omega (arith, half)) in
-          let away = h.tie (omega (arith, h.nearest, least)) in
-          natural_strict_order (unsigned_abs b) (unsigned_abs d) _ _ _ _ (omega (arith, sizes)) (magnitudes a d c b equal.cross) products away;
+      remainder = c -ℤ r *ℤ d;
+      division = record {
+        division = record { equation = omega (arith, linear); small = omega (arith, sizes) };
+        nearest = near;
+        tie = λ half.
+            let least = (halves (unsigned_abs d) (unsigned_abs b) _ _ (omega (arith, sizes)) (sym rest)).1 (omega (arith, half)) in
+            let away = own.tie (omega (arith, own.nearest, least)) in
+            natural_strict_order (unsigned_abs b) (unsigned_abs d) _ _ _ _ (omega (arith, sizes)) (magnitudes a d c b equal.cross) products away;
+      };
     }
 
 -- ---- in parts

@@ -1,5 +1,6 @@
 -- Quotients by a positive number, and the nearest integer.
-use Rattle.ratio64.proofs.Common.{◌≡◌, ◌⊎◌, ◌<◌, ◌≤◌, ◌*◌, ◌^◌, ◌<ℤ◌, ◌≤ℤ◌, ◌+ℤ◌, ◌-ℤ◌, ◌*ℤ◌, ℤ, pos, neg_ℤ, unsigned_abs, FitsSigned, MatchOption, Option, Width, w64, w128, of_z, to_z, ap, arith, inl, inr, by_lt_z, ints, LiesWithin, expand, linear, multiples_apart, product_from_zero, products, sizes, even_or_next, not_both_even, AnswersWhere, IsDivision, IsFloored, IsQuotient, IsTruncated, IsEven, IsOnly, EachFits, IsRange, within_fits, RoundedEvenIsOnly, RoundedIsOnly, IsRounded, IsRoundedEven}
+use Rattle.ratio64.proofs.Common.{◌≡◌, ◌<◌, ◌≤◌, ◌*◌, ◌^◌, ◌<ℤ◌, ◌-ℤ◌, ◌*ℤ◌, ℤ, pos, neg_ℤ, unsigned_abs, FitsSigned, MatchOption, Option, Width, w64, w128, of_z, to_z, ap, arith, inl, inr, by_lt_z, ints, LiesWithin, expand, linear, multiples_apart, product_from_zero, products, sizes, AnswersWhere, IsDivision, IsQuotient, IsOnly, EachFits, RoundedEvenIsOnly, RoundedIsOnly, IsRounded, IsRoundedEven, rest_is, subst}
+use Rattle.num_integer.proofs.Laws.{nearest_even_quotient_is_only, nearest_quotient_is_only}
 
 -- ---- a quotient by a positive number fits if the dividend does
 
@@ -21,9 +22,6 @@ module _ {n d q r : ℤ} (up : pos 0 <ℤ d) (h : IsDivision n d q r) where
   pub quotient_fits : (w : Width) → FitsSigned w n → FitsSigned w q
   quotient_fits w fits = between_fits w n q fits quotient_within
 
-  pub quotient_in_range : {fits : ℤ → Type 0} {low high : ℤ} → IsRange fits low high → fits n → fits q
-  quotient_in_range range n_fits = within_fits range n_fits quotient_within
-
   pub quotient_size : unsigned_abs q ≤ unsigned_abs n
   quotient_size = omega (arith, sizes, quotient_within)
 
@@ -34,49 +32,17 @@ module _ {n d q r : ℤ} (up : pos 0 <ℤ d) (h : IsDivision n d q r) where
 
 -- it is the quotient of a division
 pub rounded_division : {n d r : ℤ} → pos 0 <ℤ d → IsRounded n d r → IsDivision n d r (n -ℤ r *ℤ d)
-rounded_division {n} {d} {r} up h = let near = h.nearest in record { equation = omega (arith, linear); small = omega (arith, sizes) }
-
--- if half or more is left, it is the next integer away from 0
-pub rounded_above : {n d q r : ℤ} → pos 0 <ℤ d → IsTruncated n d q r → pos 0 ≤ℤ n → d ≤ℤ (r +ℤ r) → IsRounded n d (q +ℤ pos 1)
-rounded_above {n} {d} {q} {r} up h n_up large = grind (arith, expand, sizes)
-
-pub rounded_below : {n d q r : ℤ} → pos 0 <ℤ d → IsTruncated n d q r → n <ℤ pos 0 → (r +ℤ r +ℤ d) ≤ℤ pos 0 → IsRounded n d (q -ℤ pos 1)
-rounded_below {n} {d} {q} {r} up h n_down large = grind (arith, expand, products, sizes)
-
--- and only one number is it
-rounded_apart : {n d r s : ℤ} → pos 0 <ℤ d → IsRounded n d r → IsRounded n d s → ¬ (r <ℤ s)
-rounded_apart {n} {d} {r} {s} up x y less =
-    let apart = multiples_apart r s d up less in
-    grind (arith, sizes)
-
-pub only_rounded : RoundedIsOnly
-only_rounded n d r up x s y = let least = rounded_apart up x y in let most = rounded_apart up y x in grind (arith, linear)
-
--- ---- the nearest number, a tie to the even one
+rounded_division {n} {d} {r} up h = let rest = h.division.division in subst (IsDivision n d r) (rest_is rest) rest
 
 pub rounded_even_division : {n d r : ℤ} → pos 0 <ℤ d → IsRoundedEven n d r → IsDivision n d r (n -ℤ r *ℤ d)
-rounded_even_division {n} {d} {r} up h = let near = h.nearest in record { equation = omega (arith, linear); small = omega (arith, sizes) }
+rounded_even_division {n} {d} {r} up h = let rest = h.division.division in subst (IsDivision n d r) (rest_is rest) rest
 
--- the quotient rounded down, if less than half is left, or half and it is even
-pub rounded_even_below : {n d q r : ℤ} → pos 0 <ℤ d → IsFloored n d q r → ((r +ℤ r) <ℤ d) ⊎ ((r +ℤ r ≡ d) × IsEven q) → IsRoundedEven n d q
-rounded_even_below {n} {d} {q} {r} up h (inl less) = grind (arith, linear)
-rounded_even_below {n} {d} {q} {r} up h (inr (half, even)) = grind arith
-
--- otherwise the next one
-pub rounded_even_above : {n d q r : ℤ} → pos 0 <ℤ d → IsFloored n d q r → d ≤ℤ (r +ℤ r) → (r +ℤ r ≡ d → ¬ (IsEven q)) → IsRoundedEven n d (q +ℤ pos 1)
-rounded_even_above {n} {d} {q} {r} up h large odd = grind (arith, products, sizes, even_or_next)
-
-rounded_even_apart : {n d r s : ℤ} → pos 0 <ℤ d → IsRoundedEven n d r → IsRoundedEven n d s → ¬ (r <ℤ s)
-rounded_even_apart {n} {d} {r} {s} up x y less =
-    let apart = multiples_apart r s d up less in
-    let halves : (2 * unsigned_abs (n -ℤ r *ℤ d) ≡ unsigned_abs d) × (2 * unsigned_abs (n -ℤ s *ℤ d) ≡ unsigned_abs d) = (omega (arith, sizes), omega (arith, sizes)) in
-    let next : s ≡ r +ℤ pos 1 = by_lt_z (r +ℤ pos 1) s
-    (λ far. let more = multiples_apart (r +ℤ pos 1) s d up far in let one : (r +ℤ pos 1) *ℤ d ≡ r *ℤ d +ℤ d = simp expand (omega (arith, products)) in absurd (omega (arith, sizes)))
-    (λ fine. omega (arith, linear)) in
-    not_both_even next (x.tie halves.0) (y.tie halves.1)
+-- and only one number is it
+pub only_rounded : RoundedIsOnly
+only_rounded n d r up = nearest_quotient_is_only n d r
 
 pub only_rounded_even : RoundedEvenIsOnly
-only_rounded_even n d r up x s y = let least = rounded_even_apart up x y in let most = rounded_even_apart up y x in grind (arith, linear)
+only_rounded_even n d r up = nearest_even_quotient_is_only n d r
 
 -- ---- an integer that is narrowed to 64 bits
 

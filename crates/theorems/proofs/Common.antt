@@ -1,8 +1,8 @@
 -- The names of the libraries and of the specs that the proofs cite, passed on from one place. Declares nothing.
-pub use Rattle.std.specs.Prelude.{FitsSigned, IfSome, IsTrue, MatchOption, None, Option, Some, if◌then◌else◌, pos, unsigned_abs, ℕ, ℤ, ◌*ℤ◌, ◌+ℤ◌, ◌-ℤ◌, ◌<ℤ◌, ◌↔◌, ◌≡◌, ◌≤◌}
-pub use Rattle.std.proofs.Common.{ap, arith, le_refl, refl, rules, subst, sym, ◌∙◌}
+pub use Rattle.std.specs.Prelude.{FitsSigned, IfSome, IsTrue, MatchOption, None, Option, Some, if◌then◌else◌, pos, ℕ, ℤ, ◌+ℤ◌, ◌-ℤ◌, ◌↔◌, ◌≡◌}
+pub use Rattle.std.proofs.Common.{ap, arith, inr, refl, rules, subst, sym, ◌∙◌}
 pub use Rattle.std.proofs.lemmas.Bool.Decides.{nat_tests}
-pub use Rattle.std.proofs.lemmas.Int.{by_lt_z, ints, to_z-of_z}
+pub use Rattle.std.proofs.lemmas.Int.{ints, to_z-of_z}
 pub use Rattle.std.specs.Int.{w64}
 pub use Rattle.std.specs.Option.{SomeIff}
 pub use Rattle.applied.proofs.Laws.{rank_is_below}
@@ -18,7 +18,8 @@ pub use Rattle.modular.specs.CommonSolutions.{MatchCommonSolution}
 pub use Rattle.modular.specs.Congruences.{IsNextCommonSolution, IsResidue, IsResidueClass, SolvesBothCongruences}
 pub use Rattle.modular.specs.declared.common_solutions.CommonSolution.{CommonSolution}
 pub use Rattle.modular.specs.declared.common_solutions.CommonSolution.TheVariants.{At, Beyond, Never}
-pub use Rattle.num_integer.proofs.ForCallers.{least_is_only, linear, multiples_apart, sizes}
+pub use Rattle.num_integer.proofs.ForCallers.{least_is_only, linear}
+pub use Rattle.num_integer.proofs.Laws.{no_integer_is_nearer}
 pub use Rattle.num_integer.specs.Least.{IsLeastFrom}
 pub use Rattle.num_integer.specs.Only.{IsOnly}
 pub use Rattle.ratio64.proofs.ForCallers.{equal_fractions_answered_alike, err_is_outside, only_exact_result, quotient_is_exact, read, whole_is_exact, whole_is_multiple, zero_is_over_one}
@@ -26,5 +27,4 @@ pub use Rattle.ratio64.proofs.Laws.{decimal_is_spelled, exact_result_exists, exa
 pub use Rattle.ratio64.specs.Decimal.{SpellsDecimal, decimal_text, places_of, units_of}
 pub use Rattle.ratio64.specs.Fraction.{IsExact}
 pub use Rattle.ratio64.specs.Ratio.{den_of, num_of}
-pub use Rattle.ratio64.specs.Rounding.{IsRoundedEven}
 pub use Rattle.ratio64.specs.declared.decimal.Decimal.{Decimal}

@@ -33,6 +33,11 @@ pub fn laws_of_integers<T: Integer>()
     ensures multiple_is_only { integers.MultipleIsOnly }
     ensures floored_parts_add_up { integers.FlooredPartsAddUp }
     ensures negation_turns_multiples { integers.NegationTurnsMultiples }
+    ensures nearest_quotient_exists { integers.NearestQuotientExists }
+    ensures no_integer_is_nearer { integers.NoIntegerIsNearer }
+    ensures nearest_quotient_is_only { integers.NearestQuotientIsOnly }
+    ensures nearest_even_quotient_is_only { integers.NearestEvenQuotientIsOnly }
+    ensures nearest_quotient_fits_exactly { integers.NearestQuotientFitsExactly T.fits }
     ensures gcd_exists { integers.GcdExists }
     ensures gcd_is_only { integers.GcdIsOnly }
     ensures gcd_is_symmetric { integers.GcdIsSymmetric }
@@ -207,11 +212,6 @@ pub fn laws_of_models<P: Property, T: Integer>()
     ensures lcm_of_exists { models.LcmOfExists }
     ensures lcm_of_is_only { models.LcmOfIsOnly }
     ensures lcm_of_is_first_common_multiple { models.LcmOfIsFirstCommonMultiple }
-    ensures nearest_quotient_exists { models.NearestQuotientExists }
-    ensures no_integer_is_nearer { models.NoIntegerIsNearer }
-    ensures nearest_quotient_is_only { models.NearestQuotientIsOnly }
-    ensures nearest_even_quotient_is_only { models.NearestEvenQuotientIsOnly }
-    ensures nearest_quotient_fits_exactly { models.NearestQuotientFitsExactly T.fits }
     ensures logarithm_is_only { models.LogarithmIsOnly }
     ensures falling_formula { models.FallingFormula }
     ensures falling_by_coefficient { models.FallingByCoefficient }

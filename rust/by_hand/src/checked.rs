@@ -13,4 +13,4 @@ pub use crate::modular::checked::{
 #[doc(inline)]
 pub use crate::powers::checked::{ilog, sqrt_rem};
 #[doc(inline)]
-pub use crate::rounding::checked::{div_round, div_round_even, product_div_round, product_div_round_even};
+pub use crate::rounding::checked::{product_div_round, product_div_round_even};

@@ -5,38 +5,10 @@ ghost use Rattle.std.specs.Prelude.{◌≢◌, ◌<ℤ◌, ◌≤ℤ◌, ◌*ℤ
 ghost use Rattle.std.specs.Option.{IsSome};
 ghost use Rattle.applied.specs.Rounding.{AnswersQuotient, IsNearest, IsNearestEven};
 
+use num_integer::NativeInteger;
+pub use num_integer::checked::{div_round, div_round_even};
 use num_integer::operators::{is_minus_one, is_zero};
 use num_integer::sign_magnitude::{number_of, parts_of, parts_of_product};
-use num_integer::{Fits, NativeInteger};
-
-/// Returns [`div_round`](crate::rounding::div_round), the nearest integer and a half away from zero, or `None`
-/// if `y` is 0 or the quotient does not fit. `div_round(5, 2)` is `Some(3)`, and `div_round(i8::MIN, -1)` is
-/// `None`.
-pub fn div_round<T: Fits>(x: T, y: T) -> Option<T>
-    requires in_range { T.fits (T.value x) × T.fits (T.value y) }
-    ensures answer { AnswersQuotient IsNearest T.fits T.value (T.value x) (T.value y) result }
-    ensures positive { pos 0 <ℤ T.value y → IsSome result }
-{
-    if x.quotient_fits(&y) {
-        Some(crate::rounding::div_round(x, y))
-    } else {
-        None
-    }
-}
-
-/// Returns [`div_round_even`](crate::rounding::div_round_even), the nearest integer and a half to the even one,
-/// or `None` if [`div_round`] does. `div_round_even(5, 2)` is `Some(2)`, and `div_round_even(5, 0)` is `None`.
-pub fn div_round_even<T: Fits>(x: T, y: T) -> Option<T>
-    requires in_range { T.fits (T.value x) × T.fits (T.value y) }
-    ensures answer { AnswersQuotient IsNearestEven T.fits T.value (T.value x) (T.value y) result }
-    ensures positive { pos 0 <ℤ T.value y → IsSome result }
-{
-    if x.quotient_fits(&y) {
-        Some(crate::rounding::div_round_even(x, y))
-    } else {
-        None
-    }
-}
 
 /// Returns the quotient of `a * b` by `d`, rounded to the nearest integer, and a half away from zero, for a built-in type of at most 64
 /// bits, or `None` if `d` is 0 or the quotient does not fit. `product_div_round(1999, 19, 100)` is `Some(380)`,
@@ -65,7 +37,7 @@ pub fn product_div_round<T: NativeInteger<Magnitude = u64>>(a: T, b: T, d: T) ->
 
 /// Returns the quotient of [`product_div_round`], computed in 128 bits, or `None` if it does not fit. That of the magnitudes has the
 /// magnitude of that of the numbers.
-#[tactic(auto, using(crate::proofs::NearestQuotients::magnitude_nonzero))]
+#[tactic(auto, using(num_integer::proofs::NearestQuotients::magnitude_nonzero))]
 fn wide_product_div_round<T: NativeInteger<Magnitude = u64>>(a: T, b: T, d: T) -> Option<T>
     requires in_range { T.fits (T.value a) × T.fits (T.value b) × T.fits (T.value d) }
     requires nonzero { T.value d ≢ pos 0 }
@@ -97,7 +69,7 @@ pub fn product_div_round_even<T: NativeInteger<Magnitude = u64>>(a: T, b: T, d: 
 
 /// Returns the quotient of [`product_div_round_even`], computed in 128 bits, or `None` if it does not fit. That of the magnitudes has
 /// the magnitude of that of the numbers.
-#[tactic(auto, using(crate::proofs::NearestQuotients::magnitude_nonzero))]
+#[tactic(auto, using(num_integer::proofs::NearestQuotients::magnitude_nonzero))]
 fn wide_product_div_round_even<T: NativeInteger<Magnitude = u64>>(a: T, b: T, d: T) -> Option<T>
     requires in_range { T.fits (T.value a) × T.fits (T.value b) × T.fits (T.value d) }
     requires nonzero { T.value d ≢ pos 0 }

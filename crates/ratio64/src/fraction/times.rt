@@ -9,12 +9,11 @@ ghost use Rattle.ratio64.specs.Ratio.{AnswersFraction, num_of, den_of};
 ghost use Rattle.ratio64.specs.Rounding.{AnswersInParts, IsRounded, IsRoundedEven};
 ghost use Rattle.ratio64.specs.Times.{AreTimes};
 
-use crate::fraction::rounding::{nearest, nearest_even};
 use crate::reduction::product;
 use crate::{Ratio, RatioError};
 use num_integer::guards::check;
 use num_integer::narrowing::narrowed;
-use num_integer::{div_ceil, div_floor};
+use num_integer::{div_ceil, div_floor, div_round, div_round_even};
 
 impl Ratio {
     /// Returns the fraction times `n`, rounded down, or `None` if that number does not fit.
@@ -184,7 +183,7 @@ impl Ratio {
         ensures below { unsigned_abs result < 2 ^ 127 }
     {
         let (num, den) = self.times(n);
-        nearest(num, den)
+        div_round(num, den)
     }
 
     /// Returns the fraction times `n`, rounded to the nearest integer and a half to the even one, which may
@@ -195,7 +194,7 @@ impl Ratio {
         ensures below { unsigned_abs result < 2 ^ 127 }
     {
         let (num, den) = self.times(n);
-        nearest_even(num, den)
+        div_round_even(num, den)
     }
 
     /// Returns the parts of the fraction times `n`, which are not in lowest terms.

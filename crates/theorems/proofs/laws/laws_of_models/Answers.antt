@@ -7,9 +7,7 @@ ruleset of_choices = (law.least_time_is_only, law.count_of_times_is_only, law.sh
 
 ruleset of_pairs = (law.reduced_pair_exists, law.reduced_pair_is_only, law.gcd_of_exists, law.gcd_of_is_only, law.gcd_of_fits_exactly, law.lcm_of_exists, law.lcm_of_is_only, law.lcm_of_is_first_common_multiple)
 
-ruleset of_rounding = (law.nearest_quotient_exists, law.no_integer_is_nearer, law.nearest_quotient_is_only, law.nearest_even_quotient_is_only, law.nearest_quotient_fits_exactly)
-
 ruleset of_counting = (law.logarithm_is_only, law.falling_formula, law.falling_by_coefficient)
 
 pub returns : goal.returns
-returns g c = search (of_pages, of_choices, of_pairs, of_rounding, of_counting)
+returns g c = search (of_pages, of_choices, of_pairs, of_counting)

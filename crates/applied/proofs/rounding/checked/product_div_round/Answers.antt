@@ -1,6 +1,6 @@
 use Rattle.applied.proofs.Common.{iff_false, other_quotient_fits}
 use Rattle.applied.proofs.NearestAnswers.{nearest_answer, part_answered}
-use Rattle.applied.proofs.NearestQuotients.{nearest}
+use Rattle.num_integer.proofs.NearestQuotients.{nearest}
 use Rattle.applied.proofs.rounding.checked.product_div_round.Goals as goal
 
 pub div_round-requires-clause-quotient_fits : goal.div_round-requires-clause-quotient_fits

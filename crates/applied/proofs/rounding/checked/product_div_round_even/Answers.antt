@@ -1,6 +1,6 @@
 use Rattle.applied.proofs.Common.{iff_false, other_quotient_fits}
 use Rattle.applied.proofs.NearestAnswers.{nearest_answer, part_answered}
-use Rattle.applied.proofs.NearestQuotients.{nearest_even}
+use Rattle.num_integer.proofs.NearestQuotients.{nearest_even}
 use Rattle.applied.proofs.rounding.checked.product_div_round_even.Goals as goal
 
 pub div_round_even-requires-clause-quotient_fits : goal.div_round_even-requires-clause-quotient_fits

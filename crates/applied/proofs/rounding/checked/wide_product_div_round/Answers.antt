@@ -1,5 +1,5 @@
 use Rattle.applied.proofs.NearestAnswers.{answer_by_magnitudes}
-use Rattle.applied.proofs.NearestQuotients.{nearest}
+use Rattle.num_integer.proofs.NearestQuotients.{nearest}
 use Rattle.applied.proofs.rounding.checked.wide_product_div_round.Goals as goal
 
 pub returns : goal.returns

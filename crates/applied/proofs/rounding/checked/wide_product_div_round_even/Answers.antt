@@ -1,5 +1,5 @@
 use Rattle.applied.proofs.NearestAnswers.{answer_by_magnitudes}
-use Rattle.applied.proofs.NearestQuotients.{nearest_even}
+use Rattle.num_integer.proofs.NearestQuotients.{nearest_even}
 use Rattle.applied.proofs.rounding.checked.wide_product_div_round_even.Goals as goal
 
 pub returns : goal.returns

@@ -1,7 +1,6 @@
-use Rattle.applied.proofs.Common.{iff_false}
-use Rattle.applied.proofs.NearestAnswers.{test_of_nearest}
-use Rattle.applied.proofs.NearestQuotients.{nearest_even}
-use Rattle.applied.proofs.rounding.checked.div_round_even.Goals as goal
+use Rattle.num_integer.proofs.Common.{iff_false}
+use Rattle.num_integer.proofs.NearestQuotients.{nearest_even, test_of_nearest}
+use Rattle.num_integer.proofs.checked.nearest.div_round_even.Goals as goal
 
 pub returns-then-quotient_fits-clause-answer : goal.returns-then-quotient_fits-clause-answer
 returns-then-quotient_fits-clause-answer g c =

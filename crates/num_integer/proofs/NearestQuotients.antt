@@ -1,5 +1,15 @@
 -- Quotients rounded to the nearest integer: from those rounded down, the only ones, and when they fit.
-use Rattle.applied.proofs.Common.{◌≡◌, ◌≢◌, ◌⊎◌, ◌↔◌, ◌<◌, ◌≤◌, ◌≤ℤ◌, ◌+◌, ◌*◌, ◌<ℤ◌, ◌+ℤ◌, ◌-ℤ◌, ◌*ℤ◌, beq, IsKind, floored, Bool, true, false, not, signed, ℕ, ℤ, pos, neg_ℤ, unsigned_abs, arith, inl, inr, le_refl, refl, subst, cases_lt, by_lt_z, unsigned_abs-mul, mul-le, IsDivision, IsFloored, IsQuotient, IsEven, EachFits, IsRange, divides_or_not, expand, from_not_less, linear, other_quotient_fits, products, sizes, division_exists, even_or_next, not_both_even, zero_or_not, NearestEvenQuotientIsOnly, NearestQuotientExists, NearestQuotientFitsExactly, NearestQuotientIsOnly, NoIntegerIsNearer, IsDown, IsNearer, IsNearest, IsNearestEven, LiesWithin}
+use Rattle.num_integer.proofs.Common.{◌≡◌, ◌≢◌, ◌⊎◌, ◌↔◌, ◌<◌, ◌≤◌, ◌≤ℤ◌, ◌+◌, ◌*◌, ◌<ℤ◌, ◌+ℤ◌, ◌-ℤ◌, ◌*ℤ◌, IsTrue, floored, Bool, true, false, not, signed, ℕ, ℤ, pos, neg_ℤ, unsigned_abs, arith, inl, inr, le_refl, refl, subst, cases_lt, unsigned_abs-mul, IsDivision, IsFloored, IsQuotient, EachFits, IsRange, expand, from_not_less, linear, other_quotient_fits, products, sizes, zero_or_not}
+use Rattle.std.proofs.Math.Bool.{beq}
+use Rattle.std.proofs.lemmas.Int.{by_lt_z}
+use Rattle.std.proofs.lemmas.Nat.{mul-le}
+use Rattle.integer_core.proofs.Divisibility.{divides_or_not}
+use Rattle.integer_core.proofs.Quotients.{division_exists}
+use Rattle.integer_core.specs.Divisors.{IsEven}
+use Rattle.num_integer.proofs.FittingAnswers.{IsKind}
+use Rattle.num_integer.proofs.Multiples.{even_or_next, not_both_even}
+use Rattle.num_integer.specs.Laws.{NearestEvenQuotientIsOnly, NearestQuotientExists, NearestQuotientFitsExactly, NearestQuotientIsOnly, NoIntegerIsNearer}
+use Rattle.num_integer.specs.Rounding.{IsDown, IsNearer, IsNearest, IsNearestEven, LiesWithin}
 
 next_product : (q d : ℤ) → (q +ℤ pos 1) *ℤ d ≡ q *ℤ d +ℤ d
 next_product q d = simp expand (omega (arith, products))
@@ -209,6 +219,13 @@ module _ {fits : ℤ → Type 0} {low high n d : ℤ} (range : IsRange fits low 
   -- so the quotients of one kind fit exactly if those of another do
   pub same_fit : {Kind Other : ℤ → ℤ → ℤ → ℤ → Type 0} → IsKind Kind → IsKind Other → EachFits fits (IsQuotient Kind n d) ↔ EachFits fits (IsQuotient Other n d)
   same_fit kind other = (λ each q h. each_quotient_fits kind each (other.division h.division), λ each q h. each_quotient_fits other each (kind.division h.division))
+
+-- the test whether the quotient rounded down fits is that whether the nearest one does
+pub test_of_nearest : {Kind : ℤ → ℤ → ℤ → ℤ → Type 0} → IsRounding Kind → {fits : ℤ → Type 0} {low high n d : ℤ} {test : Bool} → IsRange fits low high → fits n → fits d → IsTrue test ↔ ((d ≢ pos 0) × EachFits fits (IsQuotient IsFloored n d))
+    → IsTrue test ↔ ((d ≢ pos 0) × EachFits fits (IsQuotient Kind n d))
+test_of_nearest rounding range n_fits d_fits test =
+    let same = same_fit range n_fits d_fits floored rounding.kind in
+    (λ t. let domain = test.0 t in (domain.0, same.0 domain.1), λ domain. test.1 (domain.0, same.1 domain.1))
 
 pub nearest_quotient_fits_exactly : (fits : ℤ → Type 0) → NearestQuotientFitsExactly fits
 nearest_quotient_fits_exactly fits = λ low high n d range n_fits d_fits. (same_fit range n_fits d_fits floored nearest_kind, same_fit range n_fits d_fits floored nearest_even_kind)

@@ -1,6 +1,6 @@
-use Rattle.applied.proofs.Common.{IsTrue, iff_false}
-use Rattle.applied.proofs.NearestQuotients.{next_fits}
-use Rattle.applied.proofs.rounding.nearer.Goals as goal
+use Rattle.num_integer.proofs.Common.{IsTrue, iff_false}
+use Rattle.num_integer.proofs.NearestQuotients.{next_fits}
+use Rattle.num_integer.proofs.nearest.nearer.Goals as goal
 
 pub successor-requires-clause-sum_fits : goal.successor-requires-clause-sum_fits
 successor-requires-clause-sum_fits g c =

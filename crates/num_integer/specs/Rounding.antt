@@ -1,9 +1,9 @@
 -- Quotients rounded to the nearest integer, by equation and inequalities.
 use Rattle.std.specs.Prelude.{◌≡◌, ◌≢◌, ◌⊎◌, ◌<◌, ◌≤◌, ◌*◌, ◌≤ℤ◌, ◌+ℤ◌, ◌*ℤ◌, ℤ, Option, pos, unsigned_abs}
-use Rattle.num_integer.specs.Checked.{AnswersWhere, FitsWith}
-use Rattle.num_integer.specs.Division.{IsDivision, IsQuotient}
-use Rattle.num_integer.specs.Divisors.{IsEven}
-use Rattle.num_integer.specs.Range.{EachFits}
+use Rattle.integer_core.specs.Checked.{AnswersWhere, FitsWith}
+use Rattle.integer_core.specs.Division.{IsDivision, IsQuotient}
+use Rattle.integer_core.specs.Divisors.{IsEven}
+use Rattle.integer_core.specs.Range.{EachFits}
 
 -- q is the integer nearest to n / d. Of two that are equally near, it is the one farther from 0. The magnitude of the remainder r is at most half of that of d.
 -- Examples: 7 by 3: q 2, r 1; 8 by 3: q 3, r -1; 5 by 2: q 3, r -1; -5 by 2: q -3, r 1.
