@@ -3,7 +3,7 @@
 ghost use Rattle.std.specs.Prelude.{◌≡◌, ◌≢◌, ◌⊎◌, ◌↔◌, ◌<◌, ◌<ℤ◌, FitsSigned, IsTrue, MatchOption, Some, if◌then◌else◌, pos, ℤ};
 ghost use Rattle.std.specs.Int.{w64};
 ghost use Rattle.std.specs.Option.{SomeIff};
-ghost use Rattle.calendar.specs.Dates.{number_of};
+ghost use Rattle.calendar.specs.Dates.{IsEarlier, number_of};
 ghost use Rattle.calendar.specs.Easter.{IsEaster};
 ghost use Rattle.calendar.specs.LeapYears.{is_leap_year};
 ghost use Rattle.calendar.specs.declared.date.Date.{Date};
@@ -27,12 +27,19 @@ pub fn day_number_of_its_date(day: i64) -> Option<i64>
     Date::from_day_number(day).day_number()
 }
 
+/// Returns `true` if the first date is earlier. Dates are in the order of their years, months and days of the month.
+pub fn is_earlier(first: &Date, second: &Date) -> bool
+    ensures { IsTrue result ↔ IsEarlier first.now second.now }
+{
+    first < second
+}
+
 /// Returns `true` if the day number of the first date is smaller. A law says that this is the order of dates.
 #[tactic(auto, using(calendar::proofs::Laws::order_of_dates))]
 pub fn is_before(first: &Date, second: &Date) -> bool
     ensures { IsTrue result ↔ (number_of first.now <ℤ number_of second.now) }
 {
-    first < second
+    is_earlier(first, second)
 }
 
 /// Returns `true` if the dates are equal. They are equal exactly if their day numbers are.
