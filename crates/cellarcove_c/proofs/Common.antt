@@ -1,5 +1,5 @@
 -- The names of the libraries and of the specs that the proofs cite, passed on from one place. Declares nothing.
-pub use Rattle.std.proofs.Common.{All, Equal, Fits, Greater, IsAscii, IsUtf8, Less, ap, arith, decimal, div-lt_iff_lt-mul, get_or, inl, inr, mul-le-mul, mul-le-mul_right, of_z, refl, rules, set, subst, sym, take, to_z, ◌∙◌}
+pub use Rattle.std.proofs.Common.{All, Fits, IsAscii, IsUtf8, ap, arith, decimal, div-lt_iff_lt-mul, get_or, inl, inr, mul-le-mul, mul-le-mul_right, of_z, refl, rules, set, subst, sym, take, to_z, ◌∙◌}
 pub use Rattle.std.proofs.lemmas.Bool.{cases_lt, false≢true, iff_false}
 pub use Rattle.std.proofs.lemmas.Fmt.{IsAscii-decimal}
 pub use Rattle.std.proofs.lemmas.Grind.{common_steps}
@@ -9,7 +9,7 @@ pub use Rattle.std.proofs.lemmas.List.Elements.{All-get_or, All-more, All-push, 
 pub use Rattle.std.proofs.lemmas.Str.{IsAscii-append, IsUtf8-from_ascii}
 pub use Rattle.std.proofs.lemmas.Str.Ascii.{IsAscii-cons, IsAscii-from_all, IsAscii-push}
 pub use Rattle.std.specs.Int.{int_pow, w64}
-pub use Rattle.std.specs.Prelude.{Bool, Err, FitsSigned, IfSome, IsTrue, List, MatchOption, MatchResult, None, Ok, Option, Result, Some, [], false, length, map, min, negsuc, pos, replicate, suc, true, unsigned_abs, zero, ℕ, ℤ, ◌%◌, ◌*ℤ◌, ◌*◌, ◌++◌, ◌+ℤ◌, ◌+◌, ◌-ℤ◌, ◌-◌, ◌/◌, ◌<ℤ◌, ◌<◌, ◌^◌, ◌↔◌, ◌∷◌, ◌≡◌, ◌≢◌, ◌≤ℤ◌, ◌≤◌, ◌⊎◌}
+pub use Rattle.std.specs.Prelude.{Bool, Err, FitsSigned, IfSome, IsTrue, List, MatchOption, MatchResult, None, Ok, Option, Result, Some, [], length, map, min, negsuc, pos, replicate, suc, unsigned_abs, zero, ℕ, ℤ, ◌%◌, ◌*ℤ◌, ◌*◌, ◌++◌, ◌+ℤ◌, ◌+◌, ◌-ℤ◌, ◌-◌, ◌/◌, ◌<ℤ◌, ◌<◌, ◌^◌, ◌↔◌, ◌∷◌, ◌≡◌, ◌≢◌, ◌≤ℤ◌, ◌≤◌, ◌⊎◌}
 pub use Rattle.num_integer.proofs.ForCallers.{Divides-difference, answers_as, coefficient-zero, int_pow-zero, least_is_only, linear, none_above, pascal, sizes, small_multiple_is_zero}
 pub use Rattle.num_integer.proofs.Laws.{coefficient_mirror, remainder_is_only, root_is_only}
 pub use Rattle.num_integer.specs.Checked.{AnswersWhere}
@@ -47,6 +47,5 @@ pub use Rattle.cellarcove_c.specs.Congruences.{HavePositiveModuli, IsBeyond, IsC
 pub use Rattle.cellarcove_c.specs.DateTexts.{HasText, ReadsDate}
 pub use Rattle.cellarcove_c.specs.Dates.{IsDayBeyond}
 pub use Rattle.cellarcove_c.specs.Decimals.{HasDigits, IsInDigits}
-pub use Rattle.cellarcove_c.specs.Laws.{AnswersIsOnly, AnswersModuloIsOnly, ClassOfBothIsOnly, DayOfIsoNumberIsOnly, FewestPagesIsOnly, FractIsOnly, InDigitsIsOnly, InPartsIsOnly, MonthsBetweenIsOnly, MonthsLaterIsOnly, NextOfSeveralIsOnly, OfIsoNumberIsOnly, OnBothIsOnly, OrderNumberIsOnly, PaddingIsOnly, PowerIsOnly, ReadDateIsOnly, ReasonIsOnly, RootWithRestIsOnly, StandsForIsOnly, StandsForNumberIsOnly, StandsForReadIsOnly, YearsBetweenIsOnly}
 pub use Rattle.cellarcove_c.specs.Statuses.{StatusIs, StatusIsOneOf, answer_of, bad_modulus, common_solution_of, no_solution, not_fitting, outside}
 pub use Rattle.cellarcove_c.specs.declared.fractions.FractionAnswer.{FractionAnswer}

@@ -1,15 +1,20 @@
 -- The laws of specs/Laws.antt, a lemma each.
-use Rattle.cellarcove_c.proofs.Common.{◌≡◌, ◌≢◌, ◌⊎◌, ◌↔◌, ◌<◌, ◌≤◌, ◌+◌, ◌*◌, ◌<ℤ◌, ◌≤ℤ◌, ◌+ℤ◌, ◌-ℤ◌, ℕ, ℤ, zero, suc, pos, Bool, List, true, false, FitsSigned, IfSome, IsTrue, MatchOption, MatchResult, Option, Some, None, Ok, Err, Result, w64, Equal, Greater, Less, ◌∙◌, ap, arith, inl, inr, mul-le-mul_right, refl, subst, sym, cases_lt, iff_false, by_lt_z, ints, Divides-difference, least_is_only, linear, sizes, small_multiple_is_zero, remainder_is_only, root_is_only, IsRemainder, IsTruncated, Divides, IsLeastCommonMultiple, IsLeastFrom, residue_class_is_only, MatchCommonSolution, IsResidueClass, SolvesBothCongruences, SolvesEach, HasParts, IsMonthsBetween, IsYearsBetween, Date, Weekday, same_month, date_of_parts_is_only, iso_number_is_only, text_is_only, IsBeyond, IsClassOfBoth, IsNever, IsNextOfSeveral, IsReasonOfCongruences, IsReasonOfSeveral, HasText, ReadsDate, HasDigits, bad_modulus, common_solution_of, no_solution, not_fitting, outside, FractionAnswer, AnswersIsOnly, AnswersModuloIsOnly, ClassOfBothIsOnly, DayOfIsoNumberIsOnly, FewestPagesIsOnly, FractIsOnly, InDigitsIsOnly, InPartsIsOnly, MonthsBetweenIsOnly, MonthsLaterIsOnly, NextOfSeveralIsOnly, OfIsoNumberIsOnly, OnBothIsOnly, OrderNumberIsOnly, PaddingIsOnly, PowerIsOnly, ReadDateIsOnly, ReasonIsOnly, RootWithRestIsOnly, StandsForIsOnly, StandsForNumberIsOnly, StandsForReadIsOnly, YearsBetweenIsOnly, answer_is_only, rounded_even_is_only, den_of, num_of, RatioError, Ratio}
+use Rattle.cellarcove_c.proofs.Common.{◌≡◌, ◌≢◌, ◌⊎◌, ◌↔◌, ◌<◌, ◌≤◌, ◌+◌, ◌*◌, ◌<ℤ◌, ◌≤ℤ◌, ◌+ℤ◌, ◌-ℤ◌, ℕ, ℤ, zero, suc, pos, Bool, List, FitsSigned, IfSome, IsTrue, MatchOption, MatchResult, Option, Some, None, Ok, Err, Result, w64, ◌∙◌, ap, arith, inl, inr, mul-le-mul_right, refl, subst, sym, by_lt_z, ints, Divides-difference, least_is_only, linear, sizes, small_multiple_is_zero, remainder_is_only, root_is_only, IsRemainder, IsTruncated, Divides, IsLeastCommonMultiple, IsLeastFrom, residue_class_is_only, MatchCommonSolution, IsResidueClass, SolvesBothCongruences, SolvesEach, HasParts, IsMonthsBetween, IsYearsBetween, Date, Weekday, same_month, date_of_parts_is_only, iso_number_is_only, text_is_only, IsBeyond, IsClassOfBoth, IsNever, IsNextOfSeveral, IsReasonOfCongruences, IsReasonOfSeveral, HasText, ReadsDate, HasDigits, bad_modulus, common_solution_of, no_solution, not_fitting, outside, FractionAnswer, answer_is_only, rounded_even_is_only, den_of, num_of, RatioError, Ratio}
+use Rattle.cellarcove_c.specs.Laws as law
 use Rattle.calendar.proofs.Laws.{months_between_is_only as whole_months_are_only, years_between_is_only as whole_years_are_only}
 use Rattle.cellarcove_c.specs.declared.dates.Date.{Date as Parts}
 use Rattle.ratio64.specs.RatioError.{number_of}
 
 -- ---- statuses
 
-pub reason_is_only : ReasonIsOnly
+-- a status after 0 is not 0
+nonzero : {s : ℕ} → suc s ≢ 0
+nonzero e = omega (arith, e)
+
+pub reason_is_only : law.ReasonIsOnly
 reason_is_only divisor s t h k = grind arith
 
-pub answers_is_only : {A : Type 0} (domain : Type 0) (Is : A → Type 0) (Reason : ℕ → Type 0) → AnswersIsOnly domain Is Reason
+pub answers_is_only : {A : Type 0} (domain : Type 0) (Is : A → Type 0) (Reason : ℕ → Type 0) → law.AnswersIsOnly domain Is Reason
 answers_is_only domain Is Reason zeros zero zero a b only one h k = (refl, only a b h.answer.1 k.answer.1)
 answers_is_only domain Is Reason zeros zero (suc t) a b only one h k = absurd (k.answer h.answer.0)
 answers_is_only domain Is Reason zeros (suc s) zero a b only one h k = absurd (h.answer k.answer.0)
@@ -19,7 +24,7 @@ answers_is_only domain Is Reason zeros (suc s) (suc t) a b only one h k = grind 
 positive_of : (m : ℤ) → ¬ (m ≤ℤ pos 0) → pos 0 <ℤ m
 positive_of m h = by_lt_z (pos 0) m (λ up. up) (λ low. absurd (h low))
 
-pub answers_modulo_is_only : {A : Type 0} (modulus : ℤ) (reason : ℕ) (without : Type 0) (Is : A → Type 0) → AnswersModuloIsOnly modulus reason without Is
+pub answers_modulo_is_only : {A : Type 0} (modulus : ℤ) (reason : ℕ) (without : Type 0) (Is : A → Type 0) → law.AnswersModuloIsOnly modulus reason without Is
 answers_modulo_is_only modulus reason without Is zeros zero zero a b only never h k = grind arith
 answers_modulo_is_only modulus reason without Is zeros (suc s) zero a b only never h k = grind arith
 answers_modulo_is_only modulus reason without Is zeros s (suc t) a b only never h k = grind arith
@@ -32,9 +37,7 @@ same_pair (a, b) (x, y) first second = rw (first, second) refl
 module _ {X : Type 0} (value : X → ℤ) (fits : ℤ → Type 0) {a m b n : ℤ} {zeros : X × X} where
   -- a reason of one result is the status of each other
   reason_of_both : {s t : ℕ} {c d : X × X} → IsClassOfBoth value fits a m b n zeros s c → IsClassOfBoth value fits a m b n zeros t d → IsReasonOfCongruences t → s ≡ t
-  reason_of_both h k (inl bad) = h.modulus_is_bad.1 (k.modulus_is_bad.0 bad) ∙ sym bad
-  reason_of_both h k (inr (inl far)) = h.step_is_beyond.1 (k.step_is_beyond.0 far) ∙ sym far
-  reason_of_both h k (inr (inr none)) = h.is_never.1 (k.is_never.0 none) ∙ sym none
+  reason_of_both h k reason = grind arith
 
   -- a class with the status 0 is that of the numbers that solve both
   class_of : {c : X × X} → ((z : ℤ) → fits z ⊎ (¬ (fits z))) → IsClassOfBoth value fits a m b n zeros 0 c → IsResidueClass (SolvesBothCongruences a m b n) (value c.0) (value c.1)
@@ -49,15 +52,12 @@ module _ {X : Type 0} (value : X → ℤ) (fits : ℤ → Type 0) {a m b n : ℤ
             absurd (omega (arith, h.is_never.1 (first, second, never)))
       ])
 
-pub class_of_both_is_only : {X : Type 0} (value : X → ℤ) (fits : ℤ → Type 0) → ClassOfBothIsOnly value fits
+pub class_of_both_is_only : {X : Type 0} (value : X → ℤ) (fits : ℤ → Type 0) → law.ClassOfBothIsOnly value fits
 class_of_both_is_only value fits a m b n zeros zero zero c d injective decided h k =
     let same = residue_class_is_only (SolvesBothCongruences a m b n) (value d.0) (value d.1) (class_of value fits decided k) (value c.0, value c.1) (class_of value fits decided h) in
     (refl, same_pair c d (injective c.0 d.0 (ap (λ (p : ℤ × ℤ). p.0) same)) (injective c.1 d.1 (ap (λ (p : ℤ × ℤ). p.1) same)))
-class_of_both_is_only value fits a m b n zeros zero (suc t) c d injective decided h k =
-    absurd (omega (arith, reason_of_both value fits h k (k.refusal (λ same. absurd (omega (arith, same)))).1))
-class_of_both_is_only value fits a m b n zeros (suc s) zero c d injective decided h k =
-    absurd (omega (arith, reason_of_both value fits k h (h.refusal (λ same. absurd (omega (arith, same)))).1))
-class_of_both_is_only value fits a m b n zeros (suc s) (suc t) c d injective decided h k = grind arith
+class_of_both_is_only value fits a m b n zeros s (suc t) c d injective decided h k = grind (arith, reason_of_both value fits h k)
+class_of_both_is_only value fits a m b n zeros (suc s) t c d injective decided h k = grind (arith, reason_of_both value fits k h)
 
 module _ {X : Type 0} (value : X → ℤ) (fits : ℤ → Type 0) {from : ℤ} {pairs : List (X × X)} {zero_value : X} where
   -- a status that says neither that there are too many congruences nor that a modulus is not positive
@@ -81,67 +81,57 @@ module _ {X : Type 0} (value : X → ℤ) (fits : ℤ → Type 0) {from : ℤ} {
   no_reason in_range h k (inr (inr (inl far))) = let (z, least, beyond) = beyond_of k far in beyond (subst fits (least_is_only least _ (least_of h)) in_range)
   no_reason in_range h k (inr (inr (inr none))) = never_of k none _ (least_of h).holds
 
-pub next_of_several_is_only : {X : Type 0} (value : X → ℤ) (fits : ℤ → Type 0) → NextOfSeveralIsOnly value fits
+pub next_of_several_is_only : {X : Type 0} (value : X → ℤ) (fits : ℤ → Type 0) → law.NextOfSeveralIsOnly value fits
 next_of_several_is_only value fits from pairs zero_value zero zero x y injective p q h k =
     (refl, injective x y (least_is_only (least_of value fits k) _ (least_of value fits h)))
 next_of_several_is_only value fits from pairs zero_value zero (suc t) x y injective p q h k =
-    absurd (no_reason value fits p h k (k.refusal (λ same. absurd (omega (arith, same)))).1)
+    absurd (no_reason value fits p h k (k.refusal nonzero).1)
 next_of_several_is_only value fits from pairs zero_value (suc s) zero x y injective p q h k =
-    absurd (no_reason value fits q k h (h.refusal (λ same. absurd (omega (arith, same)))).1)
+    absurd (no_reason value fits q k h (h.refusal nonzero).1)
 next_of_several_is_only value fits from pairs zero_value (suc s) (suc t) x y injective p q h k = grind arith
 
 -- ---- numbers
 
-pub fewest_pages_is_only : FewestPagesIsOnly
+pub fewest_pages_is_only : law.FewestPagesIsOnly
 fewest_pages_is_only items page_size a b h k = let most = h.fewest b k.enough in let least = k.fewest a h.enough in grind (arith, linear)
 
-pub padding_is_only : PaddingIsOnly
+pub padding_is_only : law.PaddingIsOnly
 padding_is_only offset alignment a b h k =
     let difference : Divides alignment ((offset +ℤ a) -ℤ (offset +ℤ b)) = Divides-difference h.aligned k.aligned in
     let none = small_multiple_is_zero difference (omega (arith, sizes, h.from_zero, h.below, k.from_zero, k.below)) in
     grind (arith, linear)
 
-pub root_with_rest_is_only : RootWithRestIsOnly
+pub root_with_rest_is_only : law.RootWithRestIsOnly
 root_with_rest_is_only x root other rest left h k = grind (arith, root_is_only)
 
 -- ---- fractions
 
-pub stands_for_is_only : StandsForIsOnly
-stands_for_is_only (Ok x) s t a b c d h k = (h.0 ∙ sym k.0, h.1 ∙ sym k.1, h.2 ∙ sym k.2)
-stands_for_is_only (Err e) s t a b c d h k = (h.0 ∙ sym k.0, h.1 ∙ sym k.1, h.2 ∙ sym k.2)
+pub stands_for_is_only : law.StandsForIsOnly
+stands_for_is_only answered s t a b c d h k = grind arith
 
-pub stands_for_number_is_only : (Says : Ratio → ℤ → Type 0) → StandsForNumberIsOnly Says
-stands_for_number_is_only Says (Ok x) s t a b only h k = (h.0 ∙ sym k.0, only x h.1 k.1)
-stands_for_number_is_only Says (Err e) s t a b only h k = (h.0 ∙ sym k.0, h.1 ∙ sym k.1)
+pub stands_for_number_is_only : (Says : Ratio → ℤ → Type 0) → law.StandsForNumberIsOnly Says
+stands_for_number_is_only Says answered s t a b only h k = grind arith
 
-pub on_both_is_only : {A : Type 0} (Says : A → Ratio → Ratio → Type 0) (Refuses : A → RatioError → Type 0) → OnBothIsOnly Says Refuses
-on_both_is_only Says Refuses (Ok p) (Ok q) a b only same h k = only p q h k
-on_both_is_only Says Refuses (Ok p) (Err e) a b only same h k = same e h k
-on_both_is_only Says Refuses (Err e) y a b only same h k = same e h k
+pub on_both_is_only : {A : Type 0} (Says : A → Ratio → Ratio → Type 0) (Refuses : A → RatioError → Type 0) → law.OnBothIsOnly Says Refuses
+on_both_is_only Says Refuses x y a b only same h k = grind arith
 
-pub power_is_only : PowerIsOnly
+pub power_is_only : law.PowerIsOnly
 power_is_only exponent x r s h k = by_lt_z exponent (pos 0)
     (λ below. answer_is_only _ _ r s (h.below_zero below) (k.below_zero below))
     (λ above. answer_is_only _ _ r s (h.from_zero above) (k.from_zero above))
 
-pub in_parts_is_only : (IsRounded : ℤ → ℤ → ℤ → Type 0) → InPartsIsOnly IsRounded
+pub in_parts_is_only : (IsRounded : ℤ → ℤ → ℤ → Type 0) → law.InPartsIsOnly IsRounded
 in_parts_is_only IsRounded parts x r s only h k =
     let same = only _ _ h.number k.number x.reduced.positive h.is k.is in
     answer_is_only k.number parts r s (rw same at h.fraction) k.fraction
 
 -- a sign is one of two
 same_sign : (a b : Bool) (P : Type 0) → IsTrue a ↔ P → IsTrue b ↔ P → a ≡ b
-same_sign true true P h k = refl
-same_sign true false P h k = absurd (iff_false k refl (h.0 refl))
-same_sign false true P h k = absurd (iff_false h refl (k.0 refl))
-same_sign false false P h k = refl
+same_sign a b P h k = grind arith
 
 -- a number with a rest below m is divided by m alike
 no_more : (m whole other part rest : ℕ) → whole * m + part ≡ other * m + rest → part < m → other ≤ whole
-no_more m whole other part rest same below = elim (cases_lt whole other) [
-  | inl less ↦ let most : (whole + 1) * m ≤ other * m = mul-le-mul_right m (omega arith) in absurd (omega (arith, most))
-  | inr most ↦ most
-]
+no_more m whole other part rest same below = grind (arith, mul-le-mul_right {m = whole + 1} {n = other} m)
 
 same_digits : {units : ℤ} {places : ℕ} {a b : Bool} {whole other part rest : ℕ} → HasDigits units places a whole part → HasDigits units places b other rest
     → (a ≡ b) × (whole ≡ other) × (part ≡ rest)
@@ -150,7 +140,7 @@ same_digits {whole = whole} {other = other} h k =
     let same : whole ≡ other = omega (arith, no_more _ _ _ _ _ size h.below, no_more _ _ _ _ _ (sym size) k.below) in
     (same_sign _ _ _ h.sign k.sign, same, let equation = rw same at size in omega (arith, equation))
 
-pub in_digits_is_only : InDigitsIsOnly
+pub in_digits_is_only : law.InDigitsIsOnly
 in_digits_is_only n d places a b whole other part rest up h k =
     let same = rounded_even_is_only _ d k.units up k.rounded h.units h.rounded in
     same_digits (rw same at h.digits) k.digits
@@ -165,22 +155,18 @@ same_fract : (p : Result Ratio RatioError) (x y : FractionAnswer) → MatchFract
 same_fract (Ok r) x y h k = (h.0 ∙ sym k.0, remainder_is_only.0 _ _ _ k.1 _ h.1, h.2 ∙ sym k.2)
 same_fract (Err e) x y h k = grind arith
 
-pub fract_is_only : FractIsOnly
+pub fract_is_only : law.FractIsOnly
 fract_is_only a x y (p, made, h) (q, other, k) = same_fract q x y (subst (λ (r : Result Ratio RatioError). MatchFract r x) (answer_is_only _ _ p q made other) h) k
 
-pub stands_for_read_is_only : StandsForReadIsOnly
-stands_for_read_is_only (Ok x) s t a b c d h k = (h.0 ∙ sym k.0, h.1 ∙ sym k.1, h.2 ∙ sym k.2)
-stands_for_read_is_only (Err e) s t a b c d h k = (h.0 ∙ sym k.0, h.1 ∙ sym k.1, h.2 ∙ sym k.2)
+pub stands_for_read_is_only : law.StandsForReadIsOnly
+stands_for_read_is_only read s t a b c d h k = grind arith
 
-pub order_number_is_only : OrderNumberIsOnly
-order_number_is_only Less Less same = refl
-order_number_is_only Equal Equal same = refl
-order_number_is_only Greater Greater same = refl
-order_number_is_only a b same = absurd (omega (arith, ints))
+pub order_number_is_only : law.OrderNumberIsOnly
+order_number_is_only a b same = grind (arith, ints)
 
 -- ---- dates
 
-pub months_later_is_only : MonthsLaterIsOnly
+pub months_later_is_only : law.MonthsLaterIsOnly
 months_later_is_only from_year months a_year b_year from_month from_day a_month a_day b_month b_day a b h k =
     let first : Date = record { year = a_year; month = a_month; day_of_month = a_day; valid = a } in
     let second : Date = record { year = b_year; month = b_month; day_of_month = b_day; valid = b } in
@@ -194,31 +180,30 @@ MatchBetween Is year month day to_year to_month to_day answer = (from to : Date)
     × MatchOption answer ((number : ℤ) × Is from to number × ¬ (FitsSigned w64 number)) (Is from to)
 
 module _ (Is : Date → Date → ℤ → Type 0) (only : (from to : Date) (m n : ℤ) → Is from to m → Is from to n → m ≡ n) {year to_year : ℤ} {month day to_month to_day : ℕ} where
-  same_number : (from to other other_to : Date) (m n : ℤ) → HasParts from year month day → HasParts to to_year to_month to_day
+  same_number : {from to other other_to : Date} (m n : ℤ) → HasParts from year month day → HasParts to to_year to_month to_day
       → HasParts other year month day → HasParts other_to to_year to_month to_day → Is from to m → Is other other_to n → m ≡ n
-  same_number from to other other_to m n a b c d h k =
-      let first = subst (λ (x : Date). Is x other_to n) (date_of_parts_is_only year month day other from c a) k in
-      only from to m n h (subst (λ (x : Date). Is from x n) (date_of_parts_is_only to_year to_month to_day other_to to d b) first)
+  same_number {from} {to} {other} {other_to} m n a b c d h k =
+      let first = date_of_parts_is_only year month day other from c a in
+      let second = date_of_parts_is_only to_year to_month to_day other_to to d b in
+      only from to m n h (rw (first, second) at k)
 
   same_between : (a b : Option ℤ) → IfSome a (FitsSigned w64) → IfSome b (FitsSigned w64)
       → MatchBetween Is year month day to_year to_month to_day a → MatchBetween Is year month day to_year to_month to_day b → a ≡ b
-  same_between (Some m) (Some n) p q (from, to, a, b, h) (other, other_to, c, d, k) = ap Some (same_number from to other other_to m n a b c d h k)
-  same_between (Some m) None p q (from, to, a, b, h) (other, other_to, c, d, (n, k, far)) =
-      absurd (far (subst (λ (z : ℤ). FitsSigned w64 z) (same_number from to other other_to m n a b c d h k) p))
-  same_between None (Some m) p q (from, to, a, b, (n, h, far)) (other, other_to, c, d, k) =
-      absurd (far (subst (λ (z : ℤ). FitsSigned w64 z) (same_number other other_to from to m n c d a b k h) q))
+  same_between (Some m) (Some n) p q (from, to, a, b, h) (other, other_to, c, d, k) = ap Some (same_number m n a b c d h k)
+  same_between (Some m) None p q (from, to, a, b, h) (other, other_to, c, d, (n, k, far)) = absurd (far (rw (same_number m n a b c d h k) at p))
+  same_between None (Some m) p q (from, to, a, b, (n, h, far)) (other, other_to, c, d, k) = absurd (far (rw (same_number m n c d a b k h) at q))
   same_between None None p q h k = refl
 
-pub months_between_is_only : MonthsBetweenIsOnly
-months_between_is_only year to_year month day to_month to_day a b p q h k = same_between IsMonthsBetween whole_months_are_only a b p q h k
+pub months_between_is_only : law.MonthsBetweenIsOnly
+months_between_is_only _ _ _ _ _ _ a b = same_between IsMonthsBetween whole_months_are_only a b
 
-pub years_between_is_only : YearsBetweenIsOnly
-years_between_is_only year to_year month day to_month to_day a b p q h k = same_between IsYearsBetween whole_years_are_only a b p q h k
+pub years_between_is_only : law.YearsBetweenIsOnly
+years_between_is_only _ _ _ _ _ _ a b = same_between IsYearsBetween whole_years_are_only a b
 
-pub of_iso_number_is_only : (Is : Weekday → Date → Type 0) → OfIsoNumberIsOnly Is
+pub of_iso_number_is_only : (Is : Weekday → Date → Type 0) → law.OfIsoNumberIsOnly Is
 of_iso_number_is_only Is weekday year other month day other_month other_day only h k = grind arith
 
-pub day_of_iso_number_is_only : (Is : Weekday → ℤ → Type 0) → DayOfIsoNumberIsOnly Is
+pub day_of_iso_number_is_only : (Is : Weekday → ℤ → Type 0) → law.DayOfIsoNumberIsOnly Is
 day_of_iso_number_is_only Is weekday a b only (v, first, h) (w, second, k) =
     only v a b h (subst (λ (x : Weekday). Is x b) (iso_number_is_only w v (second ∙ sym first)) k)
 
@@ -232,9 +217,9 @@ same_read {text} {a} {b} p q h k =
 
 -- a text with a date is not refused
 not_refused : {text : List ℕ} {a b : Parts} {t : ℕ} → FitsSigned w64 a.year → HasText text a → ReadsDate text (record { status = suc t; date = b }) → ⊥
-not_refused p h k = k.none.0 (k.refusal (λ same. absurd (omega (arith, same)))).1 h.date (rw h.has_parts.year_is p) h.text_is
+not_refused p h k = k.none.0 (k.refusal nonzero).1 h.date (rw h.has_parts.year_is p) h.text_is
 
-pub read_date_is_only : ReadDateIsOnly
+pub read_date_is_only : law.ReadDateIsOnly
 read_date_is_only text zero zero a b p q h k =
     let (year, month, day) = same_read p q (h.found refl) (k.found refl) in
     (refl, year, month, day)
