@@ -37,6 +37,7 @@ pub fn align_up<T: Fits>(offset: T, alignment: T) -> Option<T>
 /// # Panics
 ///
 /// In plain Rust, if the alignment is not positive.
+#[tactic(auto, using(num_integer::proofs::ForCallers::rest_leads_to_multiple))]
 pub fn padding<T: Integer + Copy>(offset: T, alignment: T) -> T
     requires in_range { T.fits (T.value offset) × T.fits (T.value alignment) }
     requires positive { pos 0 <ℤ T.value alignment }

@@ -64,6 +64,7 @@ pub fn next_meeting_of<T: Modular + Fits>(now: T, schedules: &[Schedule<T>]) -> 
 /// # Panics
 ///
 /// In plain Rust, if the period is not positive.
+#[tactic(auto, using(crate::proofs::Meetings::times_by_congruent))]
 pub fn count<T: Fits>(from: T, to: T, schedule: Schedule<T>) -> Option<T>
     requires in_range { T.fits (T.value from) × T.fits (T.value to) }
     requires schedule_in_range { T.fits (T.value schedule.0) × T.fits (T.value schedule.1) }
