@@ -4,11 +4,12 @@
 //! The formulas are those of C. Neri and L. Schneider, "Euclidean affine functions and their application to
 //! calendar algorithms" (2022), with a table for the days of the months.
 
-ghost use Rattle.std.specs.Prelude.{◌≡◌, ◌+◌, ◌<◌, ◌≤◌, ◌*◌, ◌^◌, ◌≤ℤ◌, ◌<ℤ◌, ◌+ℤ◌, ◌-ℤ◌, ◌*ℤ◌, ℤ, pos, unsigned_abs, FitsSigned, MatchOption};
+ghost use Rattle.std.specs.Prelude.{◌≡◌, ◌+◌, ◌-◌, ◌<◌, ◌≤◌, ◌*◌, ◌^◌, ◌≤ℤ◌, ◌<ℤ◌, ◌+ℤ◌, ◌-ℤ◌, ◌*ℤ◌, ℤ, pos, unsigned_abs, FitsSigned, MatchOption};
 ghost use Rattle.std.specs.Int.{w64};
 ghost use Rattle.std.specs.Option.{SomeIff};
 ghost use Rattle.calendar.specs.Months.{IsDate, days_before_month};
 ghost use Rattle.calendar.specs.Years.{day_number, days_in_year};
+ghost use Rattle.calendar.specs.declared.eras.TheConstants.{DAYS_FROM_MARCH, DAYS_PER_ERA, DAYS_TO_EPOCH, MARCH_BEFORE_ERA_0, MARCH_OF_ERA_0, NEAR_YEARS, YEARS_PER_ERA};
 
 use integer_core::narrowing::narrowed;
 
@@ -32,7 +33,16 @@ pub(crate) const DAYS_FROM_MARCH: u32 = 306;
 const MARCH_YEAR_BEFORE_EPOCH: i64 = 1600;
 
 /// The days from that 1 March to 1970-01-01.
-const DAYS_TO_EPOCH: u32 = 135080;
+const DAYS_TO_EPOCH: u32 = (MARCH_OF_ERA_0 - 4 * DAYS_PER_ERA) as u32;
+
+/// The days from 1 March of year 0 to 1970-01-01.
+const MARCH_OF_ERA_0: i64 = 719468;
+
+/// The days from 1 March of year -400 to 1970-01-01.
+pub(crate) const MARCH_BEFORE_ERA_0: i64 = 865565;
+
+/// The years from year 0 on that are not divided into eras, since the days of so many fit a `u32` four times.
+const NEAR_YEARS: u32 = 2800000;
 
 /// The days from a 1 March to the first of each month, from January of the next year on. No month has the
 /// number 0.
@@ -40,13 +50,13 @@ const DAYS_FROM_MARCH_TO_MONTH: [u16; 13] = [
     0, 306, 337, 0, 31, 61, 92, 122, 153, 184, 214, 245, 275,
 ];
 
-/// Returns the year as a `u32`, or `None` if it is not from 0 to 2799999.
+/// Returns the year as a `u32`, or `None` if it is not from 0 on and below `NEAR_YEARS`.
 #[inline]
 pub(crate) const fn near_year(year: i64) -> Option<u32>
-    ensures { MatchOption result (¬ ((pos 0 ≤ℤ year) × (year <ℤ pos 2800000)))
-        (λ years. (pos years ≡ year) × (years < 2800000)) }
+    ensures { MatchOption result (¬ ((pos 0 ≤ℤ year) × (year <ℤ pos NEAR_YEARS)))
+        (λ years. (pos years ≡ year) × (years < NEAR_YEARS)) }
 {
-    if 0 <= year && year < 2800000 {
+    if 0 <= year && year < NEAR_YEARS as i64 {
         Some(year as u32)
     } else {
         None
@@ -56,8 +66,8 @@ pub(crate) const fn near_year(year: i64) -> Option<u32>
 /// Returns an era that is not after a year, and how many years from its beginning on come before the year.
 #[inline]
 pub(crate) const fn era_before_year(year: i64) -> (i64, u32)
-    ensures place { year ≡ pos 400 *ℤ result.0 +ℤ pos result.1 }
-    ensures below { result.1 < 2800000 }
+    ensures place { year ≡ YEARS_PER_ERA *ℤ result.0 +ℤ pos result.1 }
+    ensures below { result.1 < NEAR_YEARS }
 {
     match near_year(year) {
         Some(years) => (0, years),
@@ -68,9 +78,9 @@ pub(crate) const fn era_before_year(year: i64) -> (i64, u32)
 /// Returns how many whole eras there are in `days`, rounded down, and the days that are left.
 #[inline]
 pub(crate) const fn eras_in_days(days: i64) -> (i64, u32)
-    ensures place { days ≡ pos 146097 *ℤ result.0 +ℤ pos result.1 }
+    ensures place { days ≡ DAYS_PER_ERA *ℤ result.0 +ℤ pos result.1 }
     ensures small { unsigned_abs result.0 < 2 ^ 47 }
-    ensures below { result.1 < 146097 }
+    ensures below { pos result.1 <ℤ DAYS_PER_ERA }
 {
     groups_and_rest(days, DAYS_PER_ERA)
 }
@@ -93,7 +103,7 @@ const fn groups_and_rest(n: i64, size: i64) -> (i64, u32)
 pub(crate) fn days_of_eras(eras: i64, days: i64) -> Option<i64>
     requires eras_small { unsigned_abs eras < 2 ^ 57 }
     requires days_small { unsigned_abs days < 2 ^ 32 }
-    ensures { SomeIff result (FitsSigned w64 (pos 146097 *ℤ eras +ℤ days)) (pos 146097 *ℤ eras +ℤ days) }
+    ensures { SomeIff result (FitsSigned w64 (DAYS_PER_ERA *ℤ eras +ℤ days)) (DAYS_PER_ERA *ℤ eras +ℤ days) }
 {
     match DAYS_PER_ERA.checked_mul(eras) {
         Some(whole) => whole.checked_add(days),
@@ -114,12 +124,12 @@ pub(crate) fn wide_sum(size: i64, count: i64, more: i64) -> i128
 /// the era begins.
 #[inline]
 pub(crate) const fn days_to_month(year: u32, month: u8) -> u32
-    requires near { year < 2800000 }
+    requires near { year < NEAR_YEARS }
     requires from_one { 1 ≤ month }
     requires to_twelve { month ≤ 12 }
-    ensures day { (era : ℤ) → day_number (pos 400 *ℤ era +ℤ pos year) month 1
-        ≡ pos 146097 *ℤ era +ℤ pos result -ℤ pos 865565 }
-    ensures small { result < 1023000000 }
+    ensures day { (era : ℤ) → day_number (YEARS_PER_ERA *ℤ era +ℤ pos year) month 1
+        ≡ DAYS_PER_ERA *ℤ era +ℤ pos result -ℤ MARCH_BEFORE_ERA_0 }
+    ensures small { result < 2 ^ 30 - 2 ^ 9 }
 {
     days_of_years(year + 399 + from_march_on(month) as u32) + days_from_march(month) as u32
 }
@@ -137,10 +147,10 @@ pub(crate) const fn from_march_on(month: u8) -> u16
 #[tactic(auto, using(crate::proofs::MarchYears::march_steps))]
 #[inline]
 const fn days_of_years(years: u32) -> u32
-    requires { years < 2800400 }
-    ensures day { (era : ℤ) → day_number (pos 400 *ℤ era +ℤ pos years) 3 1
-        ≡ pos 146097 *ℤ era +ℤ pos result -ℤ pos 719468 }
-    ensures small { result < 1022900000 }
+    requires { pos years <ℤ (pos NEAR_YEARS +ℤ YEARS_PER_ERA) }
+    ensures day { (era : ℤ) → day_number (YEARS_PER_ERA *ℤ era +ℤ pos years) 3 1
+        ≡ DAYS_PER_ERA *ℤ era +ℤ pos result -ℤ MARCH_OF_ERA_0 }
+    ensures small { result < 2 ^ 30 - 2 ^ 10 }
 {
     let centuries = years / 100;
     QUARTERS_PER_YEAR * years / 4 - 3 * (centuries + 1) / 4
@@ -151,8 +161,8 @@ const fn days_of_years(years: u32) -> u32
 pub(crate) const fn days_from_march(month: u8) -> u16
     requires from_one { 1 ≤ month }
     requires to_twelve { month ≤ 12 }
-    ensures early { month ≤ 2 → (year : ℤ) → result ≡ days_before_month year month + 306 }
-    ensures from_306 { month ≤ 2 → 306 ≤ result }
+    ensures early { month ≤ 2 → (year : ℤ) → result ≡ days_before_month year month + DAYS_FROM_MARCH }
+    ensures from_january { month ≤ 2 → DAYS_FROM_MARCH ≤ result }
     ensures late { 2 < month → (year : ℤ) → days_before_month year month ≡ days_before_month year 3 + result }
     ensures small { result ≤ 337 }
 {
@@ -164,9 +174,9 @@ pub(crate) const fn days_from_march(month: u8) -> u16
 #[inline]
 pub(crate) const fn month_and_day(days: u32) -> (u8, u8)
     requires { days < 366 }
-    ensures from_march { (year : ℤ) → days < 306 → IsDate year result.0 result.1
+    ensures from_march { (year : ℤ) → days < DAYS_FROM_MARCH → IsDate year result.0 result.1
         × (days_before_month year result.0 + result.1 ≡ days_before_month year 3 + days + 1) }
-    ensures next_year { (year : ℤ) → 306 ≤ days → days < days_before_month year 3 + 306
+    ensures next_year { (year : ℤ) → DAYS_FROM_MARCH ≤ days → days < days_before_month year 3 + DAYS_FROM_MARCH
         → IsDate year result.0 result.1 × (days_before_month year result.0 + result.1 + 305 ≡ days) }
 {
     // 65536 / 2141 is also close to 153 / 5.
@@ -189,7 +199,7 @@ pub(crate) const fn parts_from_march(year: i64, days: u32) -> (i64, u8, u8)
 {
     let (month, day_of_month) = month_and_day(days);
     (
-        if days < 306 { year } else { year + 1 },
+        if days < DAYS_FROM_MARCH { year } else { year + 1 },
         month,
         day_of_month,
     )
@@ -215,10 +225,10 @@ pub(crate) const fn march_year_of_day(day: i64) -> (i64, u32)
 /// the days that are left.
 #[inline]
 const fn march_year(days: u32) -> (u32, u32)
-    requires { days < 300000 }
-    ensures day { (era : ℤ) → day_number (pos 400 *ℤ era +ℤ pos result.0) 3 1 +ℤ pos result.1
-        ≡ pos 146097 *ℤ era +ℤ pos days -ℤ pos 719468 }
-    ensures within { (era : ℤ) → result.1 < days_in_year (pos 400 *ℤ era +ℤ pos result.0 +ℤ pos 1) }
+    requires { pos days <ℤ (DAYS_PER_ERA +ℤ pos DAYS_TO_EPOCH) }
+    ensures day { (era : ℤ) → day_number (YEARS_PER_ERA *ℤ era +ℤ pos result.0) 3 1 +ℤ pos result.1
+        ≡ DAYS_PER_ERA *ℤ era +ℤ pos days -ℤ MARCH_OF_ERA_0 }
+    ensures within { (era : ℤ) → result.1 < days_in_year (YEARS_PER_ERA *ℤ era +ℤ pos result.0 +ℤ pos 1) }
     ensures small { result.0 < 900 }
 {
     let quarters = 4 * days + 3;

@@ -3,7 +3,7 @@ use Rattle.calendar.proofs.MarchYears.{days_left, march_first, part_of_year, who
 use Rattle.calendar.proofs.eras.march_year.Goals as goal
 
 pub returns-clause-day : goal.returns-clause-day
-returns-clause-day c = λ era. omega (arith, ints, whole_years c.args.days c.requires, march_first era (years_in c.args.days))
+returns-clause-day c = λ era. omega (arith, ints, whole_years c.args.days (omega (arith, ints)), march_first era (years_in c.args.days))
 
 pub returns-clause-within : goal.returns-clause-within
-returns-clause-within c = λ era. part_of_year era (years_in c.args.days) (days_left c.args.days) c.args.days (whole_years c.args.days c.requires)
+returns-clause-within c = λ era. part_of_year era (years_in c.args.days) (days_left c.args.days) c.args.days (whole_years c.args.days (omega (arith, ints)))
