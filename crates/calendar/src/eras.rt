@@ -199,7 +199,11 @@ pub(crate) const fn parts_from_march(year: i64, days: u32) -> (i64, u8, u8)
 {
     let (month, day_of_month) = month_and_day(days);
     (
-        if days < DAYS_FROM_MARCH { year } else { year + 1 },
+        if days < DAYS_FROM_MARCH {
+            year
+        } else {
+            year + 1
+        },
         month,
         day_of_month,
     )
