@@ -7,6 +7,7 @@
 mod coefficients;
 mod division;
 mod divisors;
+mod nearest;
 mod operators;
 mod roots;
 mod scaling;
@@ -24,14 +25,13 @@ pub use crate::modular::checked::{
 #[doc(inline)]
 pub use crate::powers::checked::{ilog, sqrt_rem};
 #[doc(inline)]
-pub use crate::rounding::checked::{
-    div_round, div_round_even, product_div_round, product_div_round_even,
-};
+pub use crate::rounding::checked::{product_div_round, product_div_round_even};
 pub use coefficients::{binomial, multinomial, row};
 pub use division::{
     div_ceil, div_floor, div_mod_floor, div_rem, mod_floor, next_multiple_of, prev_multiple_of,
 };
 pub use divisors::{extended_gcd, extended_gcd_lcm, gcd, gcd_lcm, lcm};
+pub use nearest::{div_round, div_round_even};
 pub use operators::{dec, difference, inc, negated, product, sum};
 pub use roots::{nth_root, sqrt};
 pub use scaling::product_div_mod_floor;

@@ -30,6 +30,7 @@ mod integer_roots;
 pub mod layout;
 pub mod lists;
 pub mod modular;
+mod nearest;
 pub mod paging;
 pub mod powers;
 pub mod ranking;
@@ -50,4 +51,5 @@ pub use crate::integer_core::{
 pub use crate::integer_roots::{average_ceil, average_floor, cbrt, nth_root, sqrt, Average, Roots};
 pub use coefficients::{binomial, multinomial};
 pub use fits_trait::Fits;
+pub use nearest::{div_round, div_round_even};
 pub use rows::IterBinomial;

@@ -8,14 +8,14 @@
 use crate::calendar::days_in_year;
 use crate::calendar::eras::{
     days_to_month, era_before_year, eras_in_days, march_year_of_day, near_year, parts_from_march,
-    wide_sum, DAYS_PER_ERA, YEARS_PER_ERA,
+    wide_sum, DAYS_PER_ERA, MARCH_BEFORE_ERA_0, YEARS_PER_ERA,
 };
 use crate::calendar::months::{days_before_month, length_of_month, month_and_day_in_year};
 use crate::calendar::years::nearby_year;
 use crate::integer_core::narrowing::narrowed;
 
 /// The day of era 0 that is 1970-01-01, as [`Date::day_of_era`] counts days.
-const EPOCH_IN_ERA_0: i64 = 865566;
+const EPOCH_IN_ERA_0: i64 = MARCH_BEFORE_ERA_0 + 1;
 
 /// A date of the proleptic Gregorian calendar, in any year of `i64`. The year before year 1 is year
 /// 0. An earlier date is less than a later one.

@@ -27,17 +27,27 @@ pub(crate) const DAYS_FROM_MARCH: u32 = 306;
 const MARCH_YEAR_BEFORE_EPOCH: i64 = 1600;
 
 /// The days from that 1 March to 1970-01-01.
-const DAYS_TO_EPOCH: u32 = 135080;
+const DAYS_TO_EPOCH: u32 = (MARCH_OF_ERA_0 - 4 * DAYS_PER_ERA) as u32;
+
+/// The days from 1 March of year 0 to 1970-01-01.
+const MARCH_OF_ERA_0: i64 = 719468;
+
+/// The days from 1 March of year -400 to 1970-01-01.
+pub(crate) const MARCH_BEFORE_ERA_0: i64 = 865565;
+
+/// The years from year 0 on that are not divided into eras, since the days of so many fit a `u32`
+/// four times.
+const NEAR_YEARS: u32 = 2800000;
 
 /// The days from a 1 March to the first of each month, from January of the next year on. No month
 /// has the number 0.
 const DAYS_FROM_MARCH_TO_MONTH: [u16; 13] =
     [0, 306, 337, 0, 31, 61, 92, 122, 153, 184, 214, 245, 275];
 
-/// Returns the year as a `u32`, or `None` if it is not from 0 to 2799999.
+/// Returns the year as a `u32`, or `None` if it is not from 0 on and below `NEAR_YEARS`.
 #[inline]
 pub(crate) const fn near_year(year: i64) -> Option<u32> {
-    if 0 <= year && year < 2800000 {
+    if 0 <= year && year < NEAR_YEARS as i64 {
         Some(year as u32)
     } else {
         None
@@ -124,7 +134,11 @@ pub(crate) const fn month_and_day(days: u32) -> (u8, u8) {
 pub(crate) const fn parts_from_march(year: i64, days: u32) -> (i64, u8, u8) {
     let (month, day_of_month) = month_and_day(days);
     (
-        if days < 306 { year } else { year + 1 },
+        if days < DAYS_FROM_MARCH {
+            year
+        } else {
+            year + 1
+        },
         month,
         day_of_month,
     )

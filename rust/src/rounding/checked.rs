@@ -2,53 +2,10 @@
 //! The calls of this module for any two numbers, and those of a product. Each is `None` if the
 //! divisor is 0 or the quotient does not fit.
 
+pub use crate::checked::{div_round, div_round_even};
 use crate::operators::{is_minus_one, is_zero};
 use crate::sign_magnitude::{number_of, parts_of, parts_of_product};
-use crate::{Fits, NativeInteger};
-
-/// Returns [`div_round`](crate::rounding::div_round), the nearest integer and a half away from
-/// zero, or `None` if `y` is 0 or the quotient does not fit.
-///
-/// # Examples
-///
-/// ```
-/// use cellarcove::rounding::checked::div_round;
-///
-/// assert_eq!(div_round(5, 2), Some(3));
-/// assert_eq!(div_round(i8::MIN, -1), None);
-/// ```
-///
-/// [Contract](crate::definitions::applied#roundingcheckeddiv_round)
-#[must_use]
-pub fn div_round<T: Fits>(x: T, y: T) -> Option<T> {
-    if x.quotient_fits(&y) {
-        Some(crate::rounding::div_round(x, y))
-    } else {
-        None
-    }
-}
-
-/// Returns [`div_round_even`](crate::rounding::div_round_even), the nearest integer and a half to
-/// the even one, or `None` if [`div_round`] does.
-///
-/// # Examples
-///
-/// ```
-/// use cellarcove::rounding::checked::div_round_even;
-///
-/// assert_eq!(div_round_even(5, 2), Some(2));
-/// assert_eq!(div_round_even(5, 0), None);
-/// ```
-///
-/// [Contract](crate::definitions::applied#roundingcheckeddiv_round_even)
-#[must_use]
-pub fn div_round_even<T: Fits>(x: T, y: T) -> Option<T> {
-    if x.quotient_fits(&y) {
-        Some(crate::rounding::div_round_even(x, y))
-    } else {
-        None
-    }
-}
+use crate::NativeInteger;
 
 /// Returns the quotient of `a * b` by `d`, rounded to the nearest integer, and a half away from
 /// zero, for a built-in type of at most 64 bits, or `None` if `d` is 0 or the quotient does not

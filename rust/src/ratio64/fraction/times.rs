@@ -3,10 +3,9 @@
 
 use crate::guards::check;
 use crate::narrowing::narrowed;
-use crate::ratio64::fraction::rounding::{nearest, nearest_even};
 use crate::ratio64::reduction::product;
 use crate::ratio64::{Ratio, RatioError};
-use crate::{div_ceil, div_floor};
+use crate::{div_ceil, div_floor, div_round, div_round_even};
 
 impl Ratio {
     /// Returns the fraction times `n`, rounded down, or `None` if that number does not fit. The
@@ -226,7 +225,7 @@ impl Ratio {
     #[track_caller]
     fn wide_round_times(&self, n: i64) -> i128 {
         let (num, den) = self.times(n);
-        nearest(num, den)
+        div_round(num, den)
     }
 
     /// Returns the fraction times `n`, rounded to the nearest integer and a half to the even one,
@@ -234,7 +233,7 @@ impl Ratio {
     #[track_caller]
     pub(crate) fn wide_round_even_times(&self, n: i64) -> i128 {
         let (num, den) = self.times(n);
-        nearest_even(num, den)
+        div_round_even(num, den)
     }
 
     /// Returns the parts of the fraction times `n`, which are not in lowest terms.
