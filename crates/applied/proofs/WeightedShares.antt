@@ -1,5 +1,5 @@
 -- An amount divided in proportion to weights.
-use Rattle.applied.proofs.Common.{◌≡◌, ◌+◌, ◌*◌, ◌<◌, ◌≤◌, ◌≤ℤ◌, ◌-ℤ◌, ◌∷◌, ℕ, List, EachIndex, length, slice_index, slice_set, sum, take, ◌∙◌, ap, arith, le_refl, sym, ext_get_or, length-set, take-set-le, take_all, take_more_set, sum_by_more, sum_by_push, mul-le, IsOnly, AreShares, IsNearShare, suc, ℤ, pos, [], All, map, unsigned_abs, get_or, refl, set, by_lt_z, ints, get_or-map, get_or-set_other, get_or-set_same, length-map, map-set, sum_by-cons, AreSignedShares, signed_sum}
+use Rattle.applied.proofs.Common.{◌≡◌, ◌+◌, ◌*◌, ◌<◌, ◌≤◌, ◌<ℤ◌, ◌≤ℤ◌, ◌-ℤ◌, ◌∷◌, ℕ, List, EachIndex, length, slice_index, slice_set, sum, take, ◌∙◌, ap, arith, le_refl, sym, ext_get_or, length-set, take-set-le, take_all, take_more_set, sum_by_more, sum_by_push, mul-le, IsOnly, AreShares, IsNearShare, suc, ℤ, neg_ℤ, pos, [], All, map, unsigned_abs, get_or, refl, set, by_lt_z, ints, get_or-map, get_or-set_other, get_or-set_same, length-map, map-set, sum_by-cons, AreSignedShares, signed_sum}
 
 -- ---- the shares so far
 
@@ -75,6 +75,17 @@ pub record AreSignedTo (amount : ℤ) (weights : List ℕ) (total i ahead : ℕ)
 
 pub none_signed : {amount : ℤ} {total : ℕ} {weights : List ℕ} {shares : List ℤ} → length shares ≡ length weights → 0 < total → AreSignedTo amount weights total 0 0 shares
 none_signed {shares = shares} size up = grind (arith, none_shared, length-map, unsigned_abs)
+
+-- the number with the magnitude m and the sign of the amount
+module _ {amount share : ℤ} {m : ℕ} (from_zero : pos 0 ≤ℤ amount → share ≡ pos m) (below_zero : amount <ℤ pos 0 → share ≡ neg_ℤ (pos m)) where
+  pub signed_size : unsigned_abs share ≡ m
+  signed_size = by_lt_z amount (pos 0) (λ below. let is = below_zero below in omega (arith, ints, is)) (λ up. let is = from_zero up in omega (arith, ints, is))
+
+  pub signed_from_zero : pos 0 ≤ℤ amount → pos 0 ≤ℤ share
+  signed_from_zero up = let is = from_zero up in omega (arith, ints, is)
+
+  pub signed_to_zero : m ≤ unsigned_abs amount → amount ≤ℤ pos 0 → share ≤ℤ pos 0
+  signed_to_zero within down = by_lt_z amount (pos 0) (λ below. let is = below_zero below in omega (arith, ints, is)) (λ up. let is = from_zero up in omega (arith, ints, is, within))
 
 pub one_more_signed : {amount : ℤ} {total i ahead next : ℕ} {weights : List ℕ} {shares : List ℤ} (share : ℤ) → i < length weights
     → unsigned_abs share * total + ahead ≡ unsigned_abs amount * slice_index weights i + next → next < total

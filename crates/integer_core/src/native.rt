@@ -1,11 +1,11 @@
 //! The sealed trait of the native integer types: their range and their magnitudes.
 
-ghost use Rattle.std.specs.Prelude.{◌≡◌, pos, unsigned_abs};
+ghost use Rattle.std.specs.Prelude.{◌≡◌, ◌≤ℤ◌, ◌<ℤ◌, neg_ℤ, pos, unsigned_abs};
 ghost use Rattle.std.specs.Int.{w8, w16, w32, w64, w128};
 ghost use Rattle.std.proofs.Common.{lit≤};
 ghost use Rattle.integer_core.specs.NativeRanges.{IsNative, signed_native, unsigned_native};
 
-use crate::fitting::{difference, successor};
+use crate::fitting::{difference, negated, successor};
 use crate::operators::{is_negative, zero};
 use crate::stein::Magnitude;
 use num_traits::{AsPrimitive, Bounded, CheckedAdd, CheckedMul, CheckedSub, FixedWidth, Num};
@@ -57,6 +57,29 @@ pub trait Magnitudes: Native {
         ensures value { Self.value result ≡ Self.Magnitude.value magnitude }
     {
         magnitude.as_()
+    }
+
+    /// Returns the number with this magnitude and the sign of `self`. `(-5i8).with_magnitude(128)` is `-128`.
+    final fn with_magnitude(self, magnitude: Self::Magnitude) -> Self
+        requires in_range { Self.fits (Self.value self) }
+        requires from_zero_fits { pos 0 ≤ℤ Self.value self
+            → Self.fits (Self.Magnitude.value magnitude) }
+        requires below_zero_fits { Self.value self <ℤ pos 0
+            → Self.fits (neg_ℤ (Self.Magnitude.value magnitude)) }
+        ensures in_range { Self.fits (Self.value result) }
+        ensures from_zero { pos 0 ≤ℤ Self.value self
+            → Self.value result ≡ Self.Magnitude.value magnitude }
+        ensures below_zero { Self.value self <ℤ pos 0
+            → Self.value result ≡ neg_ℤ (Self.Magnitude.value magnitude) }
+    {
+        let low = Self::min_value();
+        if !is_negative(self) {
+            Self::from_magnitude(magnitude)
+        } else if magnitude == low.magnitude() {
+            low
+        } else {
+            negated(Self::from_magnitude(magnitude))
+        }
     }
 }
 

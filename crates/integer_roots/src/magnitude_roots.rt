@@ -1,6 +1,6 @@
 //! The roots of the native types, computed from the roots of their magnitudes.
 
-ghost use Rattle.std.specs.Prelude.{◌≡◌, ◌≢◌, ◌%◌, ◌≤◌, ◌≤ℤ◌, ◌<ℤ◌, neg_ℤ, pos};
+ghost use Rattle.std.specs.Prelude.{◌≡◌, ◌≢◌, ◌%◌, ◌≤◌, ◌≤ℤ◌, pos};
 ghost use Rattle.num_traits.specs.Laws.{bit_len};
 ghost use Rattle.integer_roots.specs.RootOf.{IsRoot};
 ghost use Rattle.integer_roots.specs.SquareRuns.{AreSquareRootIterations};
@@ -8,7 +8,7 @@ ghost use Rattle.integer_roots.specs.SquareRuns.{AreSquareRootIterations};
 use crate::cube_root::cube_root;
 use crate::root_of_degree::root_of_degree;
 use crate::square_root::square_root_counted;
-use integer_core::operators::{is_negative, negated, zero};
+use integer_core::operators::zero;
 use integer_core::{Magnitudes, NativeInteger};
 use num_traits::PrimInt;
 
@@ -31,7 +31,7 @@ pub(crate) fn cube_root_by_magnitude<T: NativeInteger<Magnitude = u64>>(x: T) ->
     ensures in_range { T.fits (T.value result) }
     ensures root { IsRoot (T.value x) 3 (T.value result) }
 {
-    with_sign_of(x, cube_root(x.magnitude(), bits::<T>()))
+    x.with_magnitude(cube_root(x.magnitude(), bits::<T>()))
 }
 
 /// Returns the number of bits of the type.
@@ -53,18 +53,6 @@ pub(crate) fn root_by_magnitude<T: NativeInteger<Magnitude = u64>>(x: T, n: u32)
         1 => x,
         2 => square_root_by_magnitude(x).0,
         3 => cube_root_by_magnitude(x),
-        _ => with_sign_of(x, root_of_degree(x.magnitude(), n)),
+        _ => x.with_magnitude(root_of_degree(x.magnitude(), n)),
     }
-}
-
-/// Returns the number of this magnitude that has the sign of `x`.
-fn with_sign_of<T: NativeInteger<Magnitude = u64>>(x: T, magnitude: u64) -> T
-    requires x_in_range { T.fits (T.value x) }
-    requires magnitude_fits { T.fits (pos magnitude) }
-    ensures in_range { T.fits (T.value result) }
-    ensures from_zero { pos 0 ≤ℤ T.value x → T.value result ≡ pos magnitude }
-    ensures below_zero { T.value x <ℤ pos 0 → T.value result ≡ neg_ℤ (pos magnitude) }
-{
-    let root = T::from_magnitude(magnitude);
-    if is_negative(x) { negated(root) } else { root }
 }

@@ -23,13 +23,13 @@ negated_parts {n} {d} {max} {a} {b} x =
     }
 
 -- the nearest parts of a magnitude, with the sign
-pub signed_parts : {d max b : ℤ} {a : ℕ} (n m : ℤ) → (n <ℤ pos 0 → m ≡ neg_ℤ (pos a)) → (¬ (n <ℤ pos 0) → m ≡ pos a)
+pub signed_parts : {d max b : ℤ} {a : ℕ} (n m : ℤ) → (n <ℤ pos 0 → m ≡ neg_ℤ (pos a)) → (pos 0 ≤ℤ n → m ≡ pos a)
     → AreNearestParts (pos (unsigned_abs n)) d max (pos a) b → AreNearestParts n d max m b
-signed_parts (pos n) m negative other x = rw (other (λ low. absurd (omega (arith, ints)))) x
+signed_parts (pos n) m negative other x = rw (other (omega (arith, ints))) x
 signed_parts (negsuc n) m negative other x = rw (negative (omega (arith, ints))) (negated_parts x)
 
-pub signed_reduced : {b : ℤ} {a : ℕ} (n m : ℤ) → (n <ℤ pos 0 → m ≡ neg_ℤ (pos a)) → (¬ (n <ℤ pos 0) → m ≡ pos a) → IsReduced (pos a) b → IsReduced m b
-signed_reduced (pos n) m negative other x = rw (other (λ low. absurd (omega (arith, ints)))) x
+pub signed_reduced : {b : ℤ} {a : ℕ} (n m : ℤ) → (n <ℤ pos 0 → m ≡ neg_ℤ (pos a)) → (pos 0 ≤ℤ n → m ≡ pos a) → IsReduced (pos a) b → IsReduced m b
+signed_reduced (pos n) m negative other x = rw (other (omega (arith, ints))) x
 signed_reduced (negsuc n) m negative other x = rw (negative (omega (arith, ints))) (negated_reduced x)
 
 -- ---- no two over one denominator

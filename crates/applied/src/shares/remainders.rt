@@ -4,7 +4,8 @@ ghost use Rattle.std.specs.Prelude.{◌≡◌, ◌≢◌, ◌↔◌, ◌<◌, �
 ghost use Rattle.num_integer.specs.Only.{IsOnly};
 ghost use Rattle.applied.specs.Shares.{AreSharesByRemainder, AreSignedSharesByRemainder, CanBeShared, IsNearShare, RoundsShare, count_from, remainder_of, rounded_down, signed_sum};
 
-use crate::shares::{SharesError, total_to_share, with_sign_of};
+use crate::shares::{SharesError, total_to_share};
+use num_integer::Magnitudes;
 
 /// Fills `shares` with the shares of the amount by largest remainders. Each share is its exact share rounded down, or
 /// 1 more. The weights with the largest remainders get 1 more, and of equal remainders the first, so that the shares
@@ -89,7 +90,7 @@ pub fn signed_shares_by_largest_remainder(
     let mut left = extra;
     for (i, weight) in weights.iter().enumerate() {
         let (share, next) = rounded_share(magnitude, *weight, total, bar, left);
-        shares[i] = with_sign_of(amount, share);
+        shares[i] = amount.with_magnitude(share);
         left = next;
     }
     Ok(())

@@ -1,15 +1,15 @@
 //! The nearest fraction with a small denominator, and with two small parts.
 
 ghost use Rattle.std.specs.Int.{w64};
-ghost use Rattle.std.specs.Prelude.{◌≡◌, ◌^◌, ◌<◌, ◌<ℤ◌, ◌+ℤ◌, ◌*ℤ◌, neg_ℤ, pos, FitsSigned};
+ghost use Rattle.std.specs.Prelude.{◌≡◌, ◌^◌, ◌<◌, ◌<ℤ◌, ◌+ℤ◌, ◌*ℤ◌, pos, FitsSigned};
 ghost use Rattle.ratio64.specs.Limiting.{AreNearestParts, IsNearestWithin};
 ghost use Rattle.ratio64.specs.Ratio.{num_of, den_of};
 
 use crate::Ratio;
 use crate::neighbours::{Neighbour, nearer, nearest_parts, neighbours};
 use crate::reduction::product;
-use num_integer::div_mod_floor;
 use num_integer::guards::check;
+use num_integer::{Magnitudes, div_mod_floor};
 
 impl Ratio {
     /// Returns the nearest fraction whose denominator is at most `max`. Of those equally near it
@@ -69,7 +69,7 @@ impl Ratio {
         }
         let nearest = nearest_parts(num, den, limit);
         Self {
-            num: with_sign_of(self.num, nearest.num),
+            num: self.num.with_magnitude(nearest.num),
             den: nearest.den as i64,
         }
     }
@@ -83,14 +83,4 @@ fn numerator(whole: i64, part: Neighbour) -> i64
 {
     let num = product(whole, part.den as i64) + i128::from(part.num);
     num as i64
-}
-
-/// Returns the number with this magnitude that is negative if `number` is.
-fn with_sign_of(number: i64, magnitude: u64) -> i64
-    requires { magnitude < 2 ^ 63 }
-    ensures negative { number <ℤ pos 0 → result ≡ neg_ℤ (pos magnitude) }
-    ensures other { ¬ (number <ℤ pos 0) → result ≡ pos magnitude }
-{
-    let size = magnitude as i64;
-    if number < 0 { -size } else { size }
 }

@@ -1,14 +1,17 @@
 use Rattle.applied.proofs.Common.{FitsSigned, w64, arith, rules, to_z-of_z}
 use Rattle.applied.proofs.LargestRemainders.{all_signed_raised, one_more_signed_raised, signed_by_remainder_are_only, signed_by_remainder_are_whole}
+use Rattle.applied.proofs.WeightedShares.{signed_from_zero, signed_size, signed_to_zero}
 use Rattle.applied.proofs.shares.remainders.signed_shares_by_largest_remainder.Goals as goal
 
 pub loop-i-preserved : goal.loop-i-preserved
 loop-i-preserved c =
-    let share : FitsSigned w64 c.with_sign_of.result = search rules in
-    let written = to_z-of_z w64 c.with_sign_of.result share in
+    let share : FitsSigned w64 c.with_magnitude.result = search rules in
+    let written = to_z-of_z w64 c.with_magnitude.result share in
+    let sign = c.with_magnitude.ensures in
     one_more_signed_raised _ _ c.loop-i-test.true c.loop-i.invariant c.bar_of-bar.ensures.bar (λ some. (c.bar_of-bar.ensures.left some).0)
-    (rw (written, c.with_sign_of.ensures.magnitude) c.rounded_share-share.ensures.rounds)
-    (λ sign. rw written (c.with_sign_of.ensures.from_zero sign)) (λ sign. rw written (c.with_sign_of.ensures.to_zero sign))
+    (rw (written, signed_size sign.from_zero sign.below_zero) c.rounded_share-share.ensures.rounds)
+    (λ up. rw written (signed_from_zero sign.from_zero sign.below_zero up))
+    (λ down. rw written (signed_to_zero sign.from_zero sign.below_zero (rw (← c.unsigned_abs-magnitude.ensures.value) c.rounded_share-share.ensures.within) down))
 
 pub returns-clause-shares : goal.returns-clause-shares
 returns-clause-shares c =

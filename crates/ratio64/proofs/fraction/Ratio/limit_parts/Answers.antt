@@ -34,9 +34,9 @@ invariant_of-result c =
     let at = goal.at.invariant_of-result c in
     let den = to_z_pos w64 c.nearest_parts-nearest.result.den (small at.After-nearest_parts-nearest (read at.After-unsigned_abs-limit).2) in
     let num : FitsSigned w64 c.args.self.now.num = search rules in
-    let sign = simp to_z-of_z at c.with_sign_of.ensures in
-    let own = to_z-of_z w64 c.with_sign_of.result (search rules) in
-    record { reduced = rw (own, den) (signed_reduced (num_of c.args.self.now) _ sign.negative sign.other c.nearest_parts-nearest.ensures.reduced) }
+    let sign = simp to_z-of_z at c.with_magnitude.ensures in
+    let own = to_z-of_z w64 c.with_magnitude.result (search rules) in
+    record { reduced = rw (own, den) (signed_reduced (num_of c.args.self.now) _ sign.below_zero sign.from_zero c.nearest_parts-nearest.ensures.reduced) }
 
 pub returns : goal.returns
 returns c =
@@ -44,7 +44,7 @@ returns c =
     let is = read at.After-unsigned_abs-limit in
     let den = to_z_pos w64 c.nearest_parts-nearest.result.den (small at.After-nearest_parts-nearest is.2) in
     let num : FitsSigned w64 c.args.self.now.num = search rules in
-    let sign = simp to_z-of_z at c.with_sign_of.ensures in
-    let own = to_z-of_z w64 c.with_sign_of.result (search rules) in
+    let sign = simp to_z-of_z at c.with_magnitude.ensures in
+    let own = to_z-of_z w64 c.with_magnitude.result (search rules) in
     let nearest = rw (is.0, is.1, is.2) at c.nearest_parts-nearest.ensures.nearest in
-    rw (own, den) (signed_parts (num_of c.args.self.now) _ sign.negative sign.other nearest)
+    rw (own, den) (signed_parts (num_of c.args.self.now) _ sign.below_zero sign.from_zero nearest)
