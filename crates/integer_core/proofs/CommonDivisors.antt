@@ -1,8 +1,10 @@
 -- Greatest common divisors and least common multiples.
-use Rattle.integer_core.proofs.Common.{rules, ◌≡◌, ◌≢◌, ◌⊎◌, ◌<◌, ◌≤ℤ◌, ◌*ℤ◌, ◌↔◌, ℤ, pos, unsigned_abs, int_div, arith, inl, inr, sym, ints, unsigned_abs-mul, linear, sizes, products, comm, left_comm, dist-left, Divides, IsGreatestCommonDivisor, IsLeastCommonMultiple, GcdFits, IsRange, EachFits}
+use Rattle.std.specs.Prelude.{IfSome, IsSome, MatchOption}
+use Rattle.integer_core.proofs.Common.{None, Option, Some, Width, ℕ, rules, ◌≡◌, ◌≢◌, ◌⊎◌, ◌<◌, ◌≤ℤ◌, ◌*ℤ◌, ◌↔◌, ℤ, pos, unsigned_abs, int_div, arith, inl, inr, subst, sym, ints, unsigned_abs-mul, linear, sizes, products, comm, left_comm, dist-left, Divides, IsGreatestCommonDivisor, IsLeastCommonMultiple, GcdFits, IsRange, EachFits}
 pub use Rattle.integer_core.proofs.Divisibility.{Divides-trans, Divides-zero, Divides-antisym, magnitude_divides, divides_magnitude, Divides-sum, Divides-times, Divides-cancel, exact_quotient, divisor_size, only_gcd, gcd-swap, gcd-nonzero, gcd-positive, gcd-divisor, gcd-zero, gcd-remainder, zero_or_not, cancel, zero_divides, from_natural, to_natural, Divides-minus_one, divides_from_exact, exact_from_divides, mul-one}
 pub use Rattle.integer_core.proofs.Ranges.{within_fits, lcm_is_magnitude, magnitude_by_distance}
 use Rattle.integer_core.proofs.BezoutAnswers.{bezout_answer_exists}
+use Rattle.integer_core.specs.NativeRanges.{IsNative}
 
 -- ---- greatest common divisors
 
@@ -63,6 +65,28 @@ lcm-of-sizes a_up b_up b_positive x u v = lcm-computed (omega (arith, sizes, a_u
 -- two numbers have that of their magnitudes
 pub lcm-magnitudes : {a b m n l : ℤ} → m ≡ pos (unsigned_abs a) → n ≡ pos (unsigned_abs b) → IsLeastCommonMultiple m n l → IsLeastCommonMultiple a b l
 lcm-magnitudes e f x = let y = rw (e, f) at x in search (rules, Divides-trans, magnitude_divides, divides_magnitude, y.least)
+
+-- a product that fits or not, and is the lcm, says whether the lcm fits
+pub lcm_told : {A : Type 0} (value : A → ℤ) (fits : ℤ → Type 0) {a b l : ℤ} (r : Option A) → IsLeastCommonMultiple a b l
+    → MatchOption r (¬ (fits l)) (λ x. fits (value x) × (value x ≡ l))
+    → MatchOption r (¬ (EachFits fits (IsLeastCommonMultiple a b))) (λ x. fits (value x) × IsLeastCommonMultiple a b (value x))
+lcm_told value fits None is beyond = λ each. beyond (each _ is)
+lcm_told value fits (Some x) is told = (told.0, rw told.1 is)
+
+module _ {A : Type 0} (value : A → ℤ) {w : Width} {number : ℕ → ℤ} {fits wide : ℤ → Type 0} {low high a b m n : ℤ} (native : IsNative w number fits low high wide)
+    (each : EachFits fits (IsLeastCommonMultiple a b)) (m_is : m ≡ pos (unsigned_abs a)) (n_is : n ≡ pos (unsigned_abs b)) where
+  -- whether the lcm of the magnitudes fits, and which it is
+  abbrev pub Told : Option A → Type 0
+  Told r = MatchOption r (¬ (EachFits wide (IsLeastCommonMultiple m n))) (λ x. wide (value x) × IsLeastCommonMultiple m n (value x))
+
+  -- two numbers whose lcm fits have that of their magnitudes, which is there
+  pub lcm_is_there : (r : Option A) → Told r → IsSome r
+  lcm_is_there None beyond = absurd (beyond (λ l h. lcm_is_magnitude native each (lcm-magnitudes m_is n_is h)))
+  lcm_is_there (Some x) told = search rules
+
+  pub lcm_there : {x : A} (r : Option A) → Told r → IfSome r (λ y. y ≡ x) → IsLeastCommonMultiple a b (value x)
+  lcm_there None beyond is = absurd (beyond (λ l h. lcm_is_magnitude native each (lcm-magnitudes m_is n_is h)))
+  lcm_there (Some y) told is = subst (λ z. IsLeastCommonMultiple a b (value z)) is (lcm-magnitudes m_is n_is told.1)
 
 -- every pair has one, and times the gcd it is the magnitude of the product
 lcm_of_gcd : {a b g : ℤ} → IsGreatestCommonDivisor a b g → (l : ℤ) × IsLeastCommonMultiple a b l × (g *ℤ l ≡ pos (unsigned_abs (a *ℤ b)))

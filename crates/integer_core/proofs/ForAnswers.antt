@@ -1,7 +1,7 @@
 -- The names that the answers cite, passed on from one place. Declares nothing.
 pub use Rattle.integer_core.proofs.BezoutAnswers.{answer_for_zero, answer_of_loop, only_answer, sign_keeps, sign_size}
 pub use Rattle.integer_core.proofs.Common.{List, None, ap, arith, cases_eq, iff_false, inl, inr, length, linear, refl, rules, sizes, subst, sym, unsigned_abs, w128, w64, ℕ, ℤ, ◌+◌, ◌-◌, ◌<◌, ◌^◌, ◌∙◌, ◌≡◌}
-pub use Rattle.integer_core.proofs.CommonDivisors.{gcd-magnitudes, gcd-nonzero, gcd-swap, gcd_fits_is, lcm-magnitudes, lcm-of-sizes, lcm-zero, Divides-minus_one, Divides-zero, divides_from_exact, exact_from_divides, zero_divides, lcm_is_magnitude, magnitude_by_distance, within_fits}
+pub use Rattle.integer_core.proofs.CommonDivisors.{gcd-magnitudes, gcd-nonzero, gcd-swap, gcd_fits_is, lcm-magnitudes, lcm-of-sizes, lcm-zero, lcm_is_there, lcm_there, lcm_told, Divides-minus_one, Divides-zero, divides_from_exact, exact_from_divides, zero_divides, lcm_is_magnitude, magnitude_by_distance, within_fits}
 pub use Rattle.integer_core.proofs.EuclidIterations.{inexact, lame}
 pub use Rattle.integer_core.proofs.NaturalGcd.{gcd_of_odd_parts, gcd_of_sizes}
 pub use Rattle.integer_core.proofs.OddParts.{difference_by_shift, few_iterations, iterations_fit, odd_part_by_shift, odd_part_le, turning_falls}

@@ -1,7 +1,7 @@
 //! `Integer` and `GcdCounted` for the native types.
 
 use crate::counted::GcdCounted;
-use crate::guards::number_or;
+use crate::guards::{number_or, some};
 use crate::native::{Magnitudes, Native};
 use crate::operators::{is_minus_one, zero};
 use crate::stein::{binary_gcd, gcd_lcm_of_magnitudes};
@@ -70,14 +70,16 @@ impl<T: Native> Integer for T {
     }
 
     fn lcm(&self, other: &T) -> T {
+        let reason = "the least common multiple does not fit";
         let lcm = gcd_lcm_of_magnitudes(self.magnitude(), other.magnitude()).1;
-        number_or(lcm, "the least common multiple does not fit")
+        number_or(some(lcm, reason), reason)
     }
 
     fn gcd_lcm(&self, other: &T) -> (T, T) {
+        let reason = "the least common multiple does not fit";
         let (gcd, lcm) = gcd_lcm_of_magnitudes(self.magnitude(), other.magnitude());
         let gcd = number_or(gcd, "the greatest common divisor does not fit");
-        let lcm = number_or(lcm, "the least common multiple does not fit");
+        let lcm = number_or(some(lcm, reason), reason);
         (gcd, lcm)
     }
 }

@@ -11,7 +11,7 @@ ghost use Rattle.integer_core.specs.NativeRanges.{within_128_bits};
 ghost use Rattle.integer_core.specs.Range.{EachFits};
 ghost use Rattle.num_traits.specs.Ints.{unsigned-low};
 
-use crate::guards::{number_or, product_or};
+use crate::guards::number_or;
 use crate::native::{Magnitudes, Native};
 use num_traits::{Bounded, Integral};
 
@@ -27,12 +27,14 @@ pub trait Magnitude: Copy + PartialOrd + Integral {
         ensures in_range { Self.fits (Self.value result) }
         ensures value { Self.value result ≡ Self.value self +ℤ pos 1 };
 
-    /// Returns the number times the quotient of two others. `4.times_quotient(6, 2)` is `12`.
-    fn times_quotient(self, dividend: Self, divisor: Self) -> Self
-        requires nonzero { Self.value divisor ≢ pos 0 }
-        requires product_fits { Self.fits (Self.value self *ℤ int_div (Self.value dividend) (Self.value divisor)) }
-        ensures in_range { Self.fits (Self.value result) }
-        ensures value { Self.value result ≡ Self.value self *ℤ int_div (Self.value dividend) (Self.value divisor) };
+    /// Returns the number times the quotient of two others, or `None` if the product does not fit.
+    /// `4.times_quotient(6, 2)` is `Some(12)`.
+    fn times_quotient(self, dividend: Self, divisor: Self) -> Option<Self>
+        requires { Self.value divisor ≢ pos 0 }
+        ensures { MatchOption result
+            (¬ (Self.fits (Self.value self *ℤ int_div (Self.value dividend) (Self.value divisor))))
+            (λ x. Self.fits (Self.value x)
+            × (Self.value x ≡ Self.value self *ℤ int_div (Self.value dividend) (Self.value divisor))) };
 
     /// Returns the number without its factors 2, and how many they are. `12.odd_part()` is `(3, 2)`.
     fn odd_part(self) -> (Self, u32)
@@ -97,12 +99,8 @@ impl Magnitude for u64 {
     }
 
     #[inline]
-    fn times_quotient(self, dividend: Self, divisor: Self) -> Self {
-        product_or(
-            self,
-            dividend / divisor,
-            "the least common multiple does not fit",
-        )
+    fn times_quotient(self, dividend: Self, divisor: Self) -> Option<Self> {
+        self.checked_mul(dividend / divisor)
     }
 
     fn odd_part(self) -> (Self, u32) {
@@ -147,12 +145,8 @@ impl Magnitude for u128 {
     }
 
     #[inline]
-    fn times_quotient(self, dividend: Self, divisor: Self) -> Self {
-        product_or(
-            self,
-            dividend / divisor,
-            "the least common multiple does not fit",
-        )
+    fn times_quotient(self, dividend: Self, divisor: Self) -> Option<Self> {
+        self.checked_mul(dividend / divisor)
     }
 
     fn odd_part(self) -> (Self, u32) {
@@ -294,19 +288,20 @@ fn shared_power_of_two<M: Magnitude>(a: M, b: M) -> M
     M::from_64_bits(1).times_power_of_two(odd_parts(a, b).2)
 }
 
-/// Returns the greatest common divisor and the least common multiple of two magnitudes.
-/// `gcd_lcm_of_magnitudes(0u64, 6)` is `(6, 0)`.
-pub(crate) fn gcd_lcm_of_magnitudes<M: Magnitude>(m: M, n: M) -> (M, M)
-    requires in_range { M.fits (M.value m) × M.fits (M.value n) }
-    requires lcm_fits { EachFits M.fits (IsLeastCommonMultiple (M.value m) (M.value n)) }
-    ensures in_range { M.fits (M.value result.0) × M.fits (M.value result.1) }
+/// Returns the greatest common divisor and the least common multiple of two magnitudes, `None` if the
+/// multiple does not fit. `gcd_lcm_of_magnitudes(0u64, 6)` is `(6, Some(0))`.
+pub(crate) fn gcd_lcm_of_magnitudes<M: Magnitude>(m: M, n: M) -> (M, Option<M>)
+    requires { M.fits (M.value m) × M.fits (M.value n) }
+    ensures in_range { M.fits (M.value result.0) }
     ensures greatest { IsGreatestCommonDivisor (M.value m) (M.value n) (M.value result.0) }
-    ensures least { IsLeastCommonMultiple (M.value m) (M.value n) (M.value result.1) }
+    ensures least { MatchOption result.1
+        (¬ (EachFits M.fits (IsLeastCommonMultiple (M.value m) (M.value n))))
+        (λ l. M.fits (M.value l) × IsLeastCommonMultiple (M.value m) (M.value n) (M.value l)) }
 {
     if m.is_zero() {
-        (n, m)
+        (n, Some(m))
     } else if n.is_zero() {
-        (m, n)
+        (m, Some(n))
     } else {
         let gcd = positive_gcd(m, n).0;
         (gcd, m.times_quotient(n, gcd))

@@ -1,7 +1,7 @@
 //! The hidden methods of `Integer` for the built-in types, which panic with the reason if the result does not fit, and what the compiler says
 //! of another type.
 
-use crate::integer_core::guards::{check, some, Reason};
+use crate::integer_core::guards::{check, Reason};
 
 #[cfg_attr(
     has_diagnostic,

@@ -1,25 +1,22 @@
-use Rattle.integer_core.proofs.ForAnswers.{arith, inl, inr, refl, sizes, gcd-nonzero, gcd-swap, lcm-of-sizes, lcm-zero, gcd_with_zero}
+use Rattle.integer_core.proofs.ForAnswers.{arith, inl, inr, refl, sizes, gcd-nonzero, gcd-swap, lcm-of-sizes, lcm-zero, lcm_told, gcd_with_zero}
 use Rattle.integer_core.proofs.stein.gcd_lcm_of_magnitudes.Goals as goal
 
 pub returns-then-is_zero-clause-greatest : goal.returns-then-is_zero-clause-greatest
 returns-then-is_zero-clause-greatest g c = rw (c.is_zero.ensures.0 c.if-is_zero.true) (gcd-swap (gcd_with_zero (g.met.M.Magnitude.unsigned_law c.args.n)))
 
 pub returns-then-is_zero-clause-least : goal.returns-then-is_zero-clause-least
-returns-then-is_zero-clause-least g c = rw (c.is_zero.ensures.0 c.if-is_zero.true) (lcm-zero (inl refl))
+returns-then-is_zero-clause-least g c = (c.requires.0, rw (c.is_zero.ensures.0 c.if-is_zero.true) (lcm-zero (inl refl)))
 
 pub returns-then-is_zero-2-clause-greatest : goal.returns-then-is_zero-2-clause-greatest
 returns-then-is_zero-2-clause-greatest g c = rw (c.is_zero-else-is_zero.ensures.0 c.if-is_zero-2.true) (gcd_with_zero (g.met.M.Magnitude.unsigned_law c.args.m))
 
 pub returns-then-is_zero-2-clause-least : goal.returns-then-is_zero-2-clause-least
-returns-then-is_zero-2-clause-least g c = rw (c.is_zero-else-is_zero.ensures.0 c.if-is_zero-2.true) (lcm-zero (inr refl))
+returns-then-is_zero-2-clause-least g c = (c.requires.1, rw (c.is_zero-else-is_zero.ensures.0 c.if-is_zero-2.true) (lcm-zero (inr refl)))
 
-pub times_quotient-requires-clause-nonzero : goal.times_quotient-requires-clause-nonzero
-times_quotient-requires-clause-nonzero g c = gcd-nonzero c.positive_gcd-gcd.ensures.gcd.greatest (grind (arith, sizes))
-
-pub times_quotient-requires-clause-product_fits : goal.times_quotient-requires-clause-product_fits
-times_quotient-requires-clause-product_fits g c =
-    c.requires.lcm_fits _ (lcm-of-sizes (g.met.M.Magnitude.unsigned_law c.args.m) (g.met.M.Magnitude.unsigned_law c.args.n) (grind (arith, sizes)) c.positive_gcd-gcd.ensures.gcd.greatest refl refl)
+pub times_quotient-requires : goal.times_quotient-requires
+times_quotient-requires g c = gcd-nonzero c.positive_gcd-gcd.ensures.gcd.greatest (grind (arith, sizes))
 
 pub returns-else-is_zero-2-clause-least : goal.returns-else-is_zero-2-clause-least
 returns-else-is_zero-2-clause-least g c =
-    lcm-of-sizes (g.met.M.Magnitude.unsigned_law c.args.m) (g.met.M.Magnitude.unsigned_law c.args.n) (grind (arith, sizes)) c.positive_gcd-gcd.ensures.gcd.greatest refl c.times_quotient.ensures.value
+    lcm_told g.M.Number.value g.M.Number.fits _ (lcm-of-sizes (g.met.M.Magnitude.unsigned_law c.args.m) (g.met.M.Magnitude.unsigned_law c.args.n) (grind (arith, sizes)) c.positive_gcd-gcd.ensures.gcd.greatest refl refl)
+    c.times_quotient.ensures
