@@ -27,6 +27,8 @@ pub use native::Magnitudes;
 pub use native_integer::NativeInteger;
 use num_traits::{Num, Signed};
 use operators::{difference, is_zero, predecessor, successor, sum};
+#[doc(hidden)]
+pub use stein::lcm_of_magnitudes;
 
 /// A type of integers, with division, divisors and multiples specified on the integers that its values
 /// mean. `12.gcd(&18)` is `6`.

@@ -2,7 +2,7 @@
 //! volume 2, section 4.5.2, algorithm B).
 
 ghost use Rattle.std.specs.Prelude.{ℕ, ℤ, ◌≡◌, ◌≢◌, ◌↔◌, ◌⊎◌, ◌-◌, ◌*◌, ◌%◌, ◌^◌, ◌<◌, ◌≤◌, ◌≤ℤ◌, ◌+ℤ◌, ◌*ℤ◌, int_div, pos, unsigned_abs, IsTrue};
-ghost use Rattle.std.specs.Int.{IsGcd, IsPowerOfTwo};
+ghost use Rattle.std.specs.Int.{FitsUnsignedBits, IsGcd, IsPowerOfTwo};
 ghost use Rattle.std.specs.Option.{MatchOption};
 ghost use Rattle.std.proofs.Common.{lit<, lit≤};
 ghost use Rattle.integer_core.specs.Divisors.{GcdFits, IsGreatestCommonDivisor, IsLeastCommonMultiple};
@@ -306,6 +306,16 @@ pub(crate) fn gcd_lcm_of_magnitudes<M: Magnitude>(m: M, n: M) -> (M, Option<M>)
         let gcd = positive_gcd(m, n).0;
         (gcd, m.times_quotient(n, gcd))
     }
+}
+
+/// Returns the least common multiple of two magnitudes, or `None` if it does not fit in 128 bits.
+/// `lcm_of_magnitudes(4, 6)` is `Some(12)`.
+pub fn lcm_of_magnitudes(m: u128, n: u128) -> Option<u128>
+    ensures { MatchOption result
+        (¬ (EachFits (FitsUnsignedBits 128) (IsLeastCommonMultiple (pos m) (pos n))))
+        (λ l. FitsUnsignedBits 128 (pos l) × IsLeastCommonMultiple (pos m) (pos n) (pos l)) }
+{
+    gcd_lcm_of_magnitudes(m, n).1
 }
 
 /// Returns the greatest common divisor of two magnitudes, and the number of iterations. The loop is not

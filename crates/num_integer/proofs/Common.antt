@@ -11,5 +11,5 @@ pub use Rattle.std.proofs.lemmas.Bool.{ltb-true}
 pub use Rattle.std.proofs.lemmas.List.{at_drop_all, at_drop_more, drop_all, get_or-reverse, get_or-set_other, get_or-set_same, length-reverse, length-set}
 pub use Rattle.std.proofs.lemmas.List.Elements.{All-drop, All-from_all_within, All-nil, AllWithin-more, AllWithin-upto, at_read}
 pub use Rattle.std.specs.List.{All, AllWithin, swap}
-pub use Rattle.num_integer.proofs.FittingAnswers.{by_minus_one, by_other, ceiled, each_fits, each_kind, few_bits, fits_below, fits_up, floored, from_test, gcd_domain, gcd_of_nonzero, gcd_of_zero, lcm_domain, multiple_domain, signed-not, signed_is, test_inside, test_of_both, test_up}
+pub use Rattle.num_integer.proofs.FittingAnswers.{by_minus_one, by_other, ceiled, each_fits, each_kind, few_bits, fits_below, fits_up, floored, from_test, gcd_domain, gcd_of_nonzero, gcd_of_zero, lcm_at_most, multiple_domain, no_lcm, signed-not, signed_is, test_inside, test_of_both, test_up}
 pub use Rattle.integer_core.proofs.OrderedProducts.{factor_positive, multiples_apart, product_at_most, product_from_zero}

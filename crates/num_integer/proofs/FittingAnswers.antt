@@ -1,7 +1,8 @@
 -- When the results of calls fit, in the words of the tests of `Fits`.
-use Rattle.integer_core.proofs.Common.{◌≡◌, ◌≢◌, ◌↔◌, ◌≤◌, ◌<◌, ◌^◌, ◌≤ℤ◌, ◌⊎◌, ◌<ℤ◌, ◌+ℤ◌, ◌*◌, ◌/◌, ℕ, ℤ, pos, IsTrue, nat_le, negsuc, neg_ℤ, unsigned_abs, Bool, true, false, not, min, max, arith, inl, inr, subst, refl, sym, ap, ◌∙◌, pow-le-pow_right, lt_of_not-le, le-leb, leb-true, ints, abs_is, linear, sizes, IsQuotient, IsMultiple, GcdFits, IsGreatestCommonDivisor, IsLeastCommonMultiple, IsRange, EachFits}
+use Rattle.integer_core.proofs.Common.{◌≡◌, ◌≢◌, ◌↔◌, ◌≤◌, ◌<◌, ◌^◌, ◌≤ℤ◌, ◌⊎◌, ◌<ℤ◌, ◌+ℤ◌, ℕ, ℤ, pos, IsTrue, nat_le, negsuc, neg_ℤ, unsigned_abs, Bool, true, false, not, min, max, arith, inl, inr, subst, refl, sym, ap, ◌∙◌, pow-le-pow_right, lt_of_not-le, le-leb, leb-true, ints, abs_is, linear, sizes, IsQuotient, IsMultiple, GcdFits, IsGreatestCommonDivisor, IsLeastCommonMultiple, IsRange, EachFits}
 use Rattle.std.proofs.Math.Nat.{le_of_suc-le-suc}
-use Rattle.integer_core.proofs.CommonDivisors.{gcd-divisor, only_gcd, gcd-zero, gcd-swap, lcm-computed, only_lcm, gcd_fits_is}
+use Rattle.std.specs.Int.{FitsUnsignedBits}
+use Rattle.integer_core.proofs.CommonDivisors.{gcd-divisor, only_gcd, gcd-zero, gcd-swap, lcm-magnitudes, only_lcm, gcd_fits_is}
 use Rattle.integer_core.proofs.Divisibility.{Divides-refl, abs_zero, divisor_size}
 use Rattle.integer_core.proofs.Quotients.{only_multiple, floored_by_minus_one, other_quotient_fits}
 use Rattle.integer_core.proofs.Ranges.{within_fits}
@@ -21,6 +22,11 @@ test_up range top = (λ t. (fits_up range top).0 (leb-true _ _ t), λ f. le-leb 
 -- a number fits if it is not negative and at most one that fits
 pub fits_below : {fits : ℤ → Type 0} {low high x y : ℤ} → IsRange fits low high → fits y → pos 0 ≤ℤ x → x ≤ℤ y → fits x
 fits_below range h up below = within_fits range h (inl (up, below))
+
+-- a number that is not negative and below 2^128 fits in 128 bits
+fits_128_bits : {z : ℤ} → pos 0 ≤ℤ z → z <ℤ pos (2 ^ 128) → FitsUnsignedBits 128 z
+fits_128_bits {z = pos n} up below = omega (arith, ints)
+fits_128_bits {z = negsuc n} up below = absurd (omega (arith, ints))
 
 -- if a relation has one number alone, each number of it fits exactly if that one does
 pub each_fits : {fits P : ℤ → Type 0} {x : ℤ} {A : Type 0} → P x → ((y : ℤ) → P y → x ≡ y) → A ↔ fits x → A ↔ EachFits fits P
@@ -113,11 +119,16 @@ module _ {fits : ℤ → Type 0} {low high a b : ℤ} {most m n : ℕ} (range : 
         omega (arith, (fits_up range top).1 (each _ own))))),
   )
 
-  -- the least common multiple, computed on the magnitudes
-  pub lcm_domain : {g : ℕ} {A : Type 0} → n ≢ 0 → IsGreatestCommonDivisor (pos m) (pos n) (pos g) → A ↔ fits (pos (m * (n / g))) → A ↔ EachFits fits (IsLeastCommonMultiple a b)
-  lcm_domain {g} n_nonzero greatest test =
-      let own : IsLeastCommonMultiple a b (pos (m * (n / g))) = lcm-computed {a = a} {b = b} {q = pos (n / g)} (ap pos left) (ap pos right) (λ e. n_nonzero (right ∙ ap unsigned_abs e)) greatest refl refl in
-      each_fits own (λ l. only_lcm own) test
+  -- the least common multiple of the magnitudes, or none in 128 bits
+  pub lcm_at_most : {l : ℕ} → IsLeastCommonMultiple (pos m) (pos n) (pos l) → IsTrue (nat_le l most) ↔ EachFits fits (IsLeastCommonMultiple a b)
+  lcm_at_most {l} h =
+      let own : IsLeastCommonMultiple a b (pos l) = lcm-magnitudes (ap pos left) (ap pos right) h in
+      each_fits own (λ l. only_lcm own) (test_up range top)
+
+  pub no_lcm : ¬ (EachFits (FitsUnsignedBits 128) (IsLeastCommonMultiple (pos m) (pos n))) → ¬ (EachFits fits (IsLeastCommonMultiple a b))
+  no_lcm beyond each = beyond (λ l h.
+      let within = (range.between l).0 (each l (lcm-magnitudes (ap pos left) (ap pos right) h)) in
+      fits_128_bits h.from_zero (omega (arith, linear, within, range.bounded)))
 
 -- a sum with a number that is not negative fits exactly if it is at most the largest number, by signs and magnitudes
 pub sum_fits_exactly : {fits : ℤ → Type 0} {low high a b : ℤ} {negative answer : Bool} {m n h : ℕ} → IsRange fits low high → fits a → pos 0 ≤ℤ b → IsTrue negative ↔ (a <ℤ pos 0) → m ≡ unsigned_abs a

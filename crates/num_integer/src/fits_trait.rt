@@ -11,7 +11,7 @@ ghost use Rattle.num_integer.specs.Multinomial.{IsMultinomial};
 use crate::checked;
 use crate::sign_magnitude::{product_is_within, sum_is_within};
 use integer_core::operators::{difference, is_minus_one, is_negative, is_zero};
-use integer_core::{Integer, Magnitudes, NativeInteger};
+use integer_core::{Integer, Magnitudes, NativeInteger, lcm_of_magnitudes};
 
 /// Tests whether a call may be made with its arguments. `7.quotient_fits(&0)` is `false`, so `7.div_rem(&0)`
 /// may not be called. Your own type implements `parts` and `ends`.
@@ -148,11 +148,7 @@ pub trait Fits: Integer + Copy {
         let (_, high) = Self::ends();
         let (_, m) = self.parts();
         let (_, n) = other.parts();
-        if m == 0 || n == 0 {
-            return true;
-        }
-        let g = m.gcd(&n);
-        match m.checked_mul(n / g) {
+        match lcm_of_magnitudes(m, n) {
             Some(multiple) => multiple <= high,
             None => false,
         }
