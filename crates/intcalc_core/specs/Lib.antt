@@ -8,5 +8,4 @@ pub mod Line
 pub mod Console
 -- what the clauses cite of the crates below
 pub use Rattle.num_integer.specs.Only
-pub use Rattle.ratio64.specs.IntegerWords
-pub use Rattle.ratio64.specs.RatioText
+pub use Rattle.num_integer.specs.IntegerWords

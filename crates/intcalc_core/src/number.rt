@@ -3,7 +3,7 @@
 ghost use Rattle.std.specs.Prelude.{◌≡◌};
 ghost use Rattle.intcalc_core.specs.Number.{spelled_number};
 
-use ratio64::integer_words::is_integer;
+use num_integer::text::is_integer;
 
 /// Returns the number of a word, or `None` if the word is not an integer. `read_number("-007")` is
 /// `Some(-7)`, and `read_number("+7")` is `None`. A number outside `i128` gives the nearer end of

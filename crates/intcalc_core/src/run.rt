@@ -3,40 +3,41 @@
 ghost use Rattle.std.specs.Prelude.{◌≡◌, ◌≢◌, ◌<◌, ◌↔◌, List, ℕ, map, length, false, IsTrue};
 ghost use Rattle.std.specs.Bool.{OnTrue};
 ghost use Rattle.std.specs.Io.KnownBytes.{Appends};
-ghost use Rattle.intcalc_core.specs.declared.line.TheConstants.{CAPACITY};
+ghost use Rattle.num_integer.specs.Buffers.{CAPACITY};
 ghost use Rattle.intcalc_core.specs.Line.{IsReply, IsLine};
 
 use crate::calls::{Call, Kind};
-use crate::line::Line;
+use crate::line::{push_answer, push_refusal};
 use crate::outcome::evaluate;
 use crate::sink::{Sink, put_all};
 use crate::words::read_words;
+use num_integer::text::Buffer;
 
 /// Returns the line for a request, without the line feed, and the status.
-fn reply(request: Option<(Kind, Call)>) -> (Line, u8)
+fn reply(request: Option<(Kind, Call)>) -> (Buffer, u8)
     ensures text { IsReply request result.0 result.1 }
     ensures room { length result.0 < CAPACITY }
     ensures status { result.1 < 4 }
 {
-    let mut line = Line::new();
+    let mut line = Buffer::new();
     let Some((kind, call)) = request else {
         line.push(b"usage");
         return (line, 2);
     };
     match evaluate(kind, call) {
         Ok(answer) => {
-            line.push_answer(answer);
+            push_answer(&mut line, answer);
             (line, 0)
         }
         Err(refusal) => {
-            line.push_refusal(refusal);
+            push_refusal(&mut line, refusal);
             (line, 1)
         }
     }
 }
 
 /// Returns the line that the words ask for, and its status.
-pub fn line_for(words: &[&str]) -> (Line, u8)
+pub fn line_for(words: &[&str]) -> (Buffer, u8)
     ensures line { IsLine (map (λ w. w.now) words.now) result.0 result.1 }
     ensures status { result.1 < 4 }
 {

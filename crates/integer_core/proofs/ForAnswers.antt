@@ -10,6 +10,6 @@ pub use Rattle.integer_core.proofs.Quotients.{ceiled_above, ceiled_exact, floore
 pub use Rattle.integer_core.proofs.Rows.{RowsFit, first_fits, iteration_fits, last_after_iterations, last_at_once, last_gcd, rows_few, rows_fit_first, rows_fit_iteration, sign_fits}
 pub use Rattle.integer_core.proofs.Runs.{reaches_last}
 pub use Rattle.integer_core.proofs.SteinSteps.{OddLoop, counted_by_magnitudes, gcd_fits, gcd_of_power, gcd_positive, gcd_with_zero, loop_begins, loop_counts, loop_ends, loop_goes_on, loop_handed_on, power_of_smallest}
-pub use Rattle.std.proofs.Common.{take, encode_utf8, unwrap_or}
+pub use Rattle.std.proofs.Common.{encode_utf8, unwrap_or}
 pub use Rattle.std.proofs.Math.Numerals.{add-two}
 pub use Rattle.std.proofs.lemmas.Str.Pattern.{strip_prefix_char}

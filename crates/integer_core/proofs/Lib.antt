@@ -21,5 +21,6 @@ pub mod Least
 pub mod DivisionKinds
 pub mod IntegerPowers
 pub mod WrittenTexts
+pub mod IntegerTexts
 pub mod PaddedTexts
 pub mod ForAnswers

@@ -11,5 +11,6 @@ pub mod Bezout
 pub mod GcdRuns
 pub mod Least
 pub mod Checked
+pub mod IntegerWords
 pub mod Padded
 pub mod Narrowing

@@ -20,6 +20,8 @@ mod native_integer;
 pub mod operators;
 pub mod padded;
 mod stein;
+#[doc(hidden)]
+pub mod text;
 
 pub use bezout::ExtendedGcd;
 use bezout::extended_gcd_counted;

@@ -1,15 +1,12 @@
 //! Texts of more than one part, which keep the width and the fill of a format.
 
-ghost use Rattle.std.specs.Prelude.{◌≡◌, ◌≤◌, ◌+◌, ◌++◌, ◌↔◌, ℕ, List, IfOk, IsOk, OnOk, [], length, take};
-ghost use Rattle.std.specs.Str.{IsUtf8};
+ghost use Rattle.std.specs.Prelude.{◌≡◌, ◌≤◌, ℕ, List, OnOk};
 ghost use Rattle.std.specs.Fmt.{WritesInCalls, WritesOnOk, WritesStyledOnOk, fill_text, formatter_spec, spec_align};
 ghost use Rattle.integer_core.specs.Padded.{fill_before, padded_number, padded_text};
 
+use crate::text::Buffer;
+use std::fmt;
 use std::fmt::Alignment;
-use std::{fmt, str};
-
-/// Longer than any text of a fraction or a date.
-const LENGTH: usize = 128;
 
 /// A value that has a text of more than one part. A width counts the bytes of the text, as if each were
 /// a character.
@@ -93,50 +90,4 @@ fn fill<W: fmt::Write>(f: &mut fmt::Formatter<W>, count: usize) -> fmt::Result
         f.write_str(fill)?;
     }
     Ok(())
-}
-
-/// A text that is kept until its length is known.
-#[derive(Drop)]
-struct Buffer {
-    bytes: [u8; LENGTH],
-    len: usize,
-    ghost within: { len ≤ 128 },
-}
-
-impl Buffer {
-    fn new() -> Self
-        ensures { take result.len result.bytes ≡ [] }
-    {
-        Self {
-            bytes: [0; LENGTH],
-            len: 0,
-        }
-    }
-
-    /// Returns what has been written.
-    fn as_str(&self) -> Result<&str, fmt::Error>
-        ensures text { IfOk result (λ text. text.now ≡ take self.now.len self.now.bytes) }
-        ensures valid { IsUtf8 (take self.now.len self.now.bytes) → IsOk result }
-    {
-        str::from_utf8(&self.bytes[..self.len]).map_err(|_| fmt::Error)
-    }
-}
-
-impl fmt::Write for Buffer {
-    ghost write_str_gives = { λ before text after.
-        take after.len after.bytes ≡ take before.len before.bytes ++ text };
-
-    fn write_str(&mut self, text: &str) -> fmt::Result
-        ensures ok { IsOk result → take self.new.len self.new.bytes
-            ≡ take self.old.len self.old.bytes ++ text.now }
-        ensures room { IsOk result ↔ (self.old.len + length text.now ≤ 128) }
-    {
-        let end = self.len + text.len();
-        if end > LENGTH {
-            return Err(fmt::Error);
-        }
-        self.bytes[self.len..end].copy_from_slice(text.as_bytes());
-        self.len = end;
-        Ok(())
-    }
 }

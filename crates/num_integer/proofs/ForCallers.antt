@@ -71,6 +71,9 @@ pub use Rattle.num_integer.proofs.Pascal.{coefficient-pos, coefficient-zero, fac
 -- ---- the operators of the natural numbers
 
 pub use Rattle.integer_core.proofs.NaturalDivision.{quotient_is_natural, remainder_is_natural, division_is_natural, natural_quotient_fits, divides_is_natural, least_turns, quotients_grow, near}
+-- ---- texts
+
+pub use Rattle.integer_core.proofs.IntegerTexts.{decimal_model}
 -- ---- literals
 
 pub use Rattle.num_integer.proofs.Multiples.{euclid, lcm_number, literal_lcm_fits, literal_lcm_fits_signed}

@@ -6,6 +6,7 @@ pub use Rattle.integer_core.specs.Division
 pub use Rattle.integer_core.specs.Divisors
 pub use Rattle.integer_core.specs.Fibonacci
 pub use Rattle.integer_core.specs.GcdRuns
+pub use Rattle.integer_core.specs.IntegerWords
 pub use Rattle.integer_core.specs.Least
 pub use Rattle.integer_core.specs.Narrowing
 pub use Rattle.integer_core.specs.NativeRanges
@@ -16,6 +17,7 @@ pub use Rattle.integer_core.specs.Runs
 pub use Rattle.integer_roots.specs.Averages
 pub use Rattle.integer_roots.specs.RootOf
 pub use Rattle.integer_roots.specs.SquareRuns
+pub mod Buffers
 -- what those of this crate cite, and the laws
 pub mod Laws
 pub mod Coefficient

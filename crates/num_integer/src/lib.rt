@@ -14,7 +14,7 @@ pub use coefficients::{binomial, multinomial};
 pub use fits_trait::Fits;
 pub use integer_core::{
     ExtendedGcd, Integer, Magnitudes, NativeInteger, div_ceil, div_floor, div_mod_floor, div_rem,
-    fitting, gcd, gcd_lcm, guards, lcm, mod_floor, narrowing, operators, padded,
+    fitting, gcd, gcd_lcm, guards, lcm, mod_floor, narrowing, operators, padded, text,
 };
 pub use integer_roots::{Average, Roots, average_ceil, average_floor, cbrt, nth_root, sqrt};
 pub use nearest::{div_round, div_round_even};

@@ -31,11 +31,12 @@ pub use Rattle.num_integer.specs.Range.{EachFits}
 pub use Rattle.ratio64.specs.Decimal.{SpellsDecimal, decimal_text, places_of, units_of}
 unfoldable pub use Rattle.ratio64.specs.Decimal.{last_digits}
 pub use Rattle.ratio64.specs.Fraction.{AreEqual, IsExact, IsFraction, IsOutsideI64, IsReduced, fraction_cmp}
+pub use Rattle.ratio64.specs.IntegerWords.{unsigned_part, whole_of}
 pub use Rattle.ratio64.specs.Laws.{AnswerIsOnly, DecimalIsSpelled, RatioOfPartsIsOnly, ReadingIsOnly, RoundedEvenIsOnly, RoundedIsOnly, SpelledDecimalIsOnly, TextIsReadBack}
 pub use Rattle.ratio64.specs.Limiting.{IsNearestWithin, gap, AreNearestParts}
 pub use Rattle.ratio64.specs.Neighbours.{AreNeighbours, IsCloser, IsNearer}
 pub use Rattle.ratio64.specs.Ratio.{AnswersFraction, den_of, num_of, text_of}
-pub use Rattle.ratio64.specs.RatioText.{AnswersSpelled, HasLongPart, ReadsFraction, SpellsFraction, SpellsWhole, answer_read, unsigned_part, whole_of}
+pub use Rattle.ratio64.specs.RatioText.{AnswersSpelled, HasLongPart, ReadsFraction, SpellsFraction, SpellsWhole, answer_read}
 pub use Rattle.ratio64.specs.ReducedPairs.{AreEqual-sym, IsReduced-prop, denominator_divides, equal_where_same, positive_is_nonzero, same_pair}
 pub use Rattle.ratio64.specs.Rounding.{AnswersInParts, IsRounded, IsRoundedEven}
 pub use Rattle.ratio64.specs.Times.{AreTimes}

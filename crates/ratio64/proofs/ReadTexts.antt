@@ -1,18 +1,12 @@
 -- The strings of fractions, cut at the slash, and what they are read as.
-use Rattle.ratio64.proofs.Common.{◌≡◌, ◌≢◌, ◌⊎◌, ◌↔◌, ◌++◌, ◌∷◌, [], ◌<◌, ℕ, suc, List, codes, length, ℤ, Option, Some, None, Result, Err, FitsSigned, IsTrue, true, false, pos, negsuc, unwrap_or, Ok, unsigned_abs, is_ascii_digit, list_all, AllDigits, IsNumeral, digits_value, starts_with_minus, decimal, signed_decimal, w64, int_eq, Bor, ap, append_assoc, arith, get_or, inl, inr, refl, sym, rules, subst, ◌∙◌, cases_Bool, Decides-int_eq, decimal_is_IsNumeral, get_or_at, length-append, IsNumeralModel, numerals_by_value, not_in_digits, IsSplitOnceResult, split_after, split_parts, linear, ReadingIsOnly, TextIsReadBack, den_of, num_of, text_of, AnswersSpelled, HasLongPart, ReadsFraction, SpellsFraction, SpellsWhole, answer_read, unsigned_part, whole_of, Ratio, ParseRatioError, NotAFraction, TooLong, is_negative, sign_text}
+use Rattle.ratio64.proofs.Common.{◌≡◌, ◌≢◌, ◌⊎◌, ◌++◌, ◌∷◌, [], ◌<◌, ℕ, suc, List, codes, length, ℤ, Option, Some, None, Result, Err, FitsSigned, false, pos, negsuc, unwrap_or, Ok, unsigned_abs, AllDigits, IsNumeral, digits_value, starts_with_minus, decimal, signed_decimal, w64, int_eq, Bor, ap, append_assoc, arith, get_or, inl, inr, refl, sym, rules, subst, ◌∙◌, cases_Bool, Decides-int_eq, decimal_is_IsNumeral, get_or_at, length-append, not_in_digits, IsSplitOnceResult, split_after, split_parts, linear, ReadingIsOnly, TextIsReadBack, den_of, num_of, text_of, AnswersSpelled, HasLongPart, ReadsFraction, SpellsFraction, SpellsWhole, answer_read, unsigned_part, whole_of, Ratio, ParseRatioError, NotAFraction, TooLong, is_negative, sign_text}
+use Rattle.num_integer.proofs.ForCallers.{decimal_model}
 use Rattle.ratio64.specs.declared.parse.ParseRatioError.TheVariants.{ZeroDenominator, NotFitting}
 use Rattle.ratio64.proofs.ExactResults.{reduced_is_exact}
 use Rattle.ratio64.proofs.FractionAnswers.{exact_answer, only_answer, only_of_parts}
 use Rattle.ratio64.proofs.WideSums.{part_size}
 
 -- ---- digits
-
-decimal_model : IsNumeralModel (λ ds. list_all is_ascii_digit ds ≡ true) (digits_value 10)
-decimal_model = numerals_by_value _ (search rules)
-
--- the test of each byte tells a numeral
-pub tells_numeral : (ds : List ℕ) → 0 < length ds → IsTrue (list_all is_ascii_digit ds) ↔ IsNumeral 10 ds
-tells_numeral ds some = (λ t. (some, decimal_model.to ds t), λ h. decimal_model.from ds h.1)
 
 -- neither a point nor a slash is among digits, with or without a `-` before them
 not_in : (mark : ℕ) (ds : List ℕ) → AllDigits 10 ds → mark < 48 → (i : ℕ) → i < length ds → get_or ds i 0 ≢ mark

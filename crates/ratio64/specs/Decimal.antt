@@ -3,7 +3,8 @@ use Rattle.std.specs.Prelude.{◌≡◌, ◌++◌, ◌/◌, ◌%◌, ◌+◌, �
 use Rattle.std.specs.Fmt.{decimal, sign_text}
 use Rattle.std.specs.Int.{is_negative}
 use Rattle.std.specs.Str.Parse.{IsNumeral}
-use Rattle.ratio64.specs.RatioText.{SpellsWhole, unsigned_part}
+use Rattle.ratio64.specs.IntegerWords.{unsigned_part}
+use Rattle.ratio64.specs.RatioText.{SpellsWhole}
 use Rattle.ratio64.specs.Rounding.{IsRoundedEven}
 use Rattle.ratio64.specs.declared.decimal.Decimal.{Decimal}
 

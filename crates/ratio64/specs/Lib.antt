@@ -1,6 +1,5 @@
 pub mod Decimal
 pub mod Fraction
-pub mod IntegerWords
 pub mod Laws
 pub mod Limiting
 pub mod RatioError
@@ -17,5 +16,6 @@ pub mod FractionOrder
 pub use Rattle.num_integer.specs.Checked
 pub use Rattle.num_integer.specs.Division
 pub use Rattle.num_integer.specs.Divisors
+pub use Rattle.num_integer.specs.IntegerWords
 pub use Rattle.num_integer.specs.Only
 pub use Rattle.num_integer.specs.Range

@@ -1,6 +1,7 @@
 -- The strings that spell a fraction, and the results of parsing.
-use Rattle.std.specs.Prelude.{◌≡◌, ◌⊎◌, ◌↔◌, ◌++◌, ◌≤◌, ◌^◌, ℤ, ℕ, List, codes, drop, neg_ℤ, pos, unsigned_abs, Result, Ok, Err, if◌then◌else◌}
-use Rattle.std.specs.Str.Parse.{IsNumeral, digits_value, starts_with_minus}
+use Rattle.std.specs.Prelude.{◌≡◌, ◌⊎◌, ◌↔◌, ◌++◌, ◌≤◌, ◌^◌, ℤ, ℕ, List, codes, unsigned_abs, Result, Ok, Err}
+use Rattle.std.specs.Str.Parse.{IsNumeral}
+use Rattle.ratio64.specs.IntegerWords.{unsigned_part, whole_of}
 use Rattle.ratio64.specs.Ratio.{AnswersFraction}
 use Rattle.ratio64.specs.RatioError.{error_text}
 use Rattle.ratio64.specs.declared.fraction.Ratio.{Ratio}
@@ -8,18 +9,6 @@ use Rattle.ratio64.specs.declared.error.RatioError.{RatioError}
 use Rattle.ratio64.specs.declared.error.RatioError.TheVariants as refused
 use Rattle.ratio64.specs.declared.parse.ParseRatioError.{ParseRatioError}
 use Rattle.ratio64.specs.declared.parse.ParseRatioError.TheVariants.{NotAFraction, TooLong, ZeroDenominator, NotFitting}
-
--- This is the string without a leading `-`.
--- Examples: of `-007`: `007`; of `12`: `12`; of `-0`: `0`.
-abbrev pub unsigned_part : List ℕ → List ℕ
-unsigned_part text = if starts_with_minus text then drop 1 text else text
-
--- This is the integer that the digits of the string write in decimal. It is negated after a `-`.
--- Examples: of `-007`: -7; of `12`: 12; of `-0`: 0.
-abbrev pub whole_of : List ℕ → ℤ
-whole_of text =
-    let size = pos (digits_value 10 (unsigned_part text)) in
-    if starts_with_minus text then neg_ℤ size else size
 
 -- The string spells the integer. It has an optional `-`, then one or more digits, and nothing else.
 -- Examples: `-007`: -7; `-0`: 0; `+1` spells no integer.

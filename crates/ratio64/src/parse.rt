@@ -2,7 +2,8 @@
 
 ghost use Rattle.std.specs.Prelude.{◌≡◌, ◌≢◌, ◌≤◌, ◌<◌, ◌^◌, MatchResult, Err, unsigned_abs};
 ghost use Rattle.std.specs.Str.Parse.{IsNumeral};
-ghost use Rattle.ratio64.specs.RatioText.{AnswersSpelled, unsigned_part, whole_of};
+ghost use Rattle.ratio64.specs.IntegerWords.{unsigned_part, whole_of};
+ghost use Rattle.ratio64.specs.RatioText.{AnswersSpelled};
 
 use crate::integer_words::is_integer;
 use crate::{Ratio, RatioError};

@@ -103,13 +103,13 @@ ghost use Rattle.intcalc_core.specs.Outcome.{Outcome};
 ghost use Rattle.intcalc_core.specs.Refusal as refusals;
 ghost use Rattle.intcalc_core.specs.Words.{IsRequest};
 
-use intcalc_core::line::Line;
 use intcalc_core::number::read_number;
 use intcalc_core::run::{line_for, run};
 use intcalc_core::sink::{Console, Sink};
 use intcalc_core::words::read_words;
 use intcalc_core::{Answer, Call, Kind, Refusal, evaluate};
 use num_integer::counted::{GcdCounted, SqrtCounted, binomial_counted, extended_gcd_counted};
+use num_integer::text::Buffer;
 use num_integer::{
     Average, ExtendedGcd, Fits, Integer, IterBinomial, Roots, average_ceil, average_floor,
     binomial, cbrt, div_ceil, div_floor, div_mod_floor, div_rem, gcd, gcd_lcm, lcm, mod_floor,
@@ -933,7 +933,7 @@ pub fn call_of_words(words: &[&str]) -> Option<(Kind, Call)>
 }
 
 /// Returns the line that the words ask for, and its status. The words ask for no other line and status.
-pub fn line_of_words(words: &[&str]) -> (Line, u8)
+pub fn line_of_words(words: &[&str]) -> (Buffer, u8)
     ensures defined { IsLine (map (λ w. w.now) words.now) result.0 result.1 }
     ensures only { IsOnly (λ (line, status). IsLine (map (λ w. w.now) words.now) line status)
         (result.0, result.1) }
