@@ -19,6 +19,7 @@ pub use Rattle.integer_roots.specs.RootOf
 pub use Rattle.integer_roots.specs.SquareRuns
 pub mod Buffers
 -- what those of this crate cite, and the laws
+pub mod Answers
 pub mod Laws
 pub mod Coefficient
 pub mod Multinomial

@@ -2,7 +2,7 @@
 //! largest number: those of `i8` are `(128, 127)`.
 
 ghost use Rattle.std.specs.Prelude.{◌≡◌, ◌↔◌, ◌+◌, ◌<◌, ◌^◌, ◌+ℤ◌, ◌-ℤ◌, ◌*ℤ◌, pos, not, IsTrue};
-ghost use Rattle.num_integer.specs.Checked.{AnswersWhere, FitsWith};
+ghost use Rattle.num_integer.specs.Answers.{AnswersNumber};
 ghost use Rattle.num_integer.specs.Parts.{IsWithin, signed};
 
 use integer_core::operators::is_negative;
@@ -31,10 +31,7 @@ pub fn parts_of_product<T: NativeInteger<Magnitude = u64>>(a: T, b: T) -> (bool,
 /// Returns the number with this sign and this magnitude, or `None` if it does not fit. `number_of::<i8>((true, 128))` is
 /// `Some(-128)`.
 pub fn number_of<T: NativeInteger<Magnitude = u64>>(number: (bool, u128)) -> Option<T>
-    ensures { AnswersWhere
-        (T.fits (signed number.0 number.1))
-        (FitsWith T.fits T.value (λ z. z ≡ signed number.0 number.1))
-        result }
+    ensures { AnswersNumber T.fits T.value (signed number.0 number.1) result }
 {
     let magnitude = i128::try_from(number.1).ok()?;
     cast::<i128, T>(if number.0 { -magnitude } else { magnitude })

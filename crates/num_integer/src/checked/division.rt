@@ -1,8 +1,9 @@
 //! Checked division.
 
 ghost use Rattle.std.specs.Prelude.{◌≢◌, ◌<ℤ◌, pos, IsSome};
-ghost use Rattle.integer_core.specs.Division.{IsCeiled, IsFloored, IsMultiple, IsQuotient, IsRemainder, IsTruncated};
+ghost use Rattle.integer_core.specs.Division.{IsCeiled, IsFloored, IsQuotient, IsRemainder, IsTruncated};
 ghost use Rattle.integer_core.specs.Range.{EachFits};
+ghost use Rattle.num_integer.specs.Answers.{AnswersDivision, AnswersMultiple};
 ghost use Rattle.num_integer.specs.Checked.{AnswersWhere};
 
 use crate::fits_trait::Fits;
@@ -14,11 +15,7 @@ use integer_core::operators::is_zero;
 pub fn div_rem<T: Fits>(x: T, y: T) -> Option<(T, T)>
     requires x_in_range { T.fits (T.value x) }
     requires y_in_range { T.fits (T.value y) }
-    ensures answer { AnswersWhere
-        ((T.value y ≢ pos 0) × EachFits T.fits (IsQuotient IsTruncated (T.value x) (T.value y)))
-        (λ r. T.fits (T.value r.0) × T.fits (T.value r.1)
-        × IsTruncated (T.value x) (T.value y) (T.value r.0) (T.value r.1))
-        result }
+    ensures answer { AnswersDivision IsTruncated T.fits T.value (T.value x) (T.value y) result }
     ensures positive { pos 0 <ℤ T.value y → IsSome result }
 {
     if x.quotient_fits(&y) {
@@ -69,11 +66,7 @@ pub fn mod_floor<T: Fits>(x: T, y: T) -> Option<T>
 pub fn div_mod_floor<T: Fits>(x: T, y: T) -> Option<(T, T)>
     requires x_in_range { T.fits (T.value x) }
     requires y_in_range { T.fits (T.value y) }
-    ensures answer { AnswersWhere
-        ((T.value y ≢ pos 0) × EachFits T.fits (IsQuotient IsFloored (T.value x) (T.value y)))
-        (λ r. T.fits (T.value r.0) × T.fits (T.value r.1)
-        × IsFloored (T.value x) (T.value y) (T.value r.0) (T.value r.1))
-        result }
+    ensures answer { AnswersDivision IsFloored T.fits T.value (T.value x) (T.value y) result }
     ensures positive { pos 0 <ℤ T.value y → IsSome result }
 {
     if x.quotient_fits(&y) {
@@ -107,10 +100,7 @@ pub fn div_ceil<T: Fits>(x: T, y: T) -> Option<T>
 pub fn next_multiple_of<T: Fits>(x: T, y: T) -> Option<T>
     requires x_in_range { T.fits (T.value x) }
     requires y_in_range { T.fits (T.value y) }
-    ensures { AnswersWhere
-        ((T.value y ≢ pos 0) × EachFits T.fits (IsMultiple IsCeiled (T.value x) (T.value y)))
-        (λ m. T.fits (T.value m) × IsMultiple IsCeiled (T.value x) (T.value y) (T.value m))
-        result }
+    ensures { AnswersMultiple IsCeiled T.fits T.value (T.value x) (T.value y) result }
 {
     if x.next_multiple_fits(&y) {
         Some(x.next_multiple_of(&y))
@@ -125,10 +115,7 @@ pub fn next_multiple_of<T: Fits>(x: T, y: T) -> Option<T>
 pub fn prev_multiple_of<T: Fits>(x: T, y: T) -> Option<T>
     requires x_in_range { T.fits (T.value x) }
     requires y_in_range { T.fits (T.value y) }
-    ensures { AnswersWhere
-        ((T.value y ≢ pos 0) × EachFits T.fits (IsMultiple IsFloored (T.value x) (T.value y)))
-        (λ m. T.fits (T.value m) × IsMultiple IsFloored (T.value x) (T.value y) (T.value m))
-        result }
+    ensures { AnswersMultiple IsFloored T.fits T.value (T.value x) (T.value y) result }
 {
     if x.prev_multiple_fits(&y) {
         Some(x.prev_multiple_of(&y))

@@ -4,6 +4,7 @@ ghost use Rattle.std.specs.Prelude.{◌≢◌, ◌<ℤ◌, pos, IsSome};
 ghost use Rattle.integer_core.specs.Bezout.{HasPair, IsBezoutAnswer};
 ghost use Rattle.integer_core.specs.Divisors.{GcdFits, IsGreatestCommonDivisor, IsLeastCommonMultiple};
 ghost use Rattle.integer_core.specs.Range.{EachFits};
+ghost use Rattle.num_integer.specs.Answers.{AnswersFitting};
 ghost use Rattle.num_integer.specs.Checked.{AnswersWhere};
 
 use crate::checked::operators::{negated, product};
@@ -37,10 +38,7 @@ pub fn gcd<T: Fits>(x: T, y: T) -> Option<T>
 pub fn lcm<T: Fits>(x: T, y: T) -> Option<T>
     requires x_in_range { T.fits (T.value x) }
     requires y_in_range { T.fits (T.value y) }
-    ensures { AnswersWhere
-        (EachFits T.fits (IsLeastCommonMultiple (T.value x) (T.value y)))
-        (λ l. T.fits (T.value l) × IsLeastCommonMultiple (T.value x) (T.value y) (T.value l))
-        result }
+    ensures { AnswersFitting T.fits T.value (IsLeastCommonMultiple (T.value x) (T.value y)) result }
 {
     if is_zero(x) || is_zero(y) {
         return Some(zero());
@@ -109,10 +107,7 @@ pub fn extended_gcd_lcm<T: Fits + Signed>(x: T, y: T) -> Option<(ExtendedGcd<T>,
 fn lcm_with_gcd<T: Fits>(x: T, y: T, g: T) -> Option<T>
     requires in_range { T.fits (T.value x) × T.fits (T.value y) × T.fits (T.value g) }
     requires greatest { IsGreatestCommonDivisor (T.value x) (T.value y) (T.value g) }
-    ensures { AnswersWhere
-        (EachFits T.fits (IsLeastCommonMultiple (T.value x) (T.value y)))
-        (λ l. T.fits (T.value l) × IsLeastCommonMultiple (T.value x) (T.value y) (T.value l))
-        result }
+    ensures { AnswersFitting T.fits T.value (IsLeastCommonMultiple (T.value x) (T.value y)) result }
 {
     if is_zero(y) {
         Some(zero())
@@ -126,10 +121,7 @@ fn nonzero_lcm<T: Fits>(x: T, y: T, g: T) -> Option<T>
     requires in_range { T.fits (T.value x) × T.fits (T.value y) × T.fits (T.value g) }
     requires nonzero { T.value y ≢ pos 0 }
     requires greatest { IsGreatestCommonDivisor (T.value x) (T.value y) (T.value g) }
-    ensures { AnswersWhere
-        (EachFits T.fits (IsLeastCommonMultiple (T.value x) (T.value y)))
-        (λ l. T.fits (T.value l) × IsLeastCommonMultiple (T.value x) (T.value y) (T.value l))
-        result }
+    ensures { AnswersFitting T.fits T.value (IsLeastCommonMultiple (T.value x) (T.value y)) result }
 {
     let product = product(x, positive_quotient(y, g))?;
     if is_negative(product) {

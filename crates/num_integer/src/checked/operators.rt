@@ -1,7 +1,7 @@
 //! Checked sums, differences and products. At a native type each is the checked operator of the type.
 
-ghost use Rattle.std.specs.Prelude.{◌≡◌, ◌+ℤ◌, ◌-ℤ◌, ◌*ℤ◌, pos, neg_ℤ};
-ghost use Rattle.num_integer.specs.Checked.{AnswersWhere};
+ghost use Rattle.std.specs.Prelude.{◌+ℤ◌, ◌-ℤ◌, ◌*ℤ◌, pos, neg_ℤ};
+ghost use Rattle.num_integer.specs.Answers.{AnswersNumber};
 
 use crate::fits_trait::Fits;
 use integer_core::fitting;
@@ -12,10 +12,7 @@ use integer_core::operators::{one, zero};
 pub fn sum<T: Fits>(a: T, b: T) -> Option<T>
     requires a_in_range { T.fits (T.value a) }
     requires b_in_range { T.fits (T.value b) }
-    ensures { AnswersWhere
-        (T.fits (T.value a +ℤ T.value b))
-        (λ r. T.fits (T.value r) × (T.value r ≡ T.value a +ℤ T.value b))
-        result }
+    ensures { AnswersNumber T.fits T.value (T.value a +ℤ T.value b) result }
 {
     if a.sum_fits(&b) {
         Some(fitting::sum(a, b))
@@ -29,10 +26,7 @@ pub fn sum<T: Fits>(a: T, b: T) -> Option<T>
 pub fn difference<T: Fits>(a: T, b: T) -> Option<T>
     requires a_in_range { T.fits (T.value a) }
     requires b_in_range { T.fits (T.value b) }
-    ensures { AnswersWhere
-        (T.fits (T.value a -ℤ T.value b))
-        (λ r. T.fits (T.value r) × (T.value r ≡ T.value a -ℤ T.value b))
-        result }
+    ensures { AnswersNumber T.fits T.value (T.value a -ℤ T.value b) result }
 {
     if a.difference_fits(&b) {
         Some(fitting::difference(a, b))
@@ -46,10 +40,7 @@ pub fn difference<T: Fits>(a: T, b: T) -> Option<T>
 pub fn product<T: Fits>(a: T, b: T) -> Option<T>
     requires a_in_range { T.fits (T.value a) }
     requires b_in_range { T.fits (T.value b) }
-    ensures { AnswersWhere
-        (T.fits (T.value a *ℤ T.value b))
-        (λ r. T.fits (T.value r) × (T.value r ≡ T.value a *ℤ T.value b))
-        result }
+    ensures { AnswersNumber T.fits T.value (T.value a *ℤ T.value b) result }
 {
     if a.product_fits(&b) {
         Some(fitting::product(a, b))
@@ -63,10 +54,7 @@ pub fn product<T: Fits>(a: T, b: T) -> Option<T>
 #[tactic(auto, using(integer_core::proofs::Whole::linear))]
 pub fn negated<T: Fits>(a: T) -> Option<T>
     requires { T.fits (T.value a) }
-    ensures { AnswersWhere
-        (T.fits (neg_ℤ (T.value a)))
-        (λ r. T.fits (T.value r) × (T.value r ≡ neg_ℤ (T.value a)))
-        result }
+    ensures { AnswersNumber T.fits T.value (neg_ℤ (T.value a)) result }
 {
     difference(zero(), a)
 }
@@ -75,10 +63,7 @@ pub fn negated<T: Fits>(a: T) -> Option<T>
 /// `inc(41)` is `Some(42)`, and `inc(u8::MAX)` is `None`.
 pub fn inc<T: Fits>(x: T) -> Option<T>
     requires { T.fits (T.value x) }
-    ensures { AnswersWhere
-        (T.fits (T.value x +ℤ pos 1))
-        (λ r. T.fits (T.value r) × (T.value r ≡ T.value x +ℤ pos 1))
-        result }
+    ensures { AnswersNumber T.fits T.value (T.value x +ℤ pos 1) result }
 {
     sum(x, one())
 }
@@ -87,10 +72,7 @@ pub fn inc<T: Fits>(x: T) -> Option<T>
 /// `dec(43)` is `Some(42)`, and `dec(0u8)` is `None`.
 pub fn dec<T: Fits>(x: T) -> Option<T>
     requires { T.fits (T.value x) }
-    ensures { AnswersWhere
-        (T.fits (T.value x -ℤ pos 1))
-        (λ r. T.fits (T.value r) × (T.value r ≡ T.value x -ℤ pos 1))
-        result }
+    ensures { AnswersNumber T.fits T.value (T.value x -ℤ pos 1) result }
 {
     difference(x, one())
 }

@@ -3,6 +3,7 @@
 ghost use Rattle.std.specs.Prelude.{◌≡◌, ◌≢◌, ◌<◌, ◌<ℤ◌, ◌≤ℤ◌, ◌*ℤ◌, pos, IsSome};
 ghost use Rattle.integer_core.specs.Division.{IsFloored, IsQuotient};
 ghost use Rattle.integer_core.specs.Range.{EachFits};
+ghost use Rattle.num_integer.specs.Answers.{AnswersDivision};
 ghost use Rattle.num_integer.specs.Checked.{AnswersWhere};
 ghost use Rattle.num_integer.specs.Parts.{signed};
 
@@ -24,11 +25,7 @@ pub fn product_div_mod_floor<T: NativeInteger<Magnitude = u64>>(a: T, b: T, d: T
     requires a_in_range { T.fits (T.value a) }
     requires b_in_range { T.fits (T.value b) }
     requires d_in_range { T.fits (T.value d) }
-    ensures answer { AnswersWhere
-        ((T.value d ≢ pos 0) × EachFits T.fits (IsQuotient IsFloored (T.value a *ℤ T.value b) (T.value d)))
-        (λ r. T.fits (T.value r.0) × T.fits (T.value r.1)
-        × IsFloored (T.value a *ℤ T.value b) (T.value d) (T.value r.0) (T.value r.1))
-        result }
+    ensures answer { AnswersDivision IsFloored T.fits T.value (T.value a *ℤ T.value b) (T.value d) result }
     ensures within { pos 0 ≤ℤ T.value a → pos 0 ≤ℤ T.value b → T.value b ≤ℤ T.value d
         → pos 0 <ℤ T.value d → IsSome result }
 {
