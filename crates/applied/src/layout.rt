@@ -5,7 +5,7 @@ ghost use Rattle.num_integer.specs.Divisors.{Divides};
 ghost use Rattle.applied.specs.Layout.{IsAlignedUp};
 
 use num_integer::guards::check;
-use num_integer::operators::{difference, is_below, is_zero, zero};
+use num_integer::operators::{difference, is_zero, zero};
 use num_integer::{Fits, Integer, mod_floor};
 
 /// Returns the offset rounded up to a multiple of the alignment, or `None` if that does not fit.
@@ -23,7 +23,7 @@ pub fn align_up<T: Fits>(offset: T, alignment: T) -> Option<T>
         (λ aligned. T.fits (T.value aligned)
         × IsAlignedUp (T.value offset) (T.value alignment) (T.value aligned)) }
 {
-    check(is_below(zero(), alignment), "the alignment is not positive");
+    check(alignment > zero(), "the alignment is not positive");
     if offset.next_multiple_fits(&alignment) {
         Some(offset.next_multiple_of(&alignment))
     } else {
@@ -46,7 +46,7 @@ pub fn padding<T: Integer + Copy>(offset: T, alignment: T) -> T
     ensures below { T.value result <ℤ T.value alignment }
     ensures aligned { Divides (T.value alignment) (T.value offset +ℤ T.value result) }
 {
-    check(is_below(zero(), alignment), "the alignment is not positive");
+    check(alignment > zero(), "the alignment is not positive");
     let over = mod_floor(offset, alignment);
     if is_zero(over) {
         over

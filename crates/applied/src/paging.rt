@@ -100,7 +100,7 @@ pub fn range_of_page<T: Integer + Copy>(page: T, page_size: T, items: T) -> (T, 
     ensures only { IsOnly (λ (first, end). IsRangeOfPage (T.value page) (T.value page_size)
         (T.value items) first end) (T.value result.0, T.value result.1) }
 {
-    check(is_below(zero(), page_size), "the page size is not positive");
+    check(page_size > zero(), "the page size is not positive");
     check(!is_negative(items), "the number of items is negative");
     if is_negative(page) {
         return (items, items);

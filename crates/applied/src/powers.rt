@@ -96,7 +96,7 @@ pub fn ilog<T: Integer + Copy>(number: T, base: T) -> u32
     ensures logarithm { IsLogarithm (T.value base) (T.value number) result }
     ensures few { result < 128 }
 {
-    check(is_below(zero(), number), "the number is not positive");
+    check(number > zero(), "the number is not positive");
     check(is_below(one(), base), "the base is below 2");
     let mut rest = number;
     let mut degree = 0;

@@ -32,8 +32,8 @@ pub fn next_meeting<T: Modular + Fits>(now: T, a: Schedule<T>, b: Schedule<T>) -
     ensures { IsLeastTime T.value T.fits (T.value now)
         (IsMeeting (T.value a.0) (T.value a.1) (T.value b.0) (T.value b.1)) result }
 {
-    check(is_below(zero(), a.1), "the period is not positive");
-    check(is_below(zero(), b.1), "the period is not positive");
+    check(a.1 > zero(), "the period is not positive");
+    check(b.1 > zero(), "the period is not positive");
     let from = maximum(now, maximum(a.0, b.0));
     next_common_solution(from, a.0, a.1, b.0, b.1)
 }
@@ -76,7 +76,7 @@ pub fn count<T: Fits>(from: T, to: T, schedule: Schedule<T>) -> Option<T>
         (T.value schedule.1))) }
     ensures from_zero { IfSome result (λ n. pos 0 ≤ℤ T.value n) }
 {
-    check(is_below(zero(), schedule.1), "the period is not positive");
+    check(schedule.1 > zero(), "the period is not positive");
     count_congruent(maximum(from, schedule.0), to, schedule.0, schedule.1)
 }
 

@@ -9,13 +9,13 @@ use crate::products::Modular;
 use crate::residues::{negation_of_residue, residue};
 use crate::wide_residues::{power_of_wide, product_of_wide};
 use num_integer::guards::check;
-use num_integer::operators::{is_below, zero};
+use num_integer::operators::zero;
 use num_integer::{Fits, NativeInteger};
 use num_traits::{NumCast, cast};
 
 impl<T: NativeInteger> Modular for T {
     fn product_modulo(&self, other: &T, modulus: &T) -> T {
-        check(is_below(zero(), *modulus), "the modulus is not positive");
+        check(*modulus > zero(), "the modulus is not positive");
         of_magnitude(product_as_magnitude(*self, *other, *modulus))
     }
 

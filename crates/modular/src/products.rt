@@ -116,7 +116,7 @@ pub fn power_modulo_counted<T: Modular>(a: T, exponent: u128, m: T) -> (T, u32)
     ensures no_iteration { exponent ≡ 0 → result.1 ≡ 0 }
     ensures iterations { exponent ≢ 0 → (2 ^ result.1 ≤ exponent) × (exponent < 2 ^ (result.1 + 1)) }
 {
-    check(is_below(zero(), m), "the modulus is not positive");
+    check(m > zero(), "the modulus is not positive");
     a.power_modulo_counted(exponent, &m)
 }
 
