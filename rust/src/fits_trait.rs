@@ -4,7 +4,7 @@
 
 use crate::checked;
 use crate::integer_core::operators::{difference, is_minus_one, is_negative, is_zero};
-use crate::integer_core::{Integer, Magnitudes, NativeInteger};
+use crate::integer_core::{lcm_of_magnitudes, Integer, Magnitudes, NativeInteger};
 use crate::sign_magnitude::{product_is_within, sum_is_within};
 
 /// Tests whether a call may be made with its arguments. `7.quotient_fits(&0)` is `false`, so
@@ -223,11 +223,7 @@ pub trait Fits: Integer + Copy {
         let (_, high) = Self::ends();
         let (_, m) = self.parts();
         let (_, n) = other.parts();
-        if m == 0 || n == 0 {
-            return true;
-        }
-        let g = m.gcd(&n);
-        match m.checked_mul(n / g) {
+        match lcm_of_magnitudes(m, n) {
             Some(multiple) => multiple <= high,
             None => false,
         }

@@ -15,6 +15,8 @@ mod native_integer;
 pub mod operators;
 pub(crate) mod padded;
 mod stein;
+#[doc(hidden)]
+pub mod text;
 
 use bezout::extended_gcd_counted;
 pub use bezout::ExtendedGcd;
@@ -23,6 +25,8 @@ pub use native::Magnitudes;
 pub use native_integer::NativeInteger;
 use num_traits::{Num, Signed};
 use operators::{difference, is_zero, predecessor, successor, sum};
+#[doc(hidden)]
+pub use stein::lcm_of_magnitudes;
 
 /// A type of integers, with division, divisors and multiples specified on the integers that its
 /// values mean.

@@ -2,7 +2,7 @@
 //! Offsets and addresses on an alignment.
 
 use crate::guards::check;
-use crate::operators::{difference, is_below, is_zero, zero};
+use crate::operators::{difference, is_zero, zero};
 use crate::{mod_floor, Fits, Integer};
 
 /// Returns the offset rounded up to a multiple of the alignment, or `None` if that does not fit.
@@ -25,7 +25,7 @@ use crate::{mod_floor, Fits, Integer};
 #[track_caller]
 #[must_use]
 pub fn align_up<T: Fits>(offset: T, alignment: T) -> Option<T> {
-    check(is_below(zero(), alignment), "the alignment is not positive");
+    check(alignment > zero(), "the alignment is not positive");
     if offset.next_multiple_fits(&alignment) {
         Some(offset.next_multiple_of(&alignment))
     } else {
@@ -52,7 +52,7 @@ pub fn align_up<T: Fits>(offset: T, alignment: T) -> Option<T> {
 #[track_caller]
 #[must_use]
 pub fn padding<T: Integer + Copy>(offset: T, alignment: T) -> T {
-    check(is_below(zero(), alignment), "the alignment is not positive");
+    check(alignment > zero(), "the alignment is not positive");
     let over = mod_floor(offset, alignment);
     if is_zero(over) {
         over

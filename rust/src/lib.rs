@@ -44,9 +44,10 @@ pub mod shares;
 pub(crate) mod sign_magnitude;
 
 pub(crate) use crate::integer_core::padded;
+pub(crate) use crate::integer_core::Magnitudes;
 pub use crate::integer_core::{
     div_ceil, div_floor, div_mod_floor, div_rem, gcd, gcd_lcm, lcm, mod_floor, narrowing,
-    operators, ExtendedGcd, Integer, NativeInteger,
+    operators, text, ExtendedGcd, Integer, NativeInteger,
 };
 pub use crate::integer_roots::{average_ceil, average_floor, cbrt, nth_root, sqrt, Average, Roots};
 pub use coefficients::{binomial, multinomial};

@@ -107,7 +107,7 @@ pub fn item_at<T: Fits>(page: T, place: T, page_size: T) -> Option<T> {
 #[track_caller]
 #[must_use]
 pub fn range_of_page<T: Integer + Copy>(page: T, page_size: T, items: T) -> (T, T) {
-    check(is_below(zero(), page_size), "the page size is not positive");
+    check(page_size > zero(), "the page size is not positive");
     check(!is_negative(items), "the number of items is negative");
     if is_negative(page) {
         return (items, items);

@@ -129,7 +129,7 @@ pub fn sqrt_rem<T: Roots + Copy>(n: T) -> (T, T) {
 #[track_caller]
 #[must_use]
 pub fn ilog<T: Integer + Copy>(number: T, base: T) -> u32 {
-    check(is_below(zero(), number), "the number is not positive");
+    check(number > zero(), "the number is not positive");
     check(is_below(one(), base), "the base is below 2");
     let mut rest = number;
     let mut degree = 0;

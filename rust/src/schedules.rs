@@ -46,8 +46,8 @@ pub fn next_meeting<T: Modular + Fits>(
     a: Schedule<T>,
     b: Schedule<T>,
 ) -> CommonSolution<T> {
-    check(is_below(zero(), a.1), "the period is not positive");
-    check(is_below(zero(), b.1), "the period is not positive");
+    check(a.1 > zero(), "the period is not positive");
+    check(b.1 > zero(), "the period is not positive");
     let from = maximum(now, maximum(a.0, b.0));
     next_common_solution(from, a.0, a.1, b.0, b.1)
 }
@@ -98,7 +98,7 @@ pub fn next_meeting_of<T: Modular + Fits>(now: T, schedules: &[Schedule<T>]) -> 
 #[track_caller]
 #[must_use]
 pub fn count<T: Fits>(from: T, to: T, schedule: Schedule<T>) -> Option<T> {
-    check(is_below(zero(), schedule.1), "the period is not positive");
+    check(schedule.1 > zero(), "the period is not positive");
     count_congruent(maximum(from, schedule.0), to, schedule.0, schedule.1)
 }
 

@@ -4,6 +4,7 @@
 mod error;
 mod remainders;
 
+use crate::Magnitudes;
 pub use error::SharesError;
 pub use remainders::{shares_by_largest_remainder, signed_shares_by_largest_remainder};
 
@@ -84,7 +85,7 @@ pub fn signed_shares(amount: i64, weights: &[u64], shares: &mut [i64]) -> Result
     let mut ahead = 0;
     for (i, weight) in weights.iter().enumerate() {
         let (share, next) = next_share(amount.unsigned_abs(), *weight, total, ahead);
-        shares[i] = with_sign_of(amount, share);
+        shares[i] = amount.with_magnitude(share);
         ahead = next;
     }
     Ok(())
@@ -119,14 +120,5 @@ fn next_share(amount: u64, weight: u64, total: u128, ahead: u128) -> (u64, u128)
         (share as u64, ahead - rest)
     } else {
         (share as u64 + 1, total - (rest - ahead))
-    }
-}
-
-/// Returns the magnitude with the sign of the amount.
-pub(crate) fn with_sign_of(amount: i64, magnitude: u64) -> i64 {
-    if amount < 0 {
-        (-i128::from(magnitude)) as i64
-    } else {
-        magnitude as i64
     }
 }

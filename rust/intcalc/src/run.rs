@@ -2,32 +2,33 @@
 //! From words to a line.
 
 use crate::calls::{Call, Kind};
-use crate::line::Line;
+use crate::line::{push_answer, push_refusal};
 use crate::outcome::evaluate;
 use crate::sink::{put_all, Sink};
 use crate::words::read_words;
+use cellarcove::text::Buffer;
 
 /// Returns the line for a request, without the line feed, and the status.
-fn reply(request: Option<(Kind, Call)>) -> (Line, u8) {
-    let mut line = Line::new();
+fn reply(request: Option<(Kind, Call)>) -> (Buffer, u8) {
+    let mut line = Buffer::new();
     let Some((kind, call)) = request else {
         line.push(b"usage");
         return (line, 2);
     };
     match evaluate(kind, call) {
         Ok(answer) => {
-            line.push_answer(answer);
+            push_answer(&mut line, answer);
             (line, 0)
         }
         Err(refusal) => {
-            line.push_refusal(refusal);
+            push_refusal(&mut line, refusal);
             (line, 1)
         }
     }
 }
 
 /// Returns the line that the words ask for, and its status.
-pub fn line_for(words: &[&str]) -> (Line, u8) {
+pub fn line_for(words: &[&str]) -> (Buffer, u8) {
     let (mut line, status) = reply(read_words(words));
     line.push(b"\n");
     (line, status)

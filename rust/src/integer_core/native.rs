@@ -2,7 +2,7 @@
 // It also has what rust/by_hand/src/integer_core/native.rs adds.
 //! The sealed trait of the native integer types: their range and their magnitudes.
 
-use crate::integer_core::fitting::{difference, successor};
+use crate::integer_core::fitting::{difference, negated, successor};
 use crate::integer_core::operators::{is_negative, zero};
 use crate::integer_core::stein::Magnitude;
 use num_traits::{AsPrimitive, Bounded, CheckedAdd, CheckedMul, CheckedSub, Num};
@@ -43,6 +43,19 @@ pub trait Magnitudes: Native {
     /// Returns the non-negative number with this magnitude.
     fn from_magnitude(magnitude: Self::Magnitude) -> Self {
         magnitude.as_()
+    }
+
+    /// Returns the number with this magnitude and the sign of `self`. `(-5i8).with_magnitude(128)`
+    /// is `-128`.
+    fn with_magnitude(self, magnitude: Self::Magnitude) -> Self {
+        let low = Self::min_value();
+        if !is_negative(self) {
+            Self::from_magnitude(magnitude)
+        } else if magnitude == low.magnitude() {
+            low
+        } else {
+            negated(Self::from_magnitude(magnitude))
+        }
     }
 }
 

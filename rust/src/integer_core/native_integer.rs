@@ -3,8 +3,8 @@
 //! `Integer` and `GcdCounted` for the native types.
 
 use crate::integer_core::counted::GcdCounted;
-use crate::integer_core::guards::number_or;
-use crate::integer_core::guards::{check, some, Reason};
+use crate::integer_core::guards::{check, Reason};
+use crate::integer_core::guards::{number_or, some};
 use crate::integer_core::native::{Magnitudes, Native};
 use crate::integer_core::operators::{is_minus_one, zero};
 use crate::integer_core::stein::{binary_gcd, gcd_lcm_of_magnitudes};
@@ -77,14 +77,16 @@ impl<T: Native> Integer for T {
     }
 
     fn lcm(&self, other: &T) -> T {
+        let reason = "the least common multiple does not fit";
         let lcm = gcd_lcm_of_magnitudes(self.magnitude(), other.magnitude()).1;
-        number_or(lcm, "the least common multiple does not fit")
+        number_or(some(lcm, reason), reason)
     }
 
     fn gcd_lcm(&self, other: &T) -> (T, T) {
+        let reason = "the least common multiple does not fit";
         let (gcd, lcm) = gcd_lcm_of_magnitudes(self.magnitude(), other.magnitude());
         let gcd = number_or(gcd, "the greatest common divisor does not fit");
-        let lcm = number_or(lcm, "the least common multiple does not fit");
+        let lcm = number_or(some(lcm, reason), reason);
         (gcd, lcm)
     }
 

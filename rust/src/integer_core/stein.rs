@@ -2,7 +2,7 @@
 //! The greatest common divisor by Stein's binary method (Knuth, The Art of Computer Programming,
 //! volume 2, section 4.5.2, algorithm B).
 
-use crate::integer_core::guards::{number_or, product_or};
+use crate::integer_core::guards::number_or;
 use crate::integer_core::native::{Magnitudes, Native};
 use num_traits::Bounded;
 
@@ -14,9 +14,10 @@ pub trait Magnitude: Copy + PartialOrd {
     /// Returns the number plus 1. `41.successor()` is `42`.
     fn successor(self) -> Self;
 
-    /// Returns the number times the quotient of two others. `4.times_quotient(6, 2)` is `12`.
+    /// Returns the number times the quotient of two others, or `None` if the product does not fit.
+    /// `4.times_quotient(6, 2)` is `Some(12)`.
     #[track_caller]
-    fn times_quotient(self, dividend: Self, divisor: Self) -> Self;
+    fn times_quotient(self, dividend: Self, divisor: Self) -> Option<Self>;
 
     /// Returns the number without its factors 2, and how many they are. `12.odd_part()` is
     /// `(3, 2)`.
@@ -50,12 +51,8 @@ impl Magnitude for u64 {
     }
 
     #[inline]
-    fn times_quotient(self, dividend: Self, divisor: Self) -> Self {
-        product_or(
-            self,
-            dividend / divisor,
-            "the least common multiple does not fit",
-        )
+    fn times_quotient(self, dividend: Self, divisor: Self) -> Option<Self> {
+        self.checked_mul(dividend / divisor)
     }
 
     fn odd_part(self) -> (Self, u32) {
@@ -94,12 +91,8 @@ impl Magnitude for u128 {
     }
 
     #[inline]
-    fn times_quotient(self, dividend: Self, divisor: Self) -> Self {
-        product_or(
-            self,
-            dividend / divisor,
-            "the least common multiple does not fit",
-        )
+    fn times_quotient(self, dividend: Self, divisor: Self) -> Option<Self> {
+        self.checked_mul(dividend / divisor)
     }
 
     fn odd_part(self) -> (Self, u32) {
@@ -197,18 +190,24 @@ fn shared_power_of_two<M: Magnitude>(a: M, b: M) -> M {
     M::from_64_bits(1).times_power_of_two(odd_parts(a, b).2)
 }
 
-/// Returns the greatest common divisor and the least common multiple of two magnitudes.
-/// `gcd_lcm_of_magnitudes(0u64, 6)` is `(6, 0)`.
+/// Returns the greatest common divisor and the least common multiple of two magnitudes, `None` if
+/// the multiple does not fit. `gcd_lcm_of_magnitudes(0u64, 6)` is `(6, Some(0))`.
 #[track_caller]
-pub(crate) fn gcd_lcm_of_magnitudes<M: Magnitude>(m: M, n: M) -> (M, M) {
+pub(crate) fn gcd_lcm_of_magnitudes<M: Magnitude>(m: M, n: M) -> (M, Option<M>) {
     if m.is_zero() {
-        (n, m)
+        (n, Some(m))
     } else if n.is_zero() {
-        (m, n)
+        (m, Some(n))
     } else {
         let gcd = positive_gcd(m, n).0;
         (gcd, m.times_quotient(n, gcd))
     }
+}
+
+/// Returns the least common multiple of two magnitudes, or `None` if it does not fit in 128 bits.
+/// `lcm_of_magnitudes(4, 6)` is `Some(12)`.
+pub fn lcm_of_magnitudes(m: u128, n: u128) -> Option<u128> {
+    gcd_lcm_of_magnitudes(m, n).1
 }
 
 /// Returns the greatest common divisor of two magnitudes, and the number of iterations. The loop is

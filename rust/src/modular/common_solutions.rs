@@ -6,7 +6,7 @@ use crate::guards::{check, check_lcm};
 use crate::modular::products::Modular;
 use crate::modular::residue_classes::{next_congruent, solutions, times_to_reach};
 use crate::modular::residues::{difference_modulo, residue};
-use crate::operators::{difference, is_below, is_negative, product, successor, sum, zero};
+use crate::operators::{difference, is_negative, product, successor, sum, zero};
 use crate::{checked, Fits};
 
 /// Returns the numbers that are `a` modulo `m` and `b` modulo `n`, as the smallest that is not
@@ -33,8 +33,8 @@ use crate::{checked, Fits};
 #[track_caller]
 #[must_use]
 pub fn chinese_remainder<T: Modular>(a: T, m: T, b: T, n: T) -> Option<(T, T)> {
-    check(is_below(zero(), m), "the modulus is not positive");
-    check(is_below(zero(), n), "the modulus is not positive");
+    check(m > zero(), "the modulus is not positive");
+    check(n > zero(), "the modulus is not positive");
     check_lcm(&m, &n, "the least common multiple does not fit");
     let start = residue(a, m);
     let gap = difference_modulo(b, start, n);

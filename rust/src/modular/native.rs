@@ -6,14 +6,14 @@ use crate::guards::check;
 use crate::modular::products::Modular;
 use crate::modular::residues::{negation_of_residue, residue};
 use crate::modular::wide_residues::{power_of_wide, product_of_wide};
-use crate::operators::{is_below, zero};
+use crate::operators::zero;
 use crate::{Fits, NativeInteger};
 use num_traits::{cast, NumCast};
 
 #[cfg_attr(has_do_not_recommend, diagnostic::do_not_recommend)]
 impl<T: NativeInteger> Modular for T {
     fn product_modulo(&self, other: &T, modulus: &T) -> T {
-        check(is_below(zero(), *modulus), "the modulus is not positive");
+        check(*modulus > zero(), "the modulus is not positive");
         of_magnitude(product_as_magnitude(*self, *other, *modulus))
     }
 

@@ -154,7 +154,7 @@ pub fn power_modulo<T: Modular>(a: T, exponent: u128, m: T) -> T {
 #[track_caller]
 #[must_use]
 pub fn power_modulo_counted<T: Modular>(a: T, exponent: u128, m: T) -> (T, u32) {
-    check(is_below(zero(), m), "the modulus is not positive");
+    check(m > zero(), "the modulus is not positive");
     a.power_modulo_counted(exponent, &m)
 }
 

@@ -117,7 +117,7 @@ pub fn previous_congruent<T: Fits>(to: T, residue: T, modulus: T) -> Option<T> {
 #[track_caller]
 #[must_use]
 pub fn count_congruent<T: Fits>(from: T, to: T, residue: T, modulus: T) -> Option<T> {
-    check(is_below(zero(), modulus), "the modulus is not positive");
+    check(modulus > zero(), "the modulus is not positive");
     if is_below(to, from) {
         return Some(zero());
     }
