@@ -27,18 +27,19 @@ use crate::{checked, Fits};
 ///
 /// # Panics
 ///
-/// If a modulus is not positive, or if the least common multiple does not fit.
+/// If a modulus is not positive, or if there are such numbers and the least common multiple does
+/// not fit.
 ///
 /// [Contract](crate::definitions::modular#chinese_remainder)
 #[track_caller]
 #[must_use]
 pub fn chinese_remainder<T: Modular>(a: T, m: T, b: T, n: T) -> Option<(T, T)> {
-    check(m > zero(), "the modulus is not positive");
-    check(n > zero(), "the modulus is not positive");
-    check_lcm(&m, &n, "the least common multiple does not fit");
+    check(m > zero(), "a modulus is not positive");
+    check(n > zero(), "a modulus is not positive");
     let start = residue(a, m);
     let gap = difference_modulo(b, start, n);
     let (times, step) = solutions(m, gap, n)?;
+    check_lcm(&m, &n, "the least common multiple does not fit");
     Some((sum(start, product(m, times)), product(m, step)))
 }
 

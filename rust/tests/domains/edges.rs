@@ -114,11 +114,11 @@ fn moduli() {
             4.product_modulo(&5, &0);
             modular::counted::power_modulo_counted(2, 3, 0);
             modular::count_congruent(1, 10, 1, 0);
-            modular::chinese_remainder(1, 0, 1, 3);
-            modular::chinese_remainder(1, 3, 1, 0);
             RollingHash::new(10, 0, 2);
         }
         ONE_MODULUS {
+            modular::chinese_remainder(1, 0, 1, 3);
+            modular::chinese_remainder(1, 3, 1, 0);
             modular::next_common_solution_of(0, &[(1, -3), (1, 2)]);
             modular::next_common_solution_of(0, &[(1, 0), (1, 2)]);
             modular::next_common_solution_of(0, &[(1, 2), (1, 0)]);

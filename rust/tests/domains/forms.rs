@@ -294,8 +294,6 @@ fn moduli() {
             modular::inverse_modulo(3, 0);
             modular::quotient_modulo(2, 3, -7);
             modular::solutions(2, 3, -7);
-            modular::chinese_remainder(1, -2, 1, 3);
-            modular::chinese_remainder(1, 2, 1, 0);
             modular::next_common_solution(0, 1, -2, 1, 3);
             modular::next_common_solution(0, 1, 2, 1, -3);
             RollingHash::new(10, 0, 2);
@@ -305,6 +303,8 @@ fn moduli() {
             modular::count_congruent(10, 1, 1, 0);
         }
         ONE_MODULUS {
+            modular::chinese_remainder(1, -2, 1, 3);
+            modular::chinese_remainder(1, 2, 1, 0);
             modular::next_common_solution_of(0, &[(1, 2), (1, -3)]);
             modular::next_common_solution_of(0u8, &[(1, 0)]);
         }
