@@ -99,13 +99,6 @@ class Specs:
             raise Unknown(f'crates/{crate}/specs: no definition of `{name}`')
         return words[name]
 
-    def passed_on(self, crate: str, path: str) -> Imports:
-        """The words of other files that a file of `specs/` passes on."""
-        if '.declared.' in '.' + path or not path.startswith('specs.'):
-            return {}
-        words, imports = self.read(crate, path.removeprefix('specs.'))
-        return {name: place for name, place in imports.items() if name not in words}
-
     def cite(self, text: str, imports: Imports) -> list[Definition]:
         """The definitions of the imported words that a text names. Notes them, and the words that
         they cite."""
@@ -122,8 +115,6 @@ class Specs:
         if crate not in self.crates:
             self.outside.add(file + name)
             return None
-        if name in self.passed_on(crate, path):
-            return self.cite_word(name, *self.passed_on(crate, path)[name], file)
         word = self.find(crate, path, name)
         if not word:
             self.declared.add((crate, declared_by(path, name)))

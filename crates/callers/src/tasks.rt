@@ -1,9 +1,9 @@
 //! Everyday tasks. A call or two does each, and the contract has the clauses that its user would write.
 
 ghost use Rattle.std.specs.Prelude.{◌≡◌, ◌↔◌, ◌++◌, ◌+◌, ◌*◌, ◌/◌, ◌%◌, ◌<◌, ◌≤◌, ◌^◌, ◌<ℤ◌, ◌*ℤ◌, Err, IsFalse, IsTrue, MatchOption, length, pos, sum, ℕ};
-ghost use Rattle.num_integer.specs.Buffers.{CAPACITY};
 ghost use Rattle.num_integer.specs.Division.{IsCeiled, IsQuotient};
 ghost use Rattle.applied.specs.Paging.{IsRangeOfPage};
+ghost use Rattle.intcalc_core.specs.declared.line.TheConstants.{CAPACITY};
 ghost use Rattle.modular.specs.Congruences.{IsResidue};
 ghost use Rattle.ratio64.specs.Fraction.{IsOutsideI64};
 ghost use Rattle.ratio64.specs.Ratio.{den_of, num_of};
@@ -11,9 +11,10 @@ ghost use Rattle.ratio64.specs.Rounding.{AnswersInParts};
 ghost use Rattle.ratio64.specs.declared.error.RatioError.{RatioError};
 
 use applied::paging::range_of_page;
+use intcalc_core::line::CAPACITY;
 use modular::{difference_modulo, quotient_modulo, residue};
 use num_integer::checked;
-use num_integer::text::{Buffer, CAPACITY};
+use num_integer::text::Buffer;
 use ratio64::{Ratio, RatioError};
 
 // ---- pages of items

@@ -2,12 +2,15 @@
 
 ghost use Rattle.std.specs.Prelude.{◌≡◌, ◌+◌, ◌≤◌, ◌<◌, ◌++◌, [], length};
 ghost use Rattle.std.specs.Fmt.{decimal, signed_decimal};
-ghost use Rattle.num_integer.specs.Buffers.{CAPACITY};
+ghost use Rattle.intcalc_core.specs.declared.line.TheConstants.{CAPACITY};
 ghost use Rattle.intcalc_core.specs.Line.{next_number, text_of_answer, text_of_refusal};
 
 use crate::calls::{Answer, Refusal};
 use crate::decimal::{WIDTH, write_digits};
-use num_integer::text::Buffer;
+use num_integer::text::{self, Buffer};
+
+/// The largest number of bytes of a line.
+pub const CAPACITY: usize = text::CAPACITY;
 
 /// Adds the number in decimal.
 fn push_unsigned(line: &mut Buffer, n: u128)

@@ -3,7 +3,7 @@
 ghost use Rattle.std.specs.Prelude.{◌≡◌, ◌≢◌, ◌<◌, ◌↔◌, List, ℕ, map, length, false, IsTrue};
 ghost use Rattle.std.specs.Bool.{OnTrue};
 ghost use Rattle.std.specs.Io.KnownBytes.{Appends};
-ghost use Rattle.num_integer.specs.Buffers.{CAPACITY};
+ghost use Rattle.intcalc_core.specs.declared.line.TheConstants.{CAPACITY};
 ghost use Rattle.intcalc_core.specs.Line.{IsReply, IsLine};
 
 use crate::calls::{Call, Kind};

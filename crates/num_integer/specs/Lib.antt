@@ -17,7 +17,6 @@ pub use Rattle.integer_core.specs.Runs
 pub use Rattle.integer_roots.specs.Averages
 pub use Rattle.integer_roots.specs.RootOf
 pub use Rattle.integer_roots.specs.SquareRuns
-pub mod Buffers
 -- what those of this crate cite, and the laws
 pub mod Answers
 pub mod Laws
