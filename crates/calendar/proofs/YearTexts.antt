@@ -21,20 +21,20 @@ pub record HasForm (value : ℕ → ℤ) (least most : ℕ) (ds text : List ℕ)
 no_sign : (n c : ℕ) (ds : List ℕ) → n < 10000 → c < 48 → c ∷ ds ≢ padded 4 n
 no_sign n c ds small low e = omega (arith, ap (λ (x : List ℕ). get_or x 0 0) e, (padded_shortest n (omega arith)).1.0)
 
-pub minus_form : (ds text : List ℕ) → text ≡ 45 ∷ ds → HasForm (λ n. neg_ℤ (pos n)) 1 (2 ^ 63) ds text
-minus_form ds text starts = record {
+pub minus_form : {ds text : List ℕ} → text ≡ 45 ∷ ds → HasForm (λ n. neg_ℤ (pos n)) 1 (2 ^ 63) ds text
+minus_form {ds} starts = record {
   tells = λ year fits e. grind (arith, ints, year_texts year, no_sign (unsigned_abs year) 45 ds);
   writes = λ n some small e. grind (arith, ints, year_texts (neg_ℤ (pos n)));
 }
 
-pub plus_form : (ds text : List ℕ) → text ≡ 43 ∷ ds → HasForm pos 10000 (2 ^ 63 - 1) ds text
-plus_form ds text starts = record {
+pub plus_form : {ds text : List ℕ} → text ≡ 43 ∷ ds → HasForm pos 10000 (2 ^ 63 - 1) ds text
+plus_form {ds} starts = record {
   tells = λ year fits e. grind (arith, ints, year_texts year, no_sign (unsigned_abs year) 43 ds);
   writes = λ n large small e. grind (arith, ints, year_texts (pos n));
 }
 
-pub plain_form : (text : List ℕ) → ((rest : List ℕ) → text ≢ 45 ∷ rest) → ((rest : List ℕ) → text ≢ 43 ∷ rest) → HasForm pos 0 9999 text text
-plain_form text no_minus no_plus = record {
+pub plain_form : {text : List ℕ} → ((rest : List ℕ) → text ≢ 45 ∷ rest) → ((rest : List ℕ) → text ≢ 43 ∷ rest) → HasForm pos 0 9999 text text
+plain_form no_minus no_plus = record {
   tells = λ year fits e. let digits = padded 4 (unsigned_abs year) in grind (arith, ints, year_texts year, no_minus digits, no_plus digits);
   writes = λ n low small e. grind (arith, ints, year_texts (pos n));
 }
