@@ -3,7 +3,10 @@
 
 use crate::calls::{Answer, Refusal};
 use crate::decimal::{write_digits, WIDTH};
-use cellarcove::text::Buffer;
+use cellarcove::text::{self, Buffer};
+
+/// The largest number of bytes of a line.
+pub const CAPACITY: usize = text::CAPACITY;
 
 /// Adds the number in decimal.
 fn push_unsigned(line: &mut Buffer, n: u128) {
