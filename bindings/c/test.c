@@ -494,6 +494,25 @@ static void rounded_quotients(void) {
     REFUSES(cellarcove_div_round_even_u64(1, 0), CELLARCOVE_OUTSIDE);
 }
 
+static void divided_by_one(void) {
+    const int64_t numbers[5] = {-8, 8, 0, INT64_MIN, INT64_MAX};
+    const uint64_t counts[3] = {9, UINT64_MAX, 0};
+    int64_t found[5] = {7, 7, 7, 7, 7};
+    uint64_t naturals[3] = {7, 7, 7};
+    CHECK(cellarcove_div_floor_each_i64(numbers, 5, 0, found, 5) == CELLARCOVE_OUTSIDE && found[0] == 7 && found[4] == 7);
+    CHECK(cellarcove_div_floor_each_i64(numbers, 5, -3, found, 5) == CELLARCOVE_OUTSIDE && found[0] == 7);
+    CHECK(cellarcove_div_floor_each_i64(numbers, 5, 3, found, 4) == CELLARCOVE_OUTSIDE && found[0] == 7);
+    CHECK(cellarcove_div_floor_each_i64(numbers, 5, 3, found, 5) == CELLARCOVE_ANSWER && found[0] == -3 && found[1] == 2 && found[2] == 0);
+    CHECK(found[3] == -INT64_C(3074457345618258603) && found[4] == INT64_C(3074457345618258602));
+    CHECK(cellarcove_div_floor_each_i64(numbers, 5, 1, found, 5) == CELLARCOVE_ANSWER && found[0] == -8 && found[3] == INT64_MIN && found[4] == INT64_MAX);
+    CHECK(cellarcove_div_floor_each_i64(numbers, 5, INT64_MAX, found, 5) == CELLARCOVE_ANSWER && found[0] == -1 && found[3] == -2 && found[4] == 1);
+    CHECK(cellarcove_div_floor_each_u64(counts, 3, 0, naturals, 3) == CELLARCOVE_OUTSIDE && naturals[0] == 7);
+    CHECK(cellarcove_div_floor_each_u64(counts, 3, 3, naturals, 2) == CELLARCOVE_OUTSIDE && naturals[0] == 7);
+    CHECK(cellarcove_div_floor_each_u64(counts, 3, 3, naturals, 3) == CELLARCOVE_ANSWER && naturals[0] == 3 && naturals[1] == UINT64_MAX / 3 && naturals[2] == 0);
+    CHECK(cellarcove_div_floor_each_u64(counts, 3, UINT64_MAX, naturals, 3) == CELLARCOVE_ANSWER && naturals[0] == 0 && naturals[1] == 1);
+    CHECK(cellarcove_div_floor_each_u64(NULL, 0, 1, NULL, 0) == CELLARCOVE_ANSWER);
+}
+
 static void shares(void) {
     const uint64_t weights[3] = {1, 1, 1}, zeros[3] = {0, 0, 0}, unequal[3] = {1, 1, 98};
     int64_t parts[3] = {7, 7, 7};
@@ -637,6 +656,7 @@ int main(void) {
     days_and_years();
     last_and_first_week();
     rounded_quotients();
+    divided_by_one();
     shares();
     numbers_of_pages();
     counts_and_times();

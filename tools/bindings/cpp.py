@@ -123,7 +123,7 @@ def hpp() -> str:
     found = EXPORTS()
     statuses = ''.join(f'    {status.name.lower()} = {status.number},\n' for status in found.statuses)
     text = module = ''
-    for name, forms in found.forms().items():
+    for name, forms in found.all_forms().items():
         if forms[0].module != module:
             module = forms[0].module
             text += lines_of('---- ' + found.headings[module].rstrip('.'), '//') + '\n'

@@ -14,9 +14,12 @@ VERSION = re.findall(r'^version = "(.*)"$', (ROOT / 'rust/Cargo.toml').read_text
 NUMBERS = {f'{sign}{bits}': f'{"u" if sign == "u" else ""}int{bits}_t' for sign in 'iu' for bits in (8, 16, 32, 64)}
 NUMBERS |= {'usize': 'size_t', 'bool': 'bool'}
 # The order of the modules in the header. One that is not here comes last.
-ORDER = ('operators', 'division', 'divisors', 'coprime', 'lists', 'roots', 'powers', 'coefficients', 'counting', 'ranking', 'shares', 'paging',
+ORDER = ('operators', 'division', 'fixed_divisors', 'divisors', 'coprime', 'lists', 'roots', 'powers', 'coefficients', 'counting', 'ranking', 'shares', 'paging',
          'layout', 'modulo', 'congruences', 'several_congruences', 'schedules', 'fractions', 'rounding', 'decimals', 'dates', 'weekdays', 'years',
          'texts', 'date_texts')
+
+
+EACH = '_each'  # after the name of the call that is made of each number of a list
 
 
 class Field(NamedTuple):
@@ -75,6 +78,11 @@ class Call(NamedTuple):
         return any(parameter.is_written for parameter in self.parameters)
 
     @property
+    def is_each(self) -> bool:
+        """Whether the call is another one of each number of a list, for languages that have no columns."""
+        return self.name.endswith(EACH)
+
+    @property
     def taken(self) -> list[Field]:
         """The parameters without a list that is written and as long as one that is read."""
         two_lists = sum(bool(parameter.item) for parameter in self.parameters) == 2
@@ -98,6 +106,10 @@ class Exports(NamedTuple):
                 for path, leaf in self.leaves(field.kind)]
 
     def forms(self) -> dict[str, list[Call]]:
+        """The calls by name, each with one form or two, in the order of the header, but for those of each number of a list."""
+        return {name: forms for name, forms in self.all_forms().items() if not forms[0].is_each}
+
+    def all_forms(self) -> dict[str, list[Call]]:
         """The calls by name, each with one form or two, in the order of the header."""
         names: dict[str, list[Call]] = {}
         for call in self.calls:

@@ -1,5 +1,5 @@
 """What numpy knows of the exports: the loops of ufuncs, and the table of the calls of columns."""
-from tools.bindings.exports import EXPORTS, Call, c_type, filled
+from tools.bindings.exports import EACH, EXPORTS, Call, c_type, filled
 from tools.bindings.python import (
     CLASSES,
     LETTERS,
@@ -54,6 +54,16 @@ def returned(call: Call) -> str:
     )
 
 
+def by_one(call: Call) -> str:
+    """What a loop does first whose second number is one for all, if there is a call of that."""
+    each = EXPORTS().all_forms().get(call.name + EACH, [])
+    return ''.join(
+        filled('by_one.c', type=TYPES[LETTERS[form.form]], symbol=form.symbol)
+        for form in each
+        if form.form == call.form
+    )
+
+
 def loop(call: Call) -> str:
     """The loop of a form."""
     name = call.symbol.removeprefix('cellarcove_')
@@ -72,6 +82,8 @@ def loop(call: Call) -> str:
     given = arguments(call, lambda k, kind: f'AT(const {TYPES[LETTERS[kind]]}, {k})')
     return filled(
         'loop.c',
+        opening='    (void)data;\n' + by_one(call),
+        first='' if by_one(call) else 'npy_intp k = 0',
         name=name,
         type=c_type(call.result),
         symbol=call.symbol,

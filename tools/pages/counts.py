@@ -65,7 +65,7 @@ def in_files() -> dict[str, int]:
         'definitions': int(coq[0][0]), 'in_coq': int(coq[0][1]),
         'theorems': len(re.findall('^- `pub fn ', texts('docs/reference/theorems*.md'), re.M)),
         'callers': len(re.findall(r'^ *pub fn ', texts('crates/callers/src/**/*.rt'), re.M)),
-        'exports': sum(map(len, EXPORTS().forms().values())),
+        'exports': len(EXPORTS().calls),
     }
 
 

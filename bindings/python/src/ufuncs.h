@@ -17,6 +17,9 @@
 /* The number of a call at a place. */
 #define AT(type, place) (*(type *)(void *)(args[place] + k * steps[place]))
 
+/* How many numbers are divided by one at a time. */
+#define BLOCK 512
+
 typedef struct {
     const char *name, *signature;
     PyUFuncGenericFunction *loops;
@@ -50,6 +53,29 @@ static void scatter(const uint64_t *from, char *to, npy_intp step, size_t count)
     for (size_t k = 0; k < count; k++, to += step) {
         memcpy(to, from == NULL ? &zero : &from[k], sizeof zero);
     }
+}
+
+/* Numbers that lie so many bytes apart, side by side: as they are, or copied. */
+static void *together(uint64_t *room, char *from, npy_intp step, size_t count) {
+    if (step == sizeof *room) {
+        return from;
+    }
+    gather(room, from, step, count);
+    return room;
+}
+
+/* Whether so many numbers at two places share no byte. */
+static bool apart(const void *one, const void *other, size_t count) {
+    uintptr_t first = (uintptr_t)one, second = (uintptr_t)other;
+    return first + count * sizeof(uint64_t) <= second || second + count * sizeof(uint64_t) <= first;
+}
+
+/* Writes the statuses of what has a result. */
+static void clear(char *to, npy_intp step, size_t count) {
+    for (size_t k = 0; step != 1 && k < count; k++, to += step) {
+        *to = CELLARCOVE_ANSWER;
+    }
+    memset(to, CELLARCOVE_ANSWER, step == 1 ? count : 0);
 }
 
 /* Adds the ufuncs to the module. They keep what a table points to. */

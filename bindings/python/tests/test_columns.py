@@ -212,6 +212,33 @@ class Matrix(unittest.TestCase):
                 ):
                     cellarcove.days_in_month(2024, numpy.array([1, wrong, 2]).astype(kind))
 
+    def test_by_one(self):
+        """Numbers divided by one, of which many are divided at a time."""
+        ends = [-(2**63), 1 - 2**63, -8, -3, -1, 0, 1, 3, 7, 2**62, 2**63 - 1]
+        for kind, low in (('i8', -(2**63)), ('u8', 0)):
+            high = low + 2**64 - 1
+            given = [number for number in [*ends, high] if low <= number <= high]
+            many = numpy.random.default_rng(3).integers(low, high, 1300, kind, endpoint=True)
+            many[: len(given)] = given
+            for divisor in (1, 2, 3, 7, 100, 2**32 + 1, 2**62 + 1, high - 1, high, -3, low + 1):
+                if divisor == 0 or divisor < low:
+                    continue
+                right = [number // divisor for number in many.tolist()]
+                with self.subTest(f'{kind} by {divisor}'):
+                    for count in (0, 1, 511, 512, 513, 1300):
+                        found = cellarcove.div_floor(many[:count], divisor)
+                        self.assertEqual(found.tolist(), right[:count])
+                    for part in (slice(None, None, 2), slice(None, None, -1)):
+                        found = cellarcove.div_floor(many[part], divisor)
+                        self.assertEqual(found.tolist(), right[part])
+                    for part in (slice(None), slice(1, None), slice(None, -1)):
+                        room = numpy.zeros(1301, kind)
+                        x, out = room[:-1][part], room[1:][part]
+                        for to in (x, out):
+                            x[:] = many[part]
+                            cellarcove.div_floor(x, divisor, out=to)
+                            self.assertEqual(to.tolist(), right[part])
+
     def test_outputs(self):
         """An output of any layout gets the results, also one that is an input."""
         for layout in (

@@ -4,14 +4,14 @@ pub use Rattle.std.proofs.lemmas.Bool.{cases_lt, false≢true, iff_false}
 pub use Rattle.std.proofs.lemmas.Fmt.{IsAscii-decimal}
 pub use Rattle.std.proofs.lemmas.Grind.{common_steps}
 pub use Rattle.std.proofs.lemmas.Int.{by_lt_z, ints, to_z-of_z, unsigned_abs-mul}
-pub use Rattle.std.proofs.lemmas.List.{get_or-append_right, get_or-map, get_or-take, get_or_append_left, length-map, length-take-le, map-id, map_more, take_all, take_more_set}
+pub use Rattle.std.proofs.lemmas.List.{ext_get_or, get_or-append_right, get_or-map, get_or-take, get_or_append_left, length-map, length-take-le, map-id, map_more, take_all, take_more_set}
 pub use Rattle.std.proofs.lemmas.List.Elements.{All-get_or, All-more, All-push, All-replicate, All-same, All-weaker}
 pub use Rattle.std.proofs.lemmas.Str.{IsAscii-append, IsUtf8-from_ascii}
 pub use Rattle.std.proofs.lemmas.Str.Ascii.{IsAscii-cons, IsAscii-from_all, IsAscii-push}
 pub use Rattle.std.specs.Int.{int_pow, w64}
 pub use Rattle.std.specs.Prelude.{Bool, Err, FitsSigned, IfSome, IsTrue, List, MatchOption, MatchResult, None, Ok, Option, Result, Some, [], length, map, min, negsuc, pos, replicate, suc, unsigned_abs, zero, ℕ, ℤ, ◌%◌, ◌*ℤ◌, ◌*◌, ◌++◌, ◌+ℤ◌, ◌+◌, ◌-ℤ◌, ◌-◌, ◌/◌, ◌<ℤ◌, ◌<◌, ◌^◌, ◌↔◌, ◌∷◌, ◌≡◌, ◌≢◌, ◌≤ℤ◌, ◌≤◌, ◌⊎◌}
 pub use Rattle.num_integer.proofs.ForCallers.{Divides-difference, answers_as, coefficient-zero, int_pow-zero, least_is_only, linear, none_above, pascal, sizes, small_multiple_is_zero}
-pub use Rattle.num_integer.proofs.Laws.{coefficient_mirror, remainder_is_only, root_is_only}
+pub use Rattle.num_integer.proofs.Laws.{coefficient_mirror, quotient_is_only, remainder_is_only, root_is_only}
 pub use Rattle.num_integer.specs.Checked.{AnswersWhere}
 pub use Rattle.num_integer.specs.Coefficient.{coefficient}
 pub use Rattle.num_integer.specs.Division.{IsRemainder, IsTruncated}

@@ -15,6 +15,7 @@ use Rattle.cellarcove_c.specs.DateTexts.{ReadsDate}
 use Rattle.cellarcove_c.specs.Decimals.{IsInDigits}
 use Rattle.cellarcove_c.specs.Fractions.{AnswersFract, IsInParts, IsPower, OnBothFractions, Represents, StandsForNumber, order_number}
 use Rattle.cellarcove_c.specs.Paging.{IsFewestPages, IsPadding}
+use Rattle.cellarcove_c.specs.Quotients.{AreFloored}
 use Rattle.cellarcove_c.specs.Roots.{IsRootWithRest}
 use Rattle.cellarcove_c.specs.Statuses.{IsReason}
 use Rattle.cellarcove_c.specs.Texts.{StandsForRead}
@@ -52,6 +53,10 @@ NextOfSeveralIsOnly {X} value fits = (from : ℤ) (pairs : List (X × X)) (zero_
     → fits (value x) → fits (value y) → IsNextOfSeveral value fits from pairs zero_value s x → IsNextOfSeveral value fits from pairs zero_value t y → (s ≡ t) × (x ≡ y)
 
 -- ---- numbers
+
+-- Numbers have at most one list of quotients by a divisor.
+abbrev pub FlooredListIsOnly : Type 0
+FlooredListIsOnly = (divisor : ℤ) (numbers p q : List ℤ) → AreFloored divisor numbers p → AreFloored divisor numbers q → p ≡ q
 
 -- Each number of items has at most one fewest number of pages.
 abbrev pub FewestPagesIsOnly : Type 0

@@ -1,7 +1,7 @@
 -- Quotients, with a status.
-use Rattle.std.specs.Prelude.{◌≡◌, ◌≢◌, ℕ, ℤ, pos, FitsSigned}
+use Rattle.std.specs.Prelude.{◌≡◌, ◌≢◌, ◌<◌, ℕ, ℤ, List, pos, FitsSigned, get_or, length}
 use Rattle.std.specs.Int.{FitsUnsignedBits, w64}
-use Rattle.num_integer.specs.Division.{IsQuotient}
+use Rattle.num_integer.specs.Division.{IsFloored, IsQuotient}
 use Rattle.num_integer.specs.Range.{EachFits}
 use Rattle.cellarcove_c.specs.Answers.{Answers, I64Answers, U64Answers}
 use Rattle.cellarcove_c.specs.Statuses.{IsReason}
@@ -33,3 +33,9 @@ I64Quotients IsRounded x divisor r = Answers {A = ℤ × ℤ} ((divisor ≢ pos 
 abbrev pub U64Quotients : (ℤ → ℤ → ℤ → ℤ → Type 0) → ℤ → ℤ → (ℕ → Type 0) → U64Division → Type 0
 U64Quotients IsRounded x divisor Reason r = Answers {A = ℕ × ℕ} ((divisor ≢ pos 0) × EachFits (FitsUnsignedBits 64) (IsQuotient IsRounded x divisor))
     (λ (q, rest). IsRounded x divisor (pos q) (pos rest)) Reason (0, 0) r.status (r.quotient, r.remainder)
+
+-- Each number of the second list is the one in its place in the first, divided by d and rounded down.
+-- Examples: by 3: of 8, -8: 2, -3; not 2, -2; not 2 alone.
+pub record AreFloored (d : ℤ) (numbers quotients : List ℤ) : Type 0 where
+  pub one_each : length quotients ≡ length numbers
+  pub each : (k : ℕ) → k < length numbers → IsQuotient IsFloored (get_or numbers k (pos 0)) d (get_or quotients k (pos 0))

@@ -1,5 +1,5 @@
-//! The library for C. Each function is one call of the library, for any arguments: if the call has no
-//! result, the status says why, and every other field is 0.
+//! The library for C. Each function is one call of the library, or that call for each number of a list, for any
+//! arguments: if the call has no result, the status says why, and every other field is 0.
 #![tactic(auto)]
 
 mod answers;
@@ -13,6 +13,7 @@ mod dates;
 mod decimals;
 mod division;
 mod divisors;
+mod fixed_divisors;
 mod fractions;
 mod laws_of_exports;
 mod layout;
