@@ -40,11 +40,12 @@ static uint64_t *room_for(size_t count) {
     return room;
 }
 
-/* Copies numbers that lie so many bytes apart. */
-static void gather(uint64_t *to, const char *from, npy_intp step, size_t count) {
-    for (size_t k = 0; k < count; k++, from += step) {
-        memcpy(&to[k], from, sizeof *to);
+/* Numbers that lie so many bytes apart, side by side: as they are, or copied into the room. */
+static void *gather(uint64_t *room, char *from, npy_intp step, size_t count) {
+    for (size_t k = 0; step != sizeof *room && k < count; k++, from += step) {
+        memcpy(&room[k], from, sizeof *room);
     }
+    return step == sizeof *room ? (void *)from : room;
 }
 
 /* Copies numbers to where they lie so many bytes apart, or zeros. */
@@ -53,15 +54,6 @@ static void scatter(const uint64_t *from, char *to, npy_intp step, size_t count)
     for (size_t k = 0; k < count; k++, to += step) {
         memcpy(to, from == NULL ? &zero : &from[k], sizeof zero);
     }
-}
-
-/* Numbers that lie so many bytes apart, side by side: as they are, or copied. */
-static void *together(uint64_t *room, char *from, npy_intp step, size_t count) {
-    if (step == sizeof *room) {
-        return from;
-    }
-    gather(room, from, step, count);
-    return room;
 }
 
 /* Whether so many numbers at two places share no byte. */
