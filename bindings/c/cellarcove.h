@@ -369,6 +369,25 @@ CELLARCOVE_CONST bool cellarcove_is_multiple_of_i64(int64_t x, int64_t y);
 /** Whether x is a multiple of y. For 6 and 3 it is true, for 0 and 0 it is true, and for 6 and 0 it is false. */
 CELLARCOVE_CONST bool cellarcove_is_multiple_of_u64(uint64_t x, uint64_t y);
 
+/* ---- Many numbers divided by one ---- */
+
+/** Writes the quotients of the numbers by a positive divisor, rounded down, and returns the status. Those of -8, 8
+ *  and 7 by 3 are -3, 2 and 2. If the status is not 0, quotients stays as it is. numbers points to numbers_len
+ *  aligned numbers, which do not change during the call; it may be null if numbers_len is 0. quotients points to
+ *  quotients_len aligned numbers, which nothing else reads or writes during the call; it may be null if
+ *  quotients_len is 0. CELLARCOVE_OUTSIDE if the divisor is not positive, or if there is not one quotient for each
+ *  number. */
+CELLARCOVE_WRITES uint32_t cellarcove_div_floor_each_i64(const int64_t *numbers, size_t numbers_len,
+    int64_t divisor, int64_t *CELLARCOVE_RESTRICT quotients, size_t quotients_len);
+
+/** Writes the quotients of the numbers by a divisor, rounded down, and returns the status. Those of 8, 9 and 7 by
+ *  3 are 2, 3 and 2. If the status is not 0, quotients stays as it is. numbers points to numbers_len aligned
+ *  numbers, which do not change during the call; it may be null if numbers_len is 0. quotients points to
+ *  quotients_len aligned numbers, which nothing else reads or writes during the call; it may be null if
+ *  quotients_len is 0. CELLARCOVE_OUTSIDE if the divisor is 0, or if there is not one quotient for each number. */
+CELLARCOVE_WRITES uint32_t cellarcove_div_floor_each_u64(const uint64_t *numbers, size_t numbers_len,
+    uint64_t divisor, uint64_t *CELLARCOVE_RESTRICT quotients, size_t quotients_len);
+
 /* ---- Common divisors and multiples ---- */
 
 /** The greatest common divisor, which is not negative. That of -56 and 42 is 14, and that of 0 and 0 is 0.

@@ -664,6 +664,37 @@ template <class N0, class N1> [[nodiscard]] auto is_multiple_of(N0 x, N1 y) {
     }
 }
 
+// ---- Many numbers divided by one
+
+/// Writes the quotients of the numbers by a positive divisor, rounded down, and returns the status. Those of -8, 8
+/// and 7 by 3 are -3, 2 and 2. If the status is not 0, quotients stays as it is. status::outside if the divisor is
+/// not positive, or if there is not one quotient for each number.
+[[nodiscard]] inline status div_floor_each(const std::int64_t *numbers, detail::checked<std::size_t> numbers_length, detail::checked<std::int64_t> divisor, std::int64_t *quotients, detail::checked<std::size_t> quotients_length) {
+    if (auto error = detail::error_of(numbers_length, divisor, quotients_length); error != status::answer) {
+        return error;
+    }
+    return static_cast<status>(cellarcove_div_floor_each_i64(numbers, numbers_length.value, divisor.value, quotients, quotients_length.value));
+}
+
+/// Writes the quotients of the numbers by a divisor, rounded down, and returns the status. Those of 8, 9 and 7 by 3
+/// are 2, 3 and 2. If the status is not 0, quotients stays as it is. status::outside if the divisor is 0, or if there
+/// is not one quotient for each number.
+[[nodiscard]] inline status div_floor_each(const std::uint64_t *numbers, detail::checked<std::size_t> numbers_length, detail::checked<std::uint64_t> divisor, std::uint64_t *quotients, detail::checked<std::size_t> quotients_length) {
+    if (auto error = detail::error_of(numbers_length, divisor, quotients_length); error != status::answer) {
+        return error;
+    }
+    return static_cast<status>(cellarcove_div_floor_each_u64(numbers, numbers_length.value, divisor.value, quotients, quotients_length.value));
+}
+
+/// The same for an array, or a container of `std::int64_t` or `std::uint64_t` in one piece.
+template <class Items0, class N1, class Items2>
+[[nodiscard]] auto div_floor_each(const Items0 &numbers, N1 divisor, Items2 &&quotients) {
+    static_assert(detail::has_items<decltype(numbers), std::int64_t, std::uint64_t>, "the items of numbers have to be std::int64_t or std::uint64_t");
+    static_assert(detail::has_items<decltype(quotients), std::int64_t, std::uint64_t>, "the items of quotients have to be std::int64_t or std::uint64_t");
+    static_assert(detail::outlives_call<Items2>, "quotients ends with the call: pass a variable, or a view of one");
+    return div_floor_each(detail::items<std::int64_t, std::uint64_t>(numbers), std::size(numbers), divisor, detail::items<std::int64_t, std::uint64_t>(quotients), std::size(quotients));
+}
+
 // ---- Common divisors and multiples
 
 /// The greatest common divisor, which is not negative. That of -56 and 42 is 14, and that of 0 and 0 is 0.

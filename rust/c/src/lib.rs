@@ -61,6 +61,7 @@ mod dates;
 mod decimals;
 mod division;
 mod divisors;
+mod fixed_divisors;
 mod fractions;
 mod layout;
 mod lists;
