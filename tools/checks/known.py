@@ -76,11 +76,13 @@ def made() -> dict[str, str]:
     left = [cells('.'.join(key), row) for key, row in rows.items() if not row.theorems]
     lines = (ROOT / 'tools/checks/antt_to_coq.py').read_text().count('\n')
     counts = {'lines': lines, 'reached': len(rows), 'proved': len(proved), 'left': len(left),
-              'theorems': len(names_in(theorems())), 'kit': len(library().kit),
+              'theorems': len(names_in(theorems())), 'kit': len(library().kit.paragraphs),
               'signs': len(library().signs),
               **{name.replace(' ', '_'): count for name, count in totals().items()}}
+    late = f' With {counts["too_long"]}, Coq took too long, so they show nothing.'
     page = filled(ROOT / 'tools/checks/templates/coq.md', rows='\n'.join(proved), packages=PACKAGES,
-                  reasons='\n'.join(left), **{name: str(count) for name, count in counts.items()})
+                  reasons='\n'.join(left), late=late * bool(counts.pop('too_long')),
+                  **{name: str(count) for name, count in counts.items()})
     return {'docs/COQ.md': page}
 
 

@@ -191,5 +191,5 @@ def said(definition: Definition, each: Attempt) -> tuple[str, bool]:
 def summary() -> str:
     counts = totals()
     return (f'changes: {counts["tried"]} of {counts["all"]} tried, {counts["refused"]} refused by '
-            f'a theorem, {counts["same"]} mean the same, {counts["no term"]} are no term, '
+            f'a theorem, {counts["same"]} mean the same, {counts["no term"]} do not type-check, '
             f'{counts["too long"]} took more than {SECONDS} s')

@@ -4,7 +4,7 @@ import re
 from typing import NamedTuple
 
 from tools import ROOT
-from tools.checks.antt_to_coq import Library
+from tools.checks.antt_to_coq import File, Library, Unknown
 from tools.pages.reference import Reference
 
 SOURCES = ROOT / 'compare/coq'
@@ -12,6 +12,7 @@ LIBRARIES = ('integer_core', 'integer_roots', 'num_integer', 'modular', 'ratio64
              'bounded_integers', 'applied', 'intcalc_core', 'cellarcove_c')
 DEFINED = re.compile(r'(?:abbrev pub|unfoldable pub|pub record|pub data) ')
 THEOREM = re.compile(r'^(?:Theorem|Example|Lemma|Corollary) (\w+)', re.M)
+WORD = re.compile(r'\w+(?:\.[A-Z]\w*)?')
 Definition = tuple[str, str, str]               # its crate, its file and its name
 
 
@@ -58,14 +59,38 @@ def library() -> Library:
 
 def translated(definitions: tuple[Definition, ...],
                changed: tuple[Definition, str] | None = None) -> dict[str, str]:
-    """The files in Coq of the definitions, of which one may be changed."""
+    """The files in Coq of definitions and of what they need, of which one may be changed."""
     known = library()
     if changed:
         file = known.file(*changed[0][:2])
         file.paragraphs[changed[0][2]] = file.paragraphs[changed[0][2]][0], changed[1]
+    return in_coq(known, definitions)
+
+
+def in_coq(known: Library, definitions: tuple[Definition, ...]) -> dict[str, str]:
+    """The files in Coq of definitions and of what they need."""
+    needed = dict[File, list[str]]()
     for crate, where, name in definitions:
-        known.need(known.file(crate, where), name)
-    return {f'Cellarcove/{name}': text for name, text in known.texts().items()}
+        file = known.file(crate, where)
+        if name not in file.paragraphs:
+            raise Unknown(f'{file.path}: no definition of `{name}` that is known')
+        add_needed(known, file, name, needed)
+    return {f'Cellarcove/{file.module.replace(".", "/")}.v': known.in_coq(file, names)
+            for file, names in needed.items()}
+
+
+def add_needed(known: Library, file: File, name: str, needed: dict[File, list[str]]) -> None:
+    """Adds a definition, after those whose names it has."""
+    if name in needed.get(file, []) or name not in file.paragraphs:
+        return
+    order = needed.setdefault(file, [])
+    order.append(name)
+    for word in sorted({*WORD.findall(file.paragraphs[name][1])} - {name}):
+        source, kind, _ = known.origin(file, word)
+        if source is not known.kit:
+            add_needed(known, source, kind, needed)
+    order.remove(name)
+    order.append(name)
 
 
 def theorems() -> dict[str, str]:

@@ -1,6 +1,6 @@
 """Draws docs/trust.svg from the first table of docs/TRUST.md: how one knows that each step from a
-definition to what runs is right. In the table stands the number of lines of tools/checks/erased.py, and
-below it how many mutants are run as Rust, and how many change a proof."""
+definition to what runs is right. In the table stand the numbers of lines of tools/checks/erased.py and of
+tools/checks/antt_to_coq.py, and below it how many mutants are run as Rust, and how many change a proof."""
 import re
 from collections.abc import Iterator
 
@@ -50,9 +50,10 @@ def picture(page: str) -> str:
 
 
 def with_counts(page: str) -> str:
-    """The page with the lines of erased.py, and the counts of mutants."""
-    lines = (ROOT / 'tools/checks/erased.py').read_text().count('\n')
-    page = re.sub(r'(?<=\*\*checked\*\* by )\d+', str(lines), page)
+    """The page with the lines of two scripts that one trusts, and the counts of mutants."""
+    for words, script in (('**checked** by ', 'erased'), ('of most, through ', 'antt_to_coq')):
+        lines = (ROOT / f'tools/checks/{script}.py').read_text().count('\n')
+        page = re.sub(rf'(?<={re.escape(words)})\d+', str(lines), page)
     mutants = edits.counts()
     page = re.sub(r'Of \d+ mutants \d+ are run', f'Of {mutants.all} mutants {mutants.run} are run', page)
     return re.sub(r'\d+(?= change a proof)', str(mutants.of_proofs), page)

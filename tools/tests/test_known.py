@@ -17,46 +17,51 @@ HEAD = ('use Rattle.std.specs.Prelude.{◌≡◌, ◌≤ℤ◌, ◌*ℤ◌, ℤ,
 def translated(root: Path, text: str, name: str = 'Is') -> str:
     """The definition of a name in Coq, of a file with this text."""
     write(root, {'one/specs/Words.antt': HEAD + text})
-    library = Library(root, KIT)
-    library.need(library.file('one', 'Words'), name)
-    return library.texts()['one/Words.v'].split('\n\n', 1)[1]
+    files = known_table.in_coq(Library(root, KIT), (('one', 'Words', name),))
+    return files['Cellarcove/one/Words.v'].split('\n\n', 1)[1]
 
 
 @pytest.mark.parametrize('text, coq', [
     ("""pub record Is (a b : ℤ) : Type 0 where
   pub low : a ≤ℤ b
   pub quotient : ℤ
-  pub product : a ≡ quotient *ℤ b""", """Definition Is (a b : Kit.ℤ) : Prop :=
-  (a ≤ℤ b) /\\
-  exists quotient : Kit.ℤ,
+  pub product : a ≡ quotient *ℤ b""", """Definition Is (a b : ℤ) : Prop :=
+  (a ≤ℤ b) ×
+  Π (quotient : ℤ) ×
   (a ≡ quotient *ℤ b).
 """),
     ('pub record Is : Type 0 where\n  pub left : ℤ\n  pub right : List (ℕ × ℕ)',
      """Record Is : Type := Make_Is {
-  Is_left : Kit.ℤ;
-  Is_right : Kit.List (Kit.ℕ × Kit.ℕ)
+  Is_left : ℤ;
+  Is_right : List (ℕ × ℕ)
 }.
 """),
     ("""abbrev pub Is : ℤ → Type 0
 Is (pos n) = (k : ℕ) → (z : ℕ) × n ≡ k × ¬ (k ≡ z)
-Is (negsuc n) = ⊥""", """Definition Is : Kit.ℤ → Prop :=
-  fun a0 => match Kit.view a0 with
-  | (inl n) => ∀ (k : Kit.ℕ) → ∃ (z : Kit.ℕ) × n ≡ k × ¬ (k ≡ z)
+Is (negsuc n) = ⊥""", """Definition Is : ℤ → Prop :=
+  fun a'0 => match Kit.view a'0 with
+  | (inl n) => Π (k : ℕ) → Π (z : ℕ) × n ≡ k × ¬ (k ≡ z)
   | (inr n) => ⊥
   end.
 """),
     ("""unfoldable pub Is : {X : Type 0} → List X → ℕ → ℕ
 Is xs zero = 0
 Is xs (suc zero) = 1
-Is xs (suc (suc n)) = Is xs (suc n)""", """Definition Is {X : Type} : Kit.List X → Kit.ℕ → Kit.ℕ :=
-  fix Is xs a1 := match a1 with
-  | Kit.zero => 0
-  | (Kit.suc Kit.zero) => 1
-  | (Kit.suc (((Kit.suc n) as part1))) => Is xs part1
+Is xs (suc (suc n)) = Is xs (suc n)""", """Definition Is {X : Type} : List X → ℕ → ℕ :=
+  fix Is a'0 a'1 := match a'0, a'1 with
+  | xs, zero => 0
+  | xs, (suc zero) => 1
+  | xs, (suc ((suc n) as part'0)) => Is xs part'0
   end.
 """),
     ('pub data Is : Type 0 where\n  Up : ℕ → Is\n  Down : ℕ → Is',
-     'Inductive Is : Type :=\n| Is_Up : Kit.ℕ → Is\n| Is_Down : Kit.ℕ → Is.\n'),
+     'Inductive Is : Type :=\n| Is_Up : ℕ → Is\n| Is_Down : ℕ → Is.\n'),
+    ("""abbrev pub Is : (ℤ × ℤ → ℤ) → ℤ
+Is end =
+    let size = pos 2 in
+    end (size, (λ (a, b). a) (size, size.0))""", """Definition Is : (ℤ × ℤ → ℤ) → ℤ :=
+  fun end_ => let size := 2%Z in end_ (size, (fun '(a, b) => a) (size, size .0)).
+"""),
 ])
 def test_forms(tmp_path: Path, text: str, coq: str) -> None:
     assert translated(tmp_path, text) == coq
@@ -81,10 +86,80 @@ def test_forms(tmp_path: Path, text: str, coq: str) -> None:
     ('abbrev pub Is : Type 0\nIs = record { one = pos 1 }', 5),
     ('abbrev pub Is : ℤ → Type 0\nIs x = elim x [ ]', 5),
     ('abbrev pub Is : ℤ → Type 0\nIs x = All [x]', 5),
+    ('abbrev pub Is : ℤ → List ℕ\nIs x = codes "\\n"', 5),
+    ('abbrev pub Is : ℤ → Type 0\nIs x = x = x', 5),
+    ('abbrev pub Is : ℤ → Type 0\nIs x = x != x', 5),
+    ('abbrev pub Is : ℤ → Type 0\nIs x = pos.up x', 5),
+    ('abbrev pub Is : ℤ → Type 0\nIs x = x ≡ x\nwhere x', 6),
+    ('abbrev pub Is : ℤ → Type 0\nIs x = x ≡ x\n  y', 6),
+    ('abbrev pub Is : Type 0 → Type 0\nIs x = ∀ y. x', 5),
+    ('unfoldable pub Is : ℤ → Type 1\nIs x = x ≡ x', 4),
+    ('pub record Is (a : ℤ) : Type 0 where\n  pub low : a ≡ a\n  pub high : a ≤ a', 6),
+    ('pub data Is : Type 0 where\n  Up : ℕ → Is\n  Down (n : ℕ) : Is', 6),
 ])
 def test_rejected(tmp_path: Path, text: str, line: int) -> None:
     with pytest.raises(Unknown, match=rf'Words\.antt:{line}: '):
         translated(tmp_path, text)
+
+
+CODE = """#[derive(Clone)]
+pub struct Part<T> {
+    pub whole: i64,
+    rest: T,
+    pub ghost low: { pos 0 ≤ℤ whole } by { proof },
+}
+
+/// How it ends.
+pub enum End {
+    /// Well.
+    Well = 1,
+    Badly(u8, bool),
+}
+
+impl End {
+    ghost use Rattle.std.specs.Prelude.{◌≤ℤ◌, pos};
+}
+"""
+USES = """use Rattle.std.specs.Prelude.{true}
+use Rattle.one.specs.declared.ends.Part.{Part}
+use Rattle.one.specs.declared.ends.End.TheVariants.{Badly}
+use Rattle.one.specs.declared.ends.End.TheVariants as ends
+
+abbrev pub f : ℤ → ℤ
+f x = x
+
+abbrev pub Is : Part ℕ → ℤ
+Is part = f (Badly 1 true) ends.Well part.whole
+"""
+
+
+def test_code(tmp_path: Path) -> None:
+    write(tmp_path, {'one/src/ends.rt': CODE})
+    made = translated(tmp_path, USES)
+    assert 'Words.f (Badly 1 true) ends_Well part .(one.declared_Part.Part_whole)' in made
+    files = known_table.in_coq(Library(tmp_path, KIT), (('one', 'Words', 'Is'),))
+    assert files['Cellarcove/one/declared_Part.v'].split('\n\n', 1)[1] == """Set Implicit Arguments.
+Set Contextual Implicit.
+Record Part (T : Type) : Type := Make_Part {
+  Part_whole : ℤ;
+  Part_rest : T;
+  Part_low : 0%Z ≤ℤ Part_whole
+}.
+"""
+    assert files['Cellarcove/one/declared_End.v'].split('\n\n', 1)[1] == """Inductive End : Type :=
+| End_Well : End
+| End_Badly : ℕ → Bool → End.
+"""
+
+
+@pytest.mark.parametrize('before, after, place', [
+    ('rest: T', 'rest: Vec<T>', 'ends.rt:4'), ('rest: T,', 'rest: Rest,', 'ends.rt:4'),
+    ('Badly(u8, bool)', 'Badly { of: u8 }', 'ends.rt:12'), ('by { proof },', 'by {', 'ends.rt:5'),
+    ('Part<T> {', 'Part(T);', 'Words.antt:13'), ('whole: i64', 'r#in: i64', 'Words.antt:13')])
+def test_rejected_code(tmp_path: Path, before: str, after: str, place: str) -> None:
+    write(tmp_path, {'one/src/ends.rt': CODE.replace(before, after)})
+    with pytest.raises(Unknown, match=f'{place}: '):
+        translated(tmp_path, USES)
 
 
 @pytest.mark.parametrize('text', ['pub Is : ℤ → Type 0\nIs x = x ≡ x', 'abbrev Is : ℤ → Type 0\nIs x = x ≡ x', ''])
