@@ -64,8 +64,8 @@ export class Fraction {
     Object.freeze(this);
   }
 
-  static from(value) {
-    return ofParts('Fraction.from', rows.fractionNew, partsOf('Fraction', value, ['num', 'den'], 'Fraction.from'));
+  static from(given) {
+    return hasShort(planOf(rows.fractionAdd), [given, 0n]) ? value : ofParts('Fraction.from', rows.fractionNew, partsOf('Fraction', given, ['num', 'den'], 'Fraction.from'));
   }
 
   toString() {
@@ -126,6 +126,8 @@ export class Decimal {
 const DATE = ['year', 'month', 'day'];
 
 export class PlainDate {
+  #exists = true; // its parts are those of a date
+
   constructor(year, month, day, made) {
     if (made !== MADE) [year, month, day] = checkedDate('PlainDate', [year, month, day]);
     this.year = year;
@@ -134,14 +136,15 @@ export class PlainDate {
     Object.freeze(this);
   }
 
-  static from(value) {
-    return new PlainDate(...checkedDate('PlainDate.from', partsOf('Date', value, DATE, 'PlainDate.from')), MADE);
+  static from(given) {
+    if (typeof given === 'object' && given !== null && #exists in given) return given;
+    return hasShort(planOf(rows.plusMonths), [given, 0n]) ? value : new PlainDate(...checkedDate('PlainDate.from', partsOf('Date', given, DATE, 'PlainDate.from')), MADE);
   }
 
   /** -1, 0 or 1, as one date is before, the same as or after another. */
   static compare(one, other) {
-    const a = PlainDate.from(one), b = PlainDate.from(other), place = DATE.find((it) => a[it] !== b[it]);
-    return place === undefined ? 0 : a[place] < b[place] ? -1 : 1;
+    const a = PlainDate.from(one), b = PlainDate.from(other);
+    return a.year < b.year ? -1 : a.year > b.year ? 1 : Math.sign(a.month - b.month || a.day - b.day);
   }
 
   equals(other) {
@@ -171,12 +174,15 @@ export class PlainDate {
 
 /** The year, month and day of a date that exists. */
 function checkedDate(name, [year, month, day]) {
-  resultOf(name, planOf(rows.dayOfYear), [{year, month, day}], 'date');
+  ofParts(name, rows.dayOfYear, [[year, month, day]]);
   return [BigInt(year), Number(month), Number(day)];
 }
 
-/** The result of a call with parts, by the name of another. */
-const ofParts = (name, row, given) => resultOf(name, planOf(row), given);
+/** The result of a call of parts, by the name of another. */
+function ofParts(name, row, given) {
+  const plan = planOf(row);
+  return hasShort(plan, given) ? value : resultOf(name, plan, given);
+}
 
 /** The parts of one value. */
 function partsOf(kind, value, names, name) {
@@ -255,7 +261,7 @@ export function tryFractionFromDecimal(...given) {
 const CLASSES = {
   Fraction: (num, den) => () => new Fraction(num(), den(), MADE),
   Date: (year, month, day) => () => new PlainDate(year(), month(), day(), MADE),
-  Decimal: (isNegative, whole, part) => (given) => new Decimal(isNegative(), whole(), part(), given.at(-1), MADE), // the last argument is the places
+  Decimal: (isNegative, whole, part) => (returned, places) => new Decimal(isNegative(), whole(), part(), places, MADE), // its second argument
 };
 
 // ---- memory
@@ -278,7 +284,7 @@ function layout(kind) {
 
 // A call has the memory behind the program's own: a place for a struct of the result, one for each parameter, and room for lists.
 const PLACE = 64, TEXT = 64, ENCODER = /*#__PURE__*/ new TextEncoder();
-let RESULT, ROOM, RESULT_WORD, view;
+let RESULT, ROOM, RESULT_WORD, ROOM_WORD, WORDS, view, I64, U64, I32, U32, U8;
 
 /** An address or a length, as the module takes it. */
 let word;
@@ -288,7 +294,13 @@ function reach(end) {
   const lacking = end - exports.memory.buffer.byteLength;
   const pages = Math.ceil(lacking / 65536);
   if (pages > 0) try { exports.memory.grow(word(pages)); } catch { exports.memory.grow(pages); } // Node 20 takes no BigInt here
-  if (view.buffer !== exports.memory.buffer) view = new DataView(exports.memory.buffer);
+  if (view.buffer !== exports.memory.buffer) see(exports.memory.buffer);
+}
+
+/** Makes the views of the memory. */
+function see(buffer) {
+  view = new DataView(buffer);
+  [I64, U64, I32, U32, U8] = [BigInt64Array, BigUint64Array, Int32Array, Uint32Array, Uint8Array].map((kind) => new kind(buffer));
 }
 
 /** Begins with an instance of the WebAssembly. The first one stays. */
@@ -299,8 +311,9 @@ export function start(instance) {
   word = BUILT_BY === 'cargo' ? (x) => x : BigInt;
   RESULT = up(base, PLACE);
   ROOM = RESULT + 16 * PLACE;
-  RESULT_WORD = word(RESULT);
-  view = new DataView(found.memory.buffer);
+  [RESULT_WORD, ROOM_WORD] = [RESULT, ROOM].map(word);
+  WORDS = Array.from({length: 6}, (_, place) => word(RESULT + PLACE * place));
+  see(found.memory.buffer);
   exports = found;
   try {
     reach(ROOM + TEXT);
@@ -310,6 +323,8 @@ export function start(instance) {
     throw error;
   }
 }
+
+const IS_LITTLE = /*#__PURE__*/ new Uint8Array(/*#__PURE__*/ Uint16Array.of(1).buffer)[0] === 1; // as WebAssembly is: arrays can lie over its memory
 
 // A small number has its bits first, so that it is read where one of 64 bits lies.
 const GET = {
@@ -347,14 +362,33 @@ function fitting(x, kind, seen) {
 
 // ---- calls
 
+/** What reads the number of a place, by an array if there is one. */
+function readerAt(kind, at) {
+  const get = GET[kind], index = at / SIZES[kind];
+  return IS_LITTLE && {i64: () => I64[index], u64: () => U64[index], i32: () => I32[index], u8: () => U8[index]}[kind] || (() => get(at));
+}
+
 /** What reads the result of a form. */
 function readerOf(result, leaves, inMemory) {
   if (!inMemory) return leaves[0].kind === result ? null : Number;
-  const gets = leaves.map(({kind, at}) => { const get = GET[kind], place = RESULT + at; return () => get(place); });
-  const made = CLASSES[result.replace('Answer', '')], [first, second, third] = leaves.map(({name}) => name), [a, b, c] = gets;
-  if (made) return made(...gets);
+  const made = CLASSES[result.replace('Answer', '')], [a, b, c] = leaves.map(({kind, at}) => readerAt(kind, RESULT + at));
+  if (made) return made(a, b, c);
   if (leaves.length === 1) return a;
-  return leaves.length === 2 ? () => ({[first]: a(), [second]: b()}) : () => ({[first]: a(), [second]: b(), [third]: c()});
+  const [first, second, third] = leaves.map(({name}) => name);
+  const model = Object.fromEntries(leaves.map(({name, kind}) => [name, GET[kind](RESULT)])); // a copy is faster than an object of names
+  if (!third) return () => {
+    const found = {...model};
+    found[first] = a();
+    found[second] = b();
+    return found;
+  };
+  return () => {
+    const found = {...model};
+    found[first] = a();
+    found[second] = b();
+    found[third] = c();
+    return found;
+  };
 }
 
 /** A form of a call: its export, its parameters, and what reads its result. */
@@ -365,7 +399,7 @@ function formOf([symbol, parameters, result, small]) {
   const returned = RETURNED[result], read = readerOf(result, leaves, isStruct);
   return {
     raw, leaves, result, inMemory: isStruct, hasStatus: isStruct && whole.leaves.length > leaves.length,
-    read: isStruct ? read : read ? (given, x) => Number(returned(x)) : (given, x) => returned(x),
+    read: isStruct ? read : read ? (x) => Number(returned(x)) : returned,
     parameters: parameters.split(' ').map((parameter) => {
       const [name, kind] = parameter.split(':'), item = /\[(\w+)\]$/.exec(kind)?.[1];
       return {name, kind, item, isWritten: kind.startsWith('&mut'), isText: item === 'u8', ...layout(item ?? kind)};
@@ -413,7 +447,7 @@ function run({raw, parameters, inMemory, hasStatus, read}, given) {
     return returned;
   }
   const status = hasStatus ? view.getUint32(RESULT, true) : 0;
-  value = status !== 0 ? undefined : read(given, returned);
+  value = status !== 0 ? undefined : read(returned, given[1]);
   return status;
 }
 let value;
@@ -471,163 +505,193 @@ function statusOf(plan, given, seen) {
   return status === Status.NOT_FITTING && areUnsigned ? run(unsigned, found) : status;
 }
 
-/** The kinds of the arguments that the short ways take. */
-const SHORT = {i64: 0, u64: 1, u32: 2, u16: 3, u8: 4, Fraction: 5, Date: 6}, FRACTION = 5, LIST = 7, LARGEST = [0, 0, 2 ** 32 - 1, 2 ** 16 - 1, 2 ** 8 - 1];
-const shortKind = ({kind, item}) => item ? {i64: LIST, u64: LIST + 1}[item] : SHORT[kind];
+// ---- the short ways, for usual arguments: a call that has no result by its short way is made again, with what errors need
+
+/** How a short way takes a parameter: below FRACTION as a number. */
+const SHORT = {i64: 0, u64: 1, i32: 2, u32: 3, u16: 4, u8: 5, Fraction: 6, Date: 7}, FRACTION = 6, LIST = 8, BYTES = 10;
+const MOST = [0, 0, 2 ** 31 - 1, 2 ** 32 - 1, 2 ** 16 - 1, 2 ** 8 - 1];
+const shortKind = ({kind, item}) => item ? {i64: LIST, u64: LIST + 1, u8: BYTES}[item] : SHORT[kind];
 
 const plans = new Map();
 
-/** What a call knows of its forms. */
+/** What a call knows of its forms. Its short way takes a plan and `count` arguments, and returns whether there is a result, in `value`. */
 function planOf(row) {
   const found = plans.get(row);
   if (found) return found;
   if (!exports) throw new Error('cellarcove.wasm is not loaded yet: await ready before the first call');
-  const forms = row.map(formOf), [{parameters: all}] = forms, hasWritten = all.filter(({item}) => item).length === 2;
-  const parameters = all.filter(({isWritten}) => !isWritten || !hasWritten), kinds = parameters.map(shortKind), lists = kinds.filter((kind) => kind >= LIST).length;
+  const forms = row.map(formOf), [{parameters: all, raw, inMemory, hasStatus, read}] = forms, hasWritten = all.filter(({item}) => item).length === 2;
+  const parameters = all.filter(({isWritten}) => !isWritten || !hasWritten), kinds = parameters.map(shortKind);
   const made = {
-    forms, hasWritten, parameters, kinds, takesArrays: all.every(({item}) => !item), isShort: all.length < 4 && kinds.every((kind) => kind < FRACTION),
-    isStored: kinds.every((kind) => kind !== undefined) && parameters.every(({isWritten}) => !isWritten) && (lists === 0 || lists === 1 && kinds.every((kind) => kind < FRACTION || kind >= LIST)),
-    written: hasWritten ? all.at(-1).item : null, words: forms[0].inMemory ? [RESULT_WORD] : [],
+    forms, hasWritten, parameters, kinds, raw, inMemory, hasStatus, read, takesArrays: all.every(({item}) => !item), written: hasWritten ? all.at(-1).item : null,
+    way: kinds[0] >= BYTES ? takesText : kinds.some((kind) => kind >= LIST) ? takesList : kinds.length > 2 ? takesMore : kinds[0] === FRACTION && kinds[1] === FRACTION ? takesFractions : takesFew,
+    count: IS_LITTLE && !kinds.includes(undefined) && parameters.every(({isWritten}) => !isWritten) ? kinds.length : -1,
   };
   plans.set(row, made);
   return made;
 }
 
-/** A number of a kind, or undefined if it is not one that fits. */
+/** A number of a kind, or undefined if it does not fit. */
 function numberOf(x, kind) {
-  if (kind > 1) return Number.isInteger(x) && x >= 0 && x <= LARGEST[kind] ? x : undefined;
+  if (kind > 1) return Number.isInteger(x) && x <= MOST[kind] && (kind === 2 ? x >= -(2 ** 31) : x >= 0) ? x : undefined;
   if (typeof x === 'number') return Number.isSafeInteger(x) && (kind === 0 || x >= 0) ? BigInt(x) : undefined;
-  return typeof x === 'bigint' && (kind === 0 ? BigInt.asIntN(64, x) : BigInt.asUintN(64, x)) === x ? x : undefined;
+  return typeof x === 'bigint' && (kind === 0 ? isSigned(x) : isUnsigned(x)) ? x : undefined;
 }
 
-/** Whether the short way of a call has a result, which is then in `value`: that of numbers, which it makes `BigInt`s in their places. */
-function hasShort(plan, given) {
-  const {isShort, kinds, forms} = plan;
-  if (given.length !== kinds.length) return false;
-  if (!isShort) return plan.isStored && hasStored(plan, given);
-  for (let k = 0; k < kinds.length; k++) {
-    const number = numberOf(given[k], kinds[k]);
-    if (number === undefined) return false;
-    given[k] = number;
-  }
-  const {raw, inMemory, hasStatus, read} = forms[0];
-  const returned = inMemory ? raw(RESULT_WORD, ...given) : raw(...given);
-  if (hasStatus && view.getUint32(RESULT, true) !== 0) return false;
-  value = read(given, returned);
+/** Whether a number of 64 bits is now at a place of the words. */
+function stores(x, at, words = I64) {
+  if (typeof x === 'bigint') return (words[at] = x, words[at] === x);
+  if (!Number.isSafeInteger(x) || x < 0 && words !== I64) return false;
+  I32[2 * at] = x;
+  I32[2 * at + 1] = (x | 0) === x ? x >> 31 : Math.floor(x / 2 ** 32);
   return true;
 }
 
-/** Whether the parts of a text are now at a place: those of a short text that is right. */
-function storesText(row, text, at) {
+/** Whether the call of a text has a result in memory: that of a short text that is right. */
+function parses({raw}, text) {
+  if (typeof text !== 'string' || text.length > TEXT) return false;
   const {length} = text;
-  if (length > TEXT) return false;
   for (let k = 0; k < length; k++) {
     const letter = text.charCodeAt(k);
     if (letter > 127) return false;
-    view.setUint8(ROOM + k, letter);
+    U8[ROOM + k] = letter;
   }
-  const {raw, leaves: [first]} = planOf(row).forms[0];
-  raw(RESULT_WORD, word(ROOM), word(length));
-  if (view.getUint32(RESULT, true) !== 0) return false;
-  view.setBigInt64(at, view.getBigInt64(RESULT + first.at, true), true);
-  view.setBigInt64(at + 8, view.getBigInt64(RESULT + first.at + 8, true), true); // the denominator, or the month and the day
+  raw(RESULT_WORD, ROOM_WORD, word(length));
+  return U32[RESULT / 4] === 0;
+}
+
+/** The same, with the parts of the result at a place. */
+function storesText(row, text, at) {
+  const plan = planOf(row), from = (RESULT + plan.forms[0].leaves[0].at) / 8;
+  if (!parses(plan, text)) return false;
+  I64[at] = I64[from];
+  I64[at + 1] = I64[from + 1]; // the denominator, or the month and the day
   return true;
 }
 
 /** Whether the parts of a fraction are now at a place. */
 function storesFraction(x, at) {
   if (typeof x === 'string') return storesText(rows.fractionFromText, x, at);
-  let num = x, den = 1n;
-  if (Array.isArray(x)) {
-    if (x.length !== 2) return false;
-    [num, den] = x;
-  } else if (typeof x === 'object' && x !== null) ({num, den} = x);
-  if (!isSigned(num)) num = numberOf(num, 0);
-  if (!isSigned(den)) den = numberOf(den, 0);
-  if (num === undefined || den === undefined) return false;
-  view.setBigInt64(at, num, true);
-  view.setBigInt64(at + 8, den, true);
-  return true;
+  if (typeof x !== 'object' || x === null) return stores(x, at) && stores(1, at + 1);
+  if (Array.isArray(x)) return x.length === 2 && stores(x[0], at) && stores(x[1], at + 1);
+  const {num, den} = x;
+  return stores(num, at) && stores(den, at + 1);
 }
 
 /** Whether the parts of a date are now at a place. */
 function storesDate(x, at) {
   if (typeof x === 'string') return storesText(rows.dateFromText, x, at);
-  if (typeof x !== 'object' || x === null || (x.calendarId ?? 'iso8601') !== 'iso8601') return false;
+  if (typeof x !== 'object' || x === null) return false;
   const isArray = Array.isArray(x);
-  if (isArray && x.length !== 3) return false;
-  const year = numberOf(isArray ? x[0] : x.year, 0), month = numberOf(isArray ? x[1] : x.month, 4), day = numberOf(isArray ? x[2] : x.day, 4);
-  if (year === undefined || month === undefined || day === undefined) return false;
-  view.setBigInt64(at, year, true);
-  view.setUint8(at + 8, month);
-  view.setUint8(at + 9, day);
-  return true;
+  if (isArray ? x.length !== 3 : (x.calendarId ?? 'iso8601') !== 'iso8601') return false;
+  const year = isArray ? x[0] : x.year, month = isArray ? x[1] : x.month, day = isArray ? x[2] : x.day;
+  if (!stores(year, at) || typeof month !== 'number' || typeof day !== 'number') return false;
+  U8[8 * at + 8] = month;
+  U8[8 * at + 9] = day;
+  return U8[8 * at + 8] === month && U8[8 * at + 9] === day;
 }
 
 /** Whether the numbers of a list are now behind the places. */
-function storesList(items, kind) {
+function storesList(items, isSigned) {
   if (!Array.isArray(items) && !(items instanceof BigInt64Array) && !(items instanceof BigUint64Array)) return false;
-  const {length} = items;
-  if (ROOM + 16 * length > view.byteLength) reach(ROOM + 16 * length); // with as many numbers that the call may write
-  for (let k = 0; k < length; k++) {
-    const number = numberOf(items[k], kind);
-    if (number === undefined) return false;
-    view.setBigInt64(ROOM + 8 * k, number, true); // the bits are those of an unsigned one too
-  }
+  const {length} = items, at = ROOM / 8;
+  if (ROOM + 16 * length > U8.length) reach(ROOM + 16 * length); // with as many numbers that the call may write
+  for (let k = 0; k < length; k++) if (!stores(items[k], at + k, isSigned ? I64 : U64)) return false;
   return items.length === length;
 }
 
-/** The short way of a call whose arguments lie in memory. It has no result if reading them has made another call. */
-function hasStored({kinds, forms, written, words}, given) {
-  const {raw, inMemory, hasStatus, read} = forms[0], turn = ++turns;
-  let length = 0, next = inMemory ? 1 : 0;
-  for (let k = 0; k < kinds.length; k++) {
-    const kind = kinds[k], x = given[k], at = RESULT + PLACE * (k + 1);
-    if (kind < FRACTION) {
-      const number = numberOf(x, kind);
-      if (number === undefined) return false;
-      words[next++] = number;
-    } else if (kind < LIST) {
-      if (!(kind === FRACTION ? storesFraction(x, at) : storesDate(x, at))) return false;
-      words[next++] = word(at);
-    } else {
-      if (!storesList(x, kind - LIST)) return false;
-      ({length} = x);
-      words[next++] = word(ROOM);
-      words[next++] = word(length);
-    }
-  }
-  if (turn !== turns) return false;
-  const list = ROOM + 8 * length;
-  if (written) [words[next], words[next + 1]] = [word(list), word(length)];
-  const returned = words.length === 3 ? raw(words[0], words[1], words[2]) : raw(...words); // faster, by measure
-  if (written ? returned !== 0 : hasStatus && view.getUint32(RESULT, true) !== 0) return false;
-  value = written ? listAt({at: list, kind: written, length}) : read(given, returned);
+/** The word of an argument: a number, or where its parts lie now. It is undefined if the short way does not take it. */
+function wordOf(x, kind, place) {
+  if (kind < FRACTION) return numberOf(x, kind);
+  const at = (RESULT + PLACE * place) / 8;
+  return (kind === FRACTION ? storesFraction(x, at) : storesDate(x, at)) ? WORDS[place] : undefined;
+}
+
+/** Whether a call that has returned has a result. */
+function hasResult(plan, returned, second) {
+  if (plan.hasStatus && U32[RESULT / 4] !== 0) return false;
+  value = plan.read(returned, second);
   return true;
 }
 
-/** The result of a call with a plan. The parameter has a name in errors if one is given. */
+// An export leaves the words beyond its parameters. There is no result if reading an argument has made another call.
+function takesFew(plan, a, b) { // one or two
+  const {kinds, raw} = plan, turn = ++turns, v = wordOf(a, kinds[0], 1), w = kinds.length < 2 ? 0n : wordOf(b, kinds[1], 2);
+  return v !== undefined && w !== undefined && turn === turns && hasResult(plan, plan.inMemory ? raw(RESULT_WORD, v, w) : raw(v, w), b);
+}
+
+function takesMore(plan, a, b, c, d, e) { // three to five
+  const {kinds, raw} = plan, turn = ++turns, v = wordOf(a, kinds[0], 1), w = wordOf(b, kinds[1], 2), x = wordOf(c, kinds[2], 3);
+  const y = kinds.length < 4 ? 0n : wordOf(d, kinds[3], 4), z = kinds.length < 5 ? 0n : wordOf(e, kinds[4], 5);
+  if (v === undefined || w === undefined || x === undefined || y === undefined || z === undefined || turn !== turns) return false;
+  return hasResult(plan, plan.inMemory ? raw(RESULT_WORD, v, w, x, y, z) : raw(v, w, x, y, z));
+}
+
+/** That of two fractions whose parts are `BigInt`s, as those of results. */
+function takesFractions(plan, a, b) {
+  if (typeof a !== 'object' || a === null || Array.isArray(a) || typeof b !== 'object' || b === null || Array.isArray(b)) return takesFew(plan, a, b);
+  const {num, den} = a, {num: num2, den: den2} = b, words = I64, at = (RESULT + PLACE) / 8, at2 = at + PLACE / 8;
+  if (typeof num !== 'bigint' || typeof den !== 'bigint' || typeof num2 !== 'bigint' || typeof den2 !== 'bigint') return takesFew(plan, a, b);
+  turns++;
+  words[at] = num;
+  words[at + 1] = den;
+  words[at2] = num2;
+  words[at2 + 1] = den2;
+  return words[at] === num && words[at + 1] === den && words[at2] === num2 && words[at2 + 1] === den2 && hasResult(plan, plan.raw(RESULT_WORD, WORDS[1], WORDS[2]));
+}
+
+function takesText(plan, text) {
+  turns++;
+  return parses(plan, text) && hasResult(plan);
+}
+
+/** That of a list: before a number, alone, or behind a number if the call writes another list. */
+function takesList(plan, a, b) {
+  const {kinds, raw, written} = plan, turn = ++turns, items = written ? b : a, place = written ? 0 : 1;
+  const number = kinds.length === 1 ? 0n : numberOf(written ? a : b, kinds[place]);
+  if (number === undefined || !storesList(items, kinds[1 - place] === LIST) || turn !== turns) return false;
+  const {length} = items, at = ROOM + 8 * length;
+  if (!written) return hasResult(plan, raw(RESULT_WORD, ROOM_WORD, word(length), number));
+  if (raw(number, ROOM_WORD, word(length), word(at), word(length)) !== 0) return false;
+  value = listAt({at, kind: written, length});
+  return true;
+}
+
+const hasShort = (plan, given) => given.length === plan.count && plan.way(plan, ...given);
+
+// ---- calls
+
+/** The result of a call with a plan, by the name of a call. */
 function resultOf(name, plan, given) {
   const seen = reading(name), status = statusOf(plan, given, seen);
   if (status !== 0) throw new Refused(status, name, seen.words);
   return value;
 }
 
-/** The result of a call of a list. */
-const ofMany = (name, plan, given) => hasShort(plan, given) ? value : resultOf(name, plan, given);
+/** The plan of a call and its arguments. If it takes any count of numbers, they are a list, but for two of a call that has two. */
+function listed(row, many, given) {
+  if (!many || row !== many && given.length === 2) return [planOf(row), given];
+  return [planOf(many), given.length === 1 && typeof given[0] === 'object' && given[0] !== null ? given : [given]];
+}
 
-/** The list of arguments that are numbers or one list. */
-const asList = (given) => [given.length === 1 && typeof given[0] === 'object' && given[0] !== null ? given[0] : given];
+/** A call whose arguments the short way has not taken. */
+function slowly(name, row, many, ...given) {
+  const [plan, taken] = listed(row, many, given);
+  if (plan.takesArrays && taken.some((x, place) => hasColumns(x, plan.parameters[place]))) return ofArrays(name, plan, taken);
+  return many && hasShort(plan, taken) ? value : resultOf(name, plan, taken);
+}
+
+/** The same without exceptions. */
+function attemptSlowly(name, row, many, ...given) {
+  const [plan, taken] = listed(row, many, given), status = many && hasShort(plan, taken) ? 0 : statusOf(plan, taken, reading(name));
+  return {status, value};
+}
 
 /** The function of a call, which throws if there is no result. One that takes any count of numbers has the row of a list as well. */
 export function call(name, row, many) {
   let plan = null;
   return (...given) => {
     plan ??= planOf(row);
-    if (hasShort(plan, given)) return value;
-    if (many && (row === many || given.length !== 2)) return ofMany(name, planOf(many), asList(given));
-    if (plan.takesArrays && given.some((x, place) => hasColumns(x, plan.parameters[place]))) return ofArrays(name, plan, given);
-    return resultOf(name, plan, given);
+    return given.length === plan.count && plan.way(plan, ...given) ? value : slowly(name, row, many, ...given);
   };
 }
 
@@ -636,10 +700,7 @@ export function attempt(name, row, many) {
   let plan = null;
   return (...given) => {
     plan ??= planOf(row);
-    if (hasShort(plan, given)) return {status: 0, value};
-    if (!many || row !== many && given.length === 2) return {status: statusOf(plan, given, reading(name)), value};
-    const list = asList(given), status = hasShort(planOf(many), list) ? 0 : statusOf(planOf(many), list, reading(name));
-    return {status, value};
+    return given.length === plan.count && plan.way(plan, ...given) ? {status: 0, value} : attemptSlowly(name, row, many, ...given);
   };
 }
 
@@ -704,7 +765,7 @@ function fill({raw, parameters, leaves, inMemory, hasStatus, result}, columns, o
   turns++;
   const {length} = status, [a, b, c] = columns, [first, second] = outputs;
   const [x, y] = leaves.map(({kind, at}) => [new ARRAYS[kind](exports.memory.buffer), (RESULT + at) / SIZES[kind]]);
-  const isPlain = inMemory && hasStatus && parameters.every(({kind}) => kind in SIZES) && leaves.length < 3 && columns.length < 4 && leaves.every(({kind}) => kind !== 'n53');
+  const isPlain = IS_LITTLE && inMemory && hasStatus && parameters.every(({kind}) => kind in SIZES) && leaves.length < 3 && columns.length < 4 && leaves.every(({kind}) => kind !== 'n53');
   const store = (i) => {
     status[i] = view.getUint8(RESULT);
     first[i] = x[0][x[1]];

@@ -275,6 +275,21 @@ test('reading an argument may make another call', () => {
   assert.deepEqual([calls.sumOf(large), shares(large.length, large.fill(1n)).length], [44999850000n, 300_000]);
 });
 
+test('a number is the BigInt of its value, in a list, a fraction and a date too', () => {
+  const numbers = [0, -0, 1, -1, 2 ** 31 - 1, 2 ** 31, -(2 ** 31), -(2 ** 31) - 1, 2 ** 32 - 1, 2 ** 32, -(2 ** 32), 2 ** 40 + 1, -(2 ** 40) + 1, 2 ** 53 - 1, 1 - 2 ** 53];
+  for (const x of numbers) {
+    const wide = BigInt(x);
+    assert.deepEqual([calls.sumOf(x), calls.sumOf([x, 0]), calls.checkedSum(x, 0), calls.fractionFloor(x), calls.fractionFloor([x, 1]), calls.fractionFloor({num: x, den: 1})], Array(6).fill(wide));
+    assert.deepEqual([PlainDate.from([x, 1, 31]).year, new PlainDate(x, 1, 31).year, plusMonths({year: x, month: 1, day: 31}, 1).year, calls.dateFromDay(x).year], [wide, wide, wide, calls.dateFromDay(wide).year]);
+    assert.deepEqual([fractionCmp([x, 1], [wide, 1n]), fractionCmp([x, 2], [wide - 1n, 2]), Fraction.from([x, 1]).num], [0, 1, wide]);
+    if (x >= 0) assert.deepEqual([calls.rank([x], 2n ** 63n), shares(x, [x || 1, 0])], [wide, [wide, 0n]]);
+  }
+  for (const [year, month, day] of [[2024, 2.5, 1], [2024, 256 + 2, 1], [2024, 2, 256 + 1], [2024, -254, 1], [2024, NaN, 1], [2024, '2', 1]]) assert.throws(() => PlainDate.from([year, month, day]));
+  for (const exponent of [-3, 2 ** 31, -(2 ** 31) - 1, 2 ** 32 + 1]) {
+    assert.deepEqual(calls.tryFractionPow('1/2', exponent), exponent === -3 ? {status: 0, value: calls.fractionPow([1n, 2n], -3n)} : {status: Status.NOT_FITTING, value: undefined});
+  }
+});
+
 test('odd cents', () => {
   assert.deepEqual(shares(1002, [1, 1, 1, 1]), [251n, 250n, 251n, 250n]);
   assert.deepEqual(sharesByLargestRemainder(1002, [1, 1, 1, 1]), [251n, 251n, 250n, 250n]);
