@@ -12,8 +12,8 @@
 //! Error: "a ticket has six numbers from 1 to 49, in order"
 //! ```
 
+use cellarcove::applied::ranking::{choice_of_rank, is_choice, rank};
 use cellarcove::binomial;
-use cellarcove::ranking::{choice_of_rank, is_choice, rank};
 use std::env;
 use std::error::Error;
 

@@ -141,7 +141,7 @@ fn main() -> Result<(), Box<dyn Error>> {
 #[cfg(test)]
 mod tests {
     use super::Cents;
-    use cellarcove::counting::factorial;
+    use cellarcove::applied::counting::factorial;
     use cellarcove::Integer;
 
     #[test]

@@ -9,7 +9,7 @@
 //! Error: "a page has at least one item"
 //! ```
 
-use cellarcove::paging::{pages, range_of_page};
+use cellarcove::applied::paging::{pages, range_of_page};
 use std::env;
 use std::error::Error;
 

@@ -9,8 +9,8 @@
 //! Error: "a period is at least 1 minute"
 //! ```
 
+use cellarcove::applied::schedules::next_meeting_of;
 use cellarcove::modular::CommonSolution;
-use cellarcove::schedules::next_meeting_of;
 use std::env;
 use std::error::Error;
 

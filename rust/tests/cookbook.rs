@@ -1,11 +1,12 @@
 //! The tasks of docs/COOKBOOK.md, and of the finder in docs/LANGUAGES.md, with their results.
 
+use cellarcove::applied::schedules::next_meeting;
+use cellarcove::applied::shares::SharesError;
+use cellarcove::applied::{layout, paging, ranking, shares};
 use cellarcove::calendar::{days_in_month, easter, last_weekday_of_month, months_between, Date, IsoWeek, Weekday};
 use cellarcove::modular::{inverse_modulo, residue, CommonSolution};
 use cellarcove::ratio64::{Decimal, ParseRatioError, Ratio};
-use cellarcove::schedules::next_meeting;
-use cellarcove::shares::SharesError;
-use cellarcove::{checked, layout, paging, ranking, shares, Integer};
+use cellarcove::{checked, Integer};
 use std::str::FromStr;
 
 fn pages(items: u64) -> u64 {
@@ -117,10 +118,11 @@ fn date(text: &str) -> Date {
 }
 
 mod page {
+    use cellarcove::applied::{schedules, shares};
     use cellarcove::calendar::Date;
+    use cellarcove::checked;
     use cellarcove::modular::CommonSolution;
     use cellarcove::ratio64::Ratio;
-    use cellarcove::{checked, schedules, shares};
 
     #[test]
     fn tasks_of_the_page() {

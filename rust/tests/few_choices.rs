@@ -1,11 +1,11 @@
 //! Choices out of less than eight, pages and parts of few items, places in short lists, and powers, against lists of all.
 
+use cellarcove::applied::halving::{lower_bound, midpoint};
+use cellarcove::applied::layout::{align_up, padding};
+use cellarcove::applied::paging::{pages, place_of, range_of_page, range_of_part};
+use cellarcove::applied::powers::{is_perfect_power, is_power, is_square};
+use cellarcove::applied::ranking::{choice_of_rank, next_choice, rank};
 use cellarcove::counted::binomial_counted;
-use cellarcove::halving::{lower_bound, midpoint};
-use cellarcove::layout::{align_up, padding};
-use cellarcove::paging::{pages, place_of, range_of_page, range_of_part};
-use cellarcove::powers::{is_perfect_power, is_power, is_square};
-use cellarcove::ranking::{choice_of_rank, next_choice, rank};
 
 /// The choices of `k` numbers below `n`: the places of the ones of a number, in increasing order of these.
 fn choices(n: u64, k: u32) -> Vec<Vec<u64>> {

@@ -1,9 +1,10 @@
 //! Guards that no call of `domains/forms.rs` misses, since a later one has the same reason: the methods of one's own type need not test
 //! their domains, and two moduli are tested before their multiple.
 
+use cellarcove::applied::{layout, powers};
 use cellarcove::modular::counted::power_modulo_counted;
 use cellarcove::modular::{chinese_remainder, product_modulo, Modular};
-use cellarcove::{layout, powers, sqrt, Integer, Roots};
+use cellarcove::{sqrt, Integer, Roots};
 use num_traits::{Num, One, Zero};
 use std::fmt::Debug;
 use std::ops::{Add, Div, Mul, Rem, Sub};

@@ -1,13 +1,13 @@
 //! Known values of products over a divisor and of `applied`, most of them at the ends of the types.
 
+use cellarcove::applied::halving::lower_bound;
+use cellarcove::applied::paging::item_at;
+use cellarcove::applied::powers::{is_perfect_power, is_power, is_square};
+use cellarcove::applied::ranking::{choice_of_rank, is_choice, next_choice, rank, rank_fits};
+use cellarcove::applied::rolling_hash::RollingHash;
+use cellarcove::applied::schedules::next_meeting_of;
 use cellarcove::checked::product_div_mod_floor;
-use cellarcove::halving::lower_bound;
 use cellarcove::modular::CommonSolution::{At, Beyond, Never};
-use cellarcove::paging::item_at;
-use cellarcove::powers::{is_perfect_power, is_power, is_square};
-use cellarcove::ranking::{choice_of_rank, is_choice, next_choice, rank, rank_fits};
-use cellarcove::rolling_hash::RollingHash;
-use cellarcove::schedules::next_meeting_of;
 use cellarcove::{binomial, Fits};
 use std::fmt::Debug;
 

@@ -1,12 +1,12 @@
 //! Each module once, with what is not as in Rattle: the readers of fields, and panics outside the domain.
 
+use cellarcove::applied::schedules::{next_meeting, CommonSolution};
+use cellarcove::applied::{halving, layout, paging, powers, ranking, rolling_hash::RollingHash};
 use cellarcove::calendar::{easter, Date, Weekday};
 use cellarcove::counted::{extended_gcd_counted, GcdCounted, SqrtCounted};
 use cellarcove::modular::{chinese_remainder, counted, inverse_modulo, product_modulo, residue};
 use cellarcove::ratio64::{ParseRatioError, Ratio, RatioError};
-use cellarcove::schedules::{next_meeting, CommonSolution};
 use cellarcove::{binomial, checked, operators, Integer, IterBinomial, Roots};
-use cellarcove::{halving, layout, paging, powers, ranking, rolling_hash::RollingHash};
 use std::collections::HashSet;
 use std::panic::catch_unwind;
 
@@ -81,12 +81,40 @@ fn counts_and_operators() {
     assert_eq!(operators::negated(i64::MAX), -i64::MAX);
 }
 
+/// Until version 0.5 the modules of `applied` stood at the root.
+#[test]
+#[allow(deprecated)]
+fn places_of_before() {
+    assert!(cellarcove::coprime::is_coprime(8, 15) && cellarcove::ranking::is_choice(&[0, 2], 3));
+    assert_eq!(
+        cellarcove::counting::checked::factorial(5),
+        Some(cellarcove::counting::factorial(5))
+    );
+    assert_eq!(
+        cellarcove::halving::midpoint(3, 10),
+        cellarcove::average_floor(3, 10)
+    );
+    assert_eq!(cellarcove::layout::align_up(13, 8), Some(16));
+    assert_eq!(cellarcove::lists::checked::gcd_of(&[12, 18]), Some(6));
+    assert_eq!(cellarcove::paging::pages(10, 4), 3);
+    assert_eq!(cellarcove::powers::checked::sqrt_rem(10), Some((3, 1)));
+    assert_eq!(
+        cellarcove::rolling_hash::RollingHash::new(10, 97, 3),
+        RollingHash::new(10, 97, 3)
+    );
+    assert_eq!(cellarcove::rounding::checked::div_round(7, 2), Some(4));
+    assert_eq!(cellarcove::schedules::count(4, 15, (3, 6)), Some(2));
+    let error: cellarcove::shares::SharesError =
+        cellarcove::applied::shares::SharesError::ZeroWeights;
+    assert_eq!(cellarcove::shares::shares(1, &[0], &mut [0]), Err(error));
+}
+
 /// Each call of a module named `checked` is in the first one too.
 #[test]
 fn one_import_of_checked_calls() {
     assert_eq!(
         checked::div_round(7, 2),
-        cellarcove::rounding::checked::div_round(7, 2)
+        cellarcove::applied::rounding::checked::div_round(7, 2)
     );
     assert_eq!(
         (checked::div_round_even(5, 2), checked::div_round(7, 0)),

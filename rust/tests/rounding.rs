@@ -1,10 +1,10 @@
 //! Rounded quotients of all pairs of bytes, roots with what is left, logarithms and factorials, against a separate
 //! computation in wider types.
 
-use cellarcove::counting::{self, factorial, falling};
-use cellarcove::powers::{self, ilog, sqrt_rem};
-use cellarcove::rounding::checked::{product_div_round, product_div_round_even};
-use cellarcove::rounding::{self, div_round, div_round_even};
+use cellarcove::applied::counting::{self, factorial, falling};
+use cellarcove::applied::powers::{self, ilog, sqrt_rem};
+use cellarcove::applied::rounding::checked::{product_div_round, product_div_round_even};
+use cellarcove::applied::rounding::{self, div_round, div_round_even};
 use std::ops::RangeInclusive;
 
 /// The integers nearest to `n / d`, in increasing order: two if a half is left, and else one.

@@ -1,6 +1,6 @@
 //! The number of the times of a schedule in a range, against a walk over its times.
 
-use cellarcove::schedules::count;
+use cellarcove::applied::schedules::count;
 
 /// How many times of the schedule are in `from..=to`, if that is at most 127: each time up to `to` is visited.
 fn expected(from: i8, to: i8, first: i8, period: i8) -> Option<i8> {

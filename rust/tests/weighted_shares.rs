@@ -1,6 +1,6 @@
 //! Shares by weights against a computation in `i128`, at small numbers and at the ends of the types.
 
-use cellarcove::shares::{
+use cellarcove::applied::shares::{
     shares, shares_by_largest_remainder, signed_shares, signed_shares_by_largest_remainder, SharesError,
 };
 use std::cmp::Reverse;

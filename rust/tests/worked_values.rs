@@ -1,7 +1,9 @@
 //! Worked values of `modular` and `applied` at each native type, most of them at the ends of the type.
 
-use cellarcove::halving::midpoint;
-use cellarcove::layout::{align_up, padding};
+use cellarcove::applied::halving::midpoint;
+use cellarcove::applied::layout::{align_up, padding};
+use cellarcove::applied::paging::{pages, place_of, range_of_page, range_of_part};
+use cellarcove::applied::schedules::next_meeting;
 use cellarcove::modular::counted::power_modulo_counted;
 use cellarcove::modular::CommonSolution::{self, At, Beyond, Never};
 use cellarcove::modular::{
@@ -9,8 +11,6 @@ use cellarcove::modular::{
     next_common_solution, next_common_solution_of, next_congruent, power_modulo,
     previous_congruent, product_modulo, quotient_modulo, residue, solutions, sum_modulo, Modular,
 };
-use cellarcove::paging::{pages, place_of, range_of_page, range_of_part};
-use cellarcove::schedules::next_meeting;
 use std::fmt::Debug;
 
 /// The largest primes of 64 and of 128 bits.

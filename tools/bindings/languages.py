@@ -11,7 +11,7 @@ from tools.bindings.python import ALIASES, RENAMED
 
 CHECKED = re.compile(r'\bchecked::')
 RATIO = 'ratio64::Ratio::'
-CRATES = ('bounded_integers', 'calendar', 'modular', 'ratio64')
+CRATES = ('applied', 'bounded_integers', 'calendar', 'modular', 'ratio64')
 TRAITS = ('Integer::', 'Average::', 'Roots::')  # whose methods are free functions too
 BY_TRAIT = {'fraction_cmp': '`Ord` of `Ratio`', 'fraction_from_text': '`FromStr` of `Ratio`',
             'date_from_text': '`FromStr` of `Date`'}
@@ -43,15 +43,13 @@ def in_rattle(path: str) -> str:
                     if 'checked' in str(file) and f'pub fn {others[0]}<' in file.read_text())
         crate, _, *modules = file.relative_to(ROOT / 'crates').with_suffix('').parts
         return '::'.join([crate, *modules[:modules.index('checked') + 1], *others])
-    return by_rule(path) if first != 'counted' else f'num_integer::{path}'
+    return by_rule(path)
 
 
 def by_rule(path: str) -> str:
     """The path in Rattle, as the page says it of most calls."""
-    first, *others = path.split('::')
-    if first in CRATES or ' ' in path:
-        return path
-    return f'applied::{path}' if first.islower() and others else f'num_integer::{path}'
+    of_crate = path.split('::')[0] in CRATES
+    return path if of_crate or ' ' in path else f'num_integer::{path}'
 
 
 class Row(NamedTuple):

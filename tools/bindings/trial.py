@@ -94,7 +94,8 @@ def facts() -> Iterator[tuple[str, list[object]]]:
     tasks = {path: task for task, path in listed('tasks.txt', ' = ').items()}
     rows = [each for each in languages.rows() if each.c]
     doing = {each.c: tasks[each.rust] for each in rows if each.rust in tasks}
-    for each in {each.c: each for each in reversed(rows)}.values():
+    ours_last = sorted(reversed(rows), key=lambda each: not each.rust.startswith('applied::'))
+    for each in {each.c: each for each in ours_last}.values():
         call = EXPORTS().forms()[each.c][0]
         checked = f'checked::{each.rust.split("::")[-1]}'
         path = checked if types_of(checked, api) else each.rust

@@ -33,8 +33,7 @@ from typing import NamedTuple, NoReturn
 REPOSITORY = pathlib.Path(__file__).resolve().parent.parent.parent
 LIBRARIES = ('integer_core', 'integer_roots', 'num_integer', 'modular', 'ratio64', 'calendar',
              'bounded_integers', 'applied')
-# The libraries whose modules stand at the root of the crate of Rust.
-AT_ROOT = ('num_integer', 'applied')
+AT_ROOT = 'num_integer'             # the library whose modules stand at the root of the crate of Rust
 # The crates for C and of the program, each with the root of its source and that of Rust.
 OTHERS = {'cellarcove_c': ('lib.rt', 'rust/c/src/lib.rs'),
           'intcalc_core': ('lib.rt', 'rust/intcalc/src/lib.rs'),
@@ -367,6 +366,8 @@ REWRITES: tuple[tuple[str, tuple[bool, ...], str, str | Callable[[re.Match[str]]
     # A comma at the end of parameters, and of an array.
     ('comma', BOTH, r', (?=\) -> )', ''),
     ('comma', (SOURCE,), r', (?=\] ; )', ''),
+    # The braces around the one expression of an arm, where a longer path makes its line too wide.
+    ('arm', (RUST,), r'(?<= => ){ ([^{};]*)} (?=[\w&(]+ [^{};]*=> )', r'\1, '),
     # The label of a loop that nothing names.
     ('label', (SOURCE,), r"('\w+) : (?=(?:loop|while|for) )(?!.* \1 )", ''),
     # Bounds say at which types an item is there, and not what it returns. What asks for `Copy` asks
@@ -416,7 +417,7 @@ def compare(source: Item | None, rust: Item | None) -> tuple[str, list[str]]:
 
 def trees(root: pathlib.Path) -> tuple[Tree, Tree]:
     """The items of the sources, and those of Rust, with the files that cargo reads."""
-    within: Roots = {name: () if name in AT_ROOT else (name,) for name in LIBRARIES}
+    within: Roots = {name: () if name == AT_ROOT else (name,) for name in LIBRARIES}
     source = Tree({name: ('crate', *place) for name, place in within.items()})
     rust = Tree({})
     others = {name: files for name, files in OTHERS.items() if (root / files[1]).is_file()}

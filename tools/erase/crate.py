@@ -17,7 +17,7 @@ from tools.erase import copies, documentation
 from tools.erase.additions import Additions
 from tools.erase.callers import Callers
 from tools.erase.deletion import GHOST_NAMES
-from tools.erase.library import AT_ROOT, CRATES, ROOT, WITHIN, RustLibrary
+from tools.erase.library import CRATES, MOVED, ROOT, SINCE, WITHIN, RustLibrary
 from tools.erase.prose import within_columns
 from tools.erase.source import Item, Unknown
 
@@ -74,7 +74,7 @@ class Eraser(documentation.Comments):
         if [self.at(j) for j in names] == ['std', 'error', 'Error']:
             self.drop(k, last)
             return self.write(k, 'use crate::errors::Error;')
-        at_root = {path[0] for crate, path in self.library.modules if path and crate in AT_ROOT - {self.crate}}
+        at_root = {path[0] for crate, path in self.library.modules if path and crate == ROOT != self.crate}
         used = {path[1] for module in self.library.modules.values() for path in module.imported.values() if path[0] == self.crate and path[1:]}
         exports = ''.join(f'\npub(crate) use crate::{"::".join(path)};' for name, path in private.items() if name in used - at_root)
         if all(name in gone for _, name in imports):
@@ -109,7 +109,7 @@ class Eraser(documentation.Comments):
         has_invariant = any(field.ghost for field in item.fields)
         for field in item.fields:
             if field.public and not field.ghost and has_invariant and self.library.place_of(self.module, item) is not None:
-                self.write(field.place - 1, 'pub(crate)' if self.crate in AT_ROOT else f'pub(in crate::{self.crate})')
+                self.write(field.place - 1, 'pub(crate)' if self.crate == ROOT else f'pub(in crate::{self.crate})')
 
     def word(self, k: int) -> None:
         if self.kind(k) == 'label' and self.at(k + 1) == ':' and self.at(k + 2) in LOOPS:
@@ -130,10 +130,10 @@ class Eraser(documentation.Comments):
         word = self.at(k)
         if word == 'std':
             self.write(k, 'core')
-        elif word == 'crate' and self.crate in CRATES.keys() - AT_ROOT:
+        elif word == 'crate' and self.crate in CRATES.keys() - {ROOT}:
             self.write(k, f'{self.root}::{self.crate}')
         elif word in CRATES:
-            self.write(k, self.root if word in AT_ROOT else f'{self.root}::{word}')
+            self.write(k, self.root if word == ROOT else f'{self.root}::{word}')
 
     def rust(self) -> str:
         """The file as Rust."""
@@ -154,9 +154,7 @@ def made_from(source: str | Path, part: str = 'rust') -> str:
 def head_of_root(library: RustLibrary, others: Iterable[str], rust: str) -> str:
     """The root of the Rust crate: the head by hand, the modules, and what `num_integer` exports."""
     modules = ''.join(f'{kind} {crate};\n' for crate, kind in CRATES.items() if kind)
-    for module in (library.modules[crate, ()] for crate in AT_ROOT - {ROOT}):
-        below = (library.modules[module.crate, (item.name,)] for item in library.below(module))
-        modules += ''.join(f'{"pub " * library.is_open(module)}mod {module.path[0]};\n' for module in below)
+    modules += ''.join(f'#[deprecated(since = "{SINCE}", note = "it is `{MOVED}::{name}`")]\npub mod {name};\n' for name in library.moved())
     by_hand = ''.join(f'mod {place[:-3]};\n' for place in others if '/' not in place)
     made, *lines = rust.splitlines(True)
     items = ''.join(line for line in lines if not line.startswith('//!')).lstrip()
@@ -185,6 +183,9 @@ def texts_of(library: RustLibrary) -> dict[str, str]:
             raise Unknown(f'{module.source.path}: a second module for src/{place}')
         text, note = additions.add(place, eraser.rust())
         made[place] = made_from(module.source.path) + note + text
+    for name, exported in library.moved().items():
+        made[f'{name}.rs'] = made_from(f'crates/{MOVED}/src/{name}.rt') + f'//! It is [`{MOVED}::{name}`](crate::{MOVED}::{name}).\n\n' \
+            f'pub use crate::{MOVED}::{name}::{{{", ".join(exported)}}};\n'
     others = additions.modules()
     made['lib.rs'] = head_of_root(library, others, made['lib.rs'])
     made |= {place: made_from(f'rust/by_hand/src/{place}') + text for place, text in others.items()}

@@ -8,7 +8,7 @@ from collections.abc import Iterable
 
 from tools.erase import examples
 from tools.erase.deletion import Deletion
-from tools.erase.library import AT_ROOT, CRATES, Module, Place, RustLibrary
+from tools.erase.library import CRATES, ROOT, Module, Place, RustLibrary
 from tools.erase.prose import anchor, wrapped
 from tools.erase.source import Item, Source
 from tools.erase.words import imported
@@ -149,9 +149,9 @@ class Comments(Deletion):
 
     def linked(self, comment: str) -> str:
         """A comment whose links to names of the root lead there where the file does not import them."""
-        own = () if self.crate in AT_ROOT else (self.crate,)
+        own = () if self.crate == ROOT else (self.crate,)
         comment = re.sub(r'(\[`|\]\()crate::', rf'\1{"::".join(("crate", *own, ""))}', comment)
-        comment = re.sub(rf'\]\((?:{"|".join(AT_ROOT)})::', '](crate::', comment)
+        comment = re.sub(rf'\]\({ROOT}::', '](crate::', comment)
         # rustdoc rejects a target to which the label leads by itself
         comment = re.sub(rf'(\[`(\w+(?:::\w+)+)`\])\({"::".join(("crate", *own, *self.module.path))}::\2\)', r'\1', comment)
         found = {(*place, name) for (_, _, name), place in self.library.public.items()}

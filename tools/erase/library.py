@@ -11,10 +11,11 @@ Key = tuple[str, tuple[str, ...], str]          # of an item: its crate, its mod
 Public = dict[Key, Place]
 
 ROOT = 'num_integer'                            # its root becomes that of the Rust crate
-AT_ROOT = {ROOT, 'applied'}                     # the modules of these stand at the root of the Rust crate
-# The crates of the Rust crate: how the root declares the module of each, or nothing for those whose modules stand there.
+# The crates of the Rust crate: how the root declares the module of each, or nothing for the one whose modules stand there.
 CRATES = {'integer_core': 'mod', 'integer_roots': 'mod', 'num_integer': '',
-          'modular': 'pub mod', 'ratio64': 'pub mod', 'calendar': 'pub mod', 'bounded_integers': 'pub mod', 'applied': ''}
+          'modular': 'pub mod', 'ratio64': 'pub mod', 'calendar': 'pub mod', 'bounded_integers': 'pub mod', 'applied': 'pub mod'}
+# The crate whose modules stood at the root until a version, and are there too, deprecated.
+MOVED, SINCE = 'applied', '0.5.0'
 # The public modules that are private in the Rust crate: others export what they have, or no caller there needs it.
 WITHIN = {('integer_core', 'counted'), ('integer_core', 'guards'), ('integer_core', 'padded'), ('integer_core', 'fitting'),
           ('integer_roots', 'counted'), ('num_integer', 'sign_magnitude'), ('applied', 'guards')}
@@ -38,9 +39,9 @@ class Module:
         return {name: path for item in self.items if item.kind == 'use' for path, name in self.source.imports(item)}
 
     def rust_file(self) -> str:
-        """Its file below src/ of the Rust crate. The root of a crate whose modules stand at the root has none."""
-        names = self.path if self.crate in AT_ROOT else (self.crate,) + self.path
-        return '/'.join(names) + '.rs' if names else 'lib.rs' if self.crate == ROOT else ''
+        """Its file below src/ of the Rust crate."""
+        names = self.path if self.crate == ROOT else (self.crate,) + self.path
+        return '/'.join(names) + '.rs' if names else 'lib.rs'
 
 
 class Library:
@@ -155,8 +156,24 @@ class Made(Library):
 
     def __init__(self, folder: Path) -> None:
         super().__init__(folder.parent, [folder.name])
-        self.name, self.public = folder.name, self.published(folder.name)
+        self.name, root = folder.name, self.modules[folder.name, ()]
+        below = [item.name for item in self.below(root) if item.public]
+        self.late = {name for item in self.below(root) for first, _ in item.attributes for name in [item.name]
+                     if root.source.at(first + 2) == 'deprecated'}
+        self.public = self.published(self.name)
+        self.late, late = set(), [name for name in below if name in self.late]
+        for name in late:
+            self.publish(self.public, self.modules[self.name, (name,)], (name,))
         self.types = {name for _, _, name in self.public}
+
+    def is_open(self, module: Module) -> bool:
+        return not (module.path and module.path[0] in self.late)
+
+    def note(self, public: Public, key: Key, place: Place, name: str) -> None:
+        """Notes an export. The shortest place of an item counts, but for those in modules that are deprecated."""
+        if len(place) < len(public.get(key, ())) and self.late:
+            self.others.append(((*public.pop(key), self.names.pop(key, key[2])), key))
+        super().note(public, key, place, name)
 
     def write(self) -> None:
         """Writes the sources again, with what has changed in their texts."""
@@ -172,11 +189,7 @@ class RustLibrary(Library):
         self.public = self.publish({}, self.modules[ROOT, ()], ())
         for crate, kind in CRATES.items():
             if crate != ROOT and kind != 'mod':
-                self.publish(self.public, self.modules[crate, ()], () if crate in AT_ROOT else (crate,))
-        for crate in AT_ROOT - {ROOT}:
-            for item in self.modules[crate, ()].items:
-                if item.kind not in ('attribute', 'mod'):
-                    self.modules[crate, ()].source.refuse(item.word, f'`{item.name}`, which would stand at the root of the Rust crate')
+                self.publish(self.public, self.modules[crate, ()], (crate,))
 
     def is_open(self, module: Module) -> bool:
         return (module.crate, '/'.join(module.path)) not in WITHIN
@@ -192,6 +205,13 @@ class RustLibrary(Library):
         if owner.of_trait or not item.public:
             return None
         return self.place_of_type(module, owner.name)
+
+    def moved(self) -> dict[str, list[str]]:
+        """The public modules of the crate that has moved, each with the names that it gives out."""
+        below = [(item.name, self.modules[MOVED, (item.name,)]) for item in self.below(self.modules[MOVED, ()])]
+        return {name: sorted({key[2] for key, place in self.public.items() if place == (MOVED, name)}
+                             | {inner.name for inner in self.below(module) if inner.public})
+                for name, module in below if self.is_open(module)}
 
     def place_of_type(self, module: Module, name: str) -> Place | None:
         """The public place of a type that the module's crate has."""

@@ -15,7 +15,7 @@ fn meeting<T>(now: T, a: (T, T)) -> T
 @pytest.mark.parametrize('path, export, line', [
     ('checked::gcd', 'gcd', 'cellarcove::checked::gcd({0!}, {1})'),
     ('calendar::Date::plus_days', 'plus_days', '{0}.plus_days({1})'),
-    ('lists::gcd_of', 'gcd_of', 'cellarcove::lists::gcd_of(&[{0!}])'),
+    ('applied::lists::gcd_of', 'gcd_of', 'cellarcove::applied::lists::gcd_of(&[{0!}])'),
     ('meeting', 'gcd', ''), ('checked::gcd', 'product_modulo', ''), ('other', 'gcd', '')])
 def test_lines(path: str, export: str, line: str) -> None:
     assert trial.line_in_rust(path, EXPORTS().forms()[export][0], API) == line

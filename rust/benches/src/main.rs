@@ -47,7 +47,7 @@ fn time_of_list<R>(numbers: &[i64], call: impl Fn(&[i64]) -> R) -> f64 {
 
 /// The gcd and the lcm of lists, beside those of `num-integer` one number after the other.
 fn lists() {
-    use cellarcove::lists::{gcd_of, lcm_of};
+    use cellarcove::applied::lists::{gcd_of, lcm_of};
     let any: Vec<i64> = pairs(62).into_iter().map(|(a, _)| a).collect();
     let multiples: Vec<i64> = any.iter().map(|number| (number >> 4) * 12).collect();
     let few: Vec<i64> = any.iter().map(|number| 1 + number % 40).collect();

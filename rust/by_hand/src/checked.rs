@@ -1,9 +1,9 @@
 //! The calls of the other modules named `checked`, so that one import has all of them.
 
 #[doc(inline)]
-pub use crate::counting::checked::{factorial, falling};
+pub use crate::applied::counting::checked::{factorial, falling};
 #[doc(inline)]
-pub use crate::lists::checked::{dot_product, gcd_of, lcm_of, sum_of};
+pub use crate::applied::lists::checked::{dot_product, gcd_of, lcm_of, sum_of};
 #[doc(inline)]
 pub use crate::modular::checked::{
     chinese_remainder, count_congruent, difference_modulo, inverse_modulo, negation_modulo, next_common_solution,
@@ -11,6 +11,6 @@ pub use crate::modular::checked::{
     sum_modulo,
 };
 #[doc(inline)]
-pub use crate::powers::checked::{ilog, sqrt_rem};
+pub use crate::applied::powers::checked::{ilog, sqrt_rem};
 #[doc(inline)]
-pub use crate::rounding::checked::{product_div_round, product_div_round_even};
+pub use crate::applied::rounding::checked::{product_div_round, product_div_round_even};

@@ -1,15 +1,14 @@
 //! The arguments on both sides of the edge of each domain: the last for which a call returns a
 //! value, and the first for which it panics. A guard that asks for one more or one less fails here.
 
+use cellarcove::applied::rolling_hash::RollingHash;
+use cellarcove::applied::{counting, layout, lists, paging, powers, ranking, schedules};
 use cellarcove::bounded_integers::Percent;
 use cellarcove::calendar::days_in_month;
 use cellarcove::counted::SqrtCounted;
 use cellarcove::modular::{self, CommonSolution, Modular};
 use cellarcove::ratio64::Ratio;
-use cellarcove::rolling_hash::RollingHash;
-use cellarcove::{
-    binomial, counting, layout, lists, multinomial, paging, powers, ranking, schedules,
-};
+use cellarcove::{binomial, multinomial};
 use cellarcove::{Integer, Roots};
 
 const N: &str = "`n` is negative";

@@ -2,16 +2,16 @@
 //! in these files.
 
 use crate::outcome;
+use cellarcove::applied::{
+    counting, halving, layout, lists, paging, powers, ranking, rolling_hash::RollingHash, rounding,
+    schedules,
+};
 use cellarcove::bounded_integers::Percent;
 use cellarcove::calendar::{days_in_month, Date};
 use cellarcove::counted::{binomial_counted, extended_gcd_counted, GcdCounted, SqrtCounted};
 use cellarcove::modular::{self, Modular};
 use cellarcove::ratio64::Ratio;
 use cellarcove::{binomial, multinomial, operators, Integer, IterBinomial, Roots};
-use cellarcove::{
-    counting, halving, layout, lists, paging, powers, ranking, rolling_hash::RollingHash, rounding,
-    schedules,
-};
 use std::time::{Duration, Instant};
 
 const GCD: &str = "the greatest common divisor does not fit";

@@ -1,10 +1,10 @@
 //! Slices, dates, fractions and other calls of few arguments.
 
 use crate::{check, exact, outcome};
+use cellarcove::applied::ranking::{choice_of_rank, next_choice, rank};
+use cellarcove::applied::rolling_hash::RollingHash;
 use cellarcove::calendar::days_in_month;
 use cellarcove::ratio64::Ratio;
-use cellarcove::ranking::{choice_of_rank, next_choice, rank};
-use cellarcove::rolling_hash::RollingHash;
 
 /// The choices of `length` of the numbers below `n`, in the order of their ranks.
 fn choices(n: u64, length: usize) -> Vec<Vec<u64>> {

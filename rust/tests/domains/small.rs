@@ -1,9 +1,9 @@
 //! Every pair of numbers of 8 bits, and every number.
 
 use crate::{check, exact};
+use cellarcove::applied::{halving, layout, paging, powers, schedules};
 use cellarcove::counted::{binomial_counted, extended_gcd_counted, GcdCounted, SqrtCounted};
 use cellarcove::modular::{self, Modular};
-use cellarcove::{halving, layout, paging, powers, schedules};
 use cellarcove::{operators, Average, Integer, IterBinomial, Roots};
 
 /// A number of the type, or `None` where it does not fit.

@@ -26,7 +26,7 @@ pub extern "C" fn cellarcove_next(choice: *mut u64, choice_len: usize) -> bool {
         // SAFETY: the caller promises that the pointer leads to so many items, which nothing else reads or writes.
         unsafe { core::slice::from_raw_parts_mut(choice, choice_len) }
     };
-    cellarcove::ranking::next_choice(choice)
+    cellarcove::applied::ranking::next_choice(choice)
 }
 
 fn inner(counts: &[u64]) -> u64 {

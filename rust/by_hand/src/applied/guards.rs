@@ -1,9 +1,7 @@
-//! The guards of the crate: those of `integer_core`, and those of choices and ranks.
+//! The guards of choices and ranks.
 
 use crate::checked;
-pub(crate) use crate::integer_core::guards::{
-    check, check_lcm, check_second_positive, product_or, refuse, some, sum_or,
-};
+pub(crate) use crate::integer_core::guards::check;
 
 /// Panics if the numbers of a choice do not increase, or one is not below `n`.
 #[track_caller]
