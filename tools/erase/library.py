@@ -97,6 +97,8 @@ class Library:
         here = self.modules[crate, at]
         if not names:
             return here, None
+        if len(names) > 1 and here.imported.get(names[0], path) != path:        # a module that is exported there
+            return self.find(here, [*here.imported[names[0]], *names[1:]])
         return self.find_name(here, names[0]) if len(names) == 1 else None
 
     def find_name(self, module: Module, name: str) -> tuple[Module, str | None] | None:
