@@ -12,37 +12,50 @@ extern crate std;
 
 pub use num_traits;
 
+pub mod applied;
 pub mod bounded_integers;
 pub mod calendar;
 pub mod checked;
 mod coefficients;
+#[deprecated(since = "0.5.0", note = "it is `applied::coprime`")]
 pub mod coprime;
 pub mod counted;
+#[deprecated(since = "0.5.0", note = "it is `applied::counting`")]
 pub mod counting;
 #[cfg(doc)]
 pub mod definitions;
 mod errors;
 mod fits_trait;
-mod guards;
+#[deprecated(since = "0.5.0", note = "it is `applied::halving`")]
 pub mod halving;
 mod integer_core;
 mod integer_roots;
+#[deprecated(since = "0.5.0", note = "it is `applied::layout`")]
 pub mod layout;
+#[deprecated(since = "0.5.0", note = "it is `applied::lists`")]
 pub mod lists;
 pub mod modular;
 mod nearest;
+#[deprecated(since = "0.5.0", note = "it is `applied::paging`")]
 pub mod paging;
+#[deprecated(since = "0.5.0", note = "it is `applied::powers`")]
 pub mod powers;
+#[deprecated(since = "0.5.0", note = "it is `applied::ranking`")]
 pub mod ranking;
 pub mod ratio64;
+#[deprecated(since = "0.5.0", note = "it is `applied::rolling_hash`")]
 pub mod rolling_hash;
+#[deprecated(since = "0.5.0", note = "it is `applied::rounding`")]
 pub mod rounding;
 mod rows;
+#[deprecated(since = "0.5.0", note = "it is `applied::schedules`")]
 pub mod schedules;
 mod serde_strings;
+#[deprecated(since = "0.5.0", note = "it is `applied::shares`")]
 pub mod shares;
 pub(crate) mod sign_magnitude;
 
+pub(crate) use crate::integer_core::guards;
 pub(crate) use crate::integer_core::padded;
 pub(crate) use crate::integer_core::Magnitudes;
 pub use crate::integer_core::{

@@ -3,7 +3,7 @@
 
 use crate::answers::{I64Answer, U64Answer, NOT_FITTING, OUTSIDE};
 use crate::coefficients::reason_for_counts;
-use cellarcove::counting::checked;
+use cellarcove::applied::counting::checked;
 
 /// Returns the factorial of `n`, the product of the numbers from 1 to `n`. That of 5 is 120.
 ///

@@ -2,7 +2,7 @@
 //! Division, rounded toward 0, down, up or to the nearest integer.
 
 use crate::answers::{with_status, I64Answer, U64Answer, NOT_FITTING, OUTSIDE};
-use cellarcove::rounding::checked as rounding;
+use cellarcove::applied::rounding::checked as rounding;
 use cellarcove::{checked, Integer};
 
 /// A status, and a quotient with its remainder.

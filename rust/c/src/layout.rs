@@ -2,7 +2,7 @@
 //! Offsets on an alignment.
 
 use crate::answers::{I64Answer, U64Answer, NOT_FITTING, OUTSIDE};
-use cellarcove::layout::{align_up, padding};
+use cellarcove::applied::layout::{align_up, padding};
 
 /// Returns the offset rounded up to a multiple of the alignment. For 13 and 8 it is 16.
 ///

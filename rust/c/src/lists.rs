@@ -2,7 +2,7 @@
 //! Common divisors and multiples of lists.
 
 use crate::answers::{I64Answer, U64Answer, NOT_FITTING};
-use cellarcove::lists::{checked, gcd_of};
+use cellarcove::applied::lists::{checked, gcd_of};
 
 /// Returns the greatest common divisor of the numbers, which is not negative. That of -12, 18 and 8
 /// is 2, that of -2^63, 0 and 6 is 2, and that of no numbers is 0.

@@ -3,7 +3,7 @@
 //! are counted from 0.
 
 use crate::answers::{I64Answer, U64Answer, ANSWER, NOT_FITTING, OUTSIDE};
-use cellarcove::paging::{item_at, pages, place_of, range_of_page, range_of_part};
+use cellarcove::applied::paging::{item_at, pages, place_of, range_of_page, range_of_part};
 
 /// A status, and a page with a place on it.
 #[repr(C)]

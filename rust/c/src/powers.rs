@@ -3,7 +3,7 @@
 //! logarithms.
 
 use crate::answers::{with_status, U64Answer, OUTSIDE};
-use cellarcove::powers::{checked, is_perfect_power, is_power, is_square};
+use cellarcove::applied::powers::{checked, is_perfect_power, is_power, is_square};
 
 /// A status, and a square root with what is left.
 #[repr(C)]

@@ -3,7 +3,7 @@
 
 use crate::answers::{I64Answer, U64Answer, NOT_FITTING, OUTSIDE};
 use crate::division::reason_for_divisor;
-use cellarcove::rounding::checked::{product_div_round, product_div_round_even};
+use cellarcove::applied::rounding::checked::{product_div_round, product_div_round_even};
 
 /// Returns the quotient of `a * b` by `d`, rounded to the nearest integer, and a half away from 0.
 /// The product need not fit. For -1999, 19 and 100 it is -380, for 5, 1 and 2 it is 3, and for -5,

@@ -3,7 +3,7 @@
 
 use crate::answers::{U64Answer, ANSWER, NOT_FITTING, OUTSIDE};
 use crate::binomials::binomial;
-use cellarcove::ranking::{choice_of_rank, is_choice, rank, rank_fits};
+use cellarcove::applied::ranking::{choice_of_rank, is_choice, rank, rank_fits};
 
 /// Returns the rank of a choice of numbers below `n`: how many choices of as many numbers come
 /// before it. They are ordered by their last number, then by the one before it, and so on. For 0, 2

@@ -2,7 +2,7 @@
 //! Times that recur after a period.
 
 use crate::answers::{I64Answer, U64Answer, BAD_MODULUS, NOT_FITTING};
-use cellarcove::schedules::{count, next_meeting};
+use cellarcove::applied::schedules::{count, next_meeting};
 
 /// Returns the first time, not before `now`, that is in two schedules. One has the times `a`,
 /// `a + p`, `a + 2 * p` and so on, and the other those of `b` and `q`. For 10, 1, 4, 3 and 6 it is

@@ -2,7 +2,7 @@
 //! An amount divided in proportion to weights.
 
 use crate::answers::{ANSWER, OUTSIDE};
-use cellarcove::shares::{
+use cellarcove::applied::shares::{
     shares, shares_by_largest_remainder, signed_shares, signed_shares_by_largest_remainder,
 };
 

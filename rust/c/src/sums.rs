@@ -3,7 +3,7 @@
 
 use crate::answers::{I64Answer, U64Answer, NOT_FITTING};
 use crate::lists::read_each;
-use cellarcove::lists::checked;
+use cellarcove::applied::lists::checked;
 
 /// Returns the sum of the numbers. The sum of the first of them need not fit. That of
 /// 9223372036854775807, 1 and -8 is 9223372036854775800, and that of no numbers is 0.

@@ -56,6 +56,7 @@ pub fn sum_modulo<T: Integer + Copy>(a: T, b: T, m: T) -> T {
 }
 
 /// Returns the sum of two residues modulo `m`.
+#[track_caller]
 pub(crate) fn sum_of_residues<T: Integer + Copy>(x: T, y: T, m: T) -> T {
     let room = difference(m, y);
     if is_below(x, room) {
@@ -116,6 +117,7 @@ pub fn negation_modulo<T: Integer + Copy>(a: T, m: T) -> T {
 }
 
 /// Returns the negation of a residue modulo `m`.
+#[track_caller]
 pub(crate) fn negation_of_residue<T: Integer + Copy>(x: T, m: T) -> T {
     if is_zero(x) {
         x

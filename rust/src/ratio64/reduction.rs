@@ -61,6 +61,7 @@ fn reduced_terms<T: Integer + Copy>(num: T, den: T) -> (T, T) {
 /// Returns both parts, negated if the denominator is negative.
 ///
 /// The precondition is that of [`reduced_terms`].
+#[track_caller]
 fn with_positive_denominator<T: Integer + Copy>(num: T, den: T) -> (T, T) {
     if is_negative(den) {
         (negated(num), negated(den))

@@ -3,18 +3,18 @@
 //! does not fit.
 
 use super::total::Total;
-use crate::coprime::signed_gcd;
+use crate::applied::coprime::signed_gcd;
 use crate::operators::{is_negative, is_one, is_zero, one, zero};
 use crate::sign_magnitude::{number_of, parts_of, parts_of_product};
 use crate::{checked, Fits, NativeInteger};
 
-/// Returns [`gcd_of`](crate::lists::gcd_of), the greatest common divisor of the numbers, or `None`
-/// if it does not fit, as 128 in an `i8`.
+/// Returns [`gcd_of`](crate::applied::lists::gcd_of), the greatest common divisor of the numbers,
+/// or `None` if it does not fit, as 128 in an `i8`.
 ///
 /// # Examples
 ///
 /// ```
-/// use cellarcove::lists::checked::gcd_of;
+/// use cellarcove::applied::lists::checked::gcd_of;
 ///
 /// assert_eq!(gcd_of(&[12, 18, 8]), Some(2));
 /// assert_eq!(gcd_of(&[i8::MIN, 2]), Some(2));
@@ -56,13 +56,13 @@ fn divisor_of_both<T: Fits>(divisor: T, number: T) -> T {
     }
 }
 
-/// Returns [`lcm_of`](crate::lists::lcm_of), the least common multiple of the numbers, or `None` if
-/// it does not fit.
+/// Returns [`lcm_of`](crate::applied::lists::lcm_of), the least common multiple of the numbers, or
+/// `None` if it does not fit.
 ///
 /// # Examples
 ///
 /// ```
-/// use cellarcove::lists::checked::lcm_of;
+/// use cellarcove::applied::lists::checked::lcm_of;
 ///
 /// assert_eq!(lcm_of(&[4, 6, 10]), Some(60));
 /// assert_eq!(lcm_of(&[16u8, 17]), None);
@@ -110,7 +110,7 @@ fn has_zero<T: Fits>(numbers: &[T]) -> bool {
 /// # Examples
 ///
 /// ```
-/// use cellarcove::lists::checked::sum_of;
+/// use cellarcove::applied::lists::checked::sum_of;
 ///
 /// assert_eq!(sum_of(&[100i8, 100, -100]), Some(100));
 /// assert_eq!(sum_of(&[100i8, 100]), None);
@@ -134,7 +134,7 @@ pub fn sum_of<T: NativeInteger<Magnitude = u64>>(numbers: &[T]) -> Option<T> {
 /// # Examples
 ///
 /// ```
-/// use cellarcove::lists::checked::dot_product;
+/// use cellarcove::applied::lists::checked::dot_product;
 ///
 /// assert_eq!(dot_product(&[(2, 1999), (1, 501)]), Some(4499));
 /// assert_eq!(dot_product(&[(100i8, 100), (-100, 99)]), Some(100));

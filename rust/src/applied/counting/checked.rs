@@ -6,13 +6,13 @@ use crate::checked::product;
 use crate::operators::{difference, is_below, is_negative, one, successor, zero};
 use crate::Fits;
 
-/// Returns [`factorial`](crate::counting::factorial), the product of the numbers from 1 to `n`, or
-/// `None` if `n` is negative or the factorial does not fit.
+/// Returns [`factorial`](crate::applied::counting::factorial), the product of the numbers from 1 to
+/// `n`, or `None` if `n` is negative or the factorial does not fit.
 ///
 /// # Examples
 ///
 /// ```
-/// use cellarcove::counting::checked::factorial;
+/// use cellarcove::applied::counting::checked::factorial;
 ///
 /// assert_eq!(factorial(5u8), Some(120));
 /// assert_eq!(factorial(6u8), None);
@@ -28,13 +28,13 @@ pub fn factorial<T: Fits>(n: T) -> Option<T> {
     }
 }
 
-/// Returns [`falling`](crate::counting::falling), the product `n * (n - 1) * ..` of `k` factors, or
-/// `None` if a number is negative or the product does not fit.
+/// Returns [`falling`](crate::applied::counting::falling), the product `n * (n - 1) * ..` of `k`
+/// factors, or `None` if a number is negative or the product does not fit.
 ///
 /// # Examples
 ///
 /// ```
-/// use cellarcove::counting::checked::falling;
+/// use cellarcove::applied::counting::checked::falling;
 ///
 /// assert_eq!(falling(8u16, 3), Some(336));
 /// assert_eq!(falling(8u8, 3), None);

@@ -21,7 +21,7 @@ use crate::NativeInteger;
 /// # Examples
 ///
 /// ```
-/// use cellarcove::rounding::checked::product_div_round;
+/// use cellarcove::applied::rounding::checked::product_div_round;
 ///
 /// assert_eq!(product_div_round(1999, 19, 100), Some(380));
 /// assert_eq!(product_div_round(5, 1, 2), Some(3));
@@ -36,7 +36,7 @@ pub fn product_div_round<T: NativeInteger<Magnitude = u64>>(a: T, b: T, d: T) ->
         return None;
     }
     match a.checked_mul(&b) {
-        Some(product) if !is_minus_one(d) => Some(crate::rounding::div_round(product, d)),
+        Some(product) if !is_minus_one(d) => Some(crate::applied::rounding::div_round(product, d)),
         _ => wide_product_div_round(a, b, d),
     }
 }
@@ -45,7 +45,7 @@ pub fn product_div_round<T: NativeInteger<Magnitude = u64>>(a: T, b: T, d: T) ->
 /// fit. That of the magnitudes has the magnitude of that of the numbers.
 fn wide_product_div_round<T: NativeInteger<Magnitude = u64>>(a: T, b: T, d: T) -> Option<T> {
     let (product, divisor) = (parts_of_product(a, b), parts_of(d));
-    let magnitude = crate::rounding::div_round(product.1, u128::from(divisor.1));
+    let magnitude = crate::applied::rounding::div_round(product.1, u128::from(divisor.1));
     number_of((product.0 != divisor.0, magnitude))
 }
 
@@ -57,7 +57,7 @@ fn wide_product_div_round<T: NativeInteger<Magnitude = u64>>(a: T, b: T, d: T) -
 /// # Examples
 ///
 /// ```
-/// use cellarcove::rounding::checked::product_div_round_even;
+/// use cellarcove::applied::rounding::checked::product_div_round_even;
 ///
 /// assert_eq!(product_div_round_even(250, 1, 100), Some(2));
 /// assert_eq!(product_div_round_even(350, 1, 100), Some(4));
@@ -70,7 +70,9 @@ pub fn product_div_round_even<T: NativeInteger<Magnitude = u64>>(a: T, b: T, d: 
         return None;
     }
     match a.checked_mul(&b) {
-        Some(product) if !is_minus_one(d) => Some(crate::rounding::div_round_even(product, d)),
+        Some(product) if !is_minus_one(d) => {
+            Some(crate::applied::rounding::div_round_even(product, d))
+        }
         _ => wide_product_div_round_even(a, b, d),
     }
 }
@@ -79,6 +81,6 @@ pub fn product_div_round_even<T: NativeInteger<Magnitude = u64>>(a: T, b: T, d: 
 /// not fit. That of the magnitudes has the magnitude of that of the numbers.
 fn wide_product_div_round_even<T: NativeInteger<Magnitude = u64>>(a: T, b: T, d: T) -> Option<T> {
     let (product, divisor) = (parts_of_product(a, b), parts_of(d));
-    let magnitude = crate::rounding::div_round_even(product.1, u128::from(divisor.1));
+    let magnitude = crate::applied::rounding::div_round_even(product.1, u128::from(divisor.1));
     number_of((product.0 != divisor.0, magnitude))
 }

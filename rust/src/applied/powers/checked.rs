@@ -5,13 +5,13 @@
 use crate::operators::{is_below, is_negative, one, zero};
 use crate::{Integer, Roots};
 
-/// Returns [`sqrt_rem`](crate::powers::sqrt_rem), the square root and what is left, or `None` if
-/// `n` is negative.
+/// Returns [`sqrt_rem`](crate::applied::powers::sqrt_rem), the square root and what is left, or
+/// `None` if `n` is negative.
 ///
 /// # Examples
 ///
 /// ```
-/// use cellarcove::powers::checked::sqrt_rem;
+/// use cellarcove::applied::powers::checked::sqrt_rem;
 ///
 /// assert_eq!(sqrt_rem(99), Some((9, 18)));
 /// assert_eq!(sqrt_rem(-99), None);
@@ -23,17 +23,17 @@ pub fn sqrt_rem<T: Roots + Copy>(n: T) -> Option<(T, T)> {
     if is_negative(n) {
         None
     } else {
-        Some(crate::powers::sqrt_rem(n))
+        Some(crate::applied::powers::sqrt_rem(n))
     }
 }
 
-/// Returns [`ilog`](crate::powers::ilog), the integer logarithm, or `None` if `number` is below 1
-/// or `base` below 2.
+/// Returns [`ilog`](crate::applied::powers::ilog), the integer logarithm, or `None` if `number` is
+/// below 1 or `base` below 2.
 ///
 /// # Examples
 ///
 /// ```
-/// use cellarcove::powers::checked::ilog;
+/// use cellarcove::applied::powers::checked::ilog;
 ///
 /// assert_eq!(ilog(1000, 10), Some(3));
 /// assert_eq!(ilog(0, 10), None);
@@ -44,7 +44,7 @@ pub fn sqrt_rem<T: Roots + Copy>(n: T) -> Option<(T, T)> {
 #[must_use]
 pub fn ilog<T: Integer + Copy>(number: T, base: T) -> Option<u32> {
     if is_below(zero(), number) && is_below(one(), base) {
-        Some(crate::powers::ilog(number, base))
+        Some(crate::applied::powers::ilog(number, base))
     } else {
         None
     }

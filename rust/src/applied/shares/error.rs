@@ -9,7 +9,7 @@ use core::fmt;
 /// # Examples
 ///
 /// ```
-/// use cellarcove::shares::{shares, SharesError};
+/// use cellarcove::applied::shares::{shares, SharesError};
 ///
 /// assert_eq!(shares(100, &[0, 0], &mut [7, 7]), Err(SharesError::ZeroWeights));
 /// ```
@@ -26,7 +26,7 @@ pub enum SharesError {
 /// # Examples
 ///
 /// ```
-/// use cellarcove::shares::SharesError;
+/// use cellarcove::applied::shares::SharesError;
 ///
 /// assert_eq!(SharesError::ZeroWeights.to_string(), "the weights are all 0");
 /// ```
