@@ -537,10 +537,14 @@ function numberOf(x, kind) {
   return typeof x === 'bigint' && (kind === 0 ? isSigned(x) : isUnsigned(x)) ? x : undefined;
 }
 
-/** Whether a number of 64 bits is now at a place of the words. */
-function stores(x, at, words = I64) {
-  if (typeof x === 'bigint') return (words[at] = x, words[at] === x);
-  if (!Number.isSafeInteger(x) || x < 0 && words !== I64) return false;
+/** Whether a signed number is now at a place of the words. */
+function stores(x, at) {
+  if (typeof x === 'bigint') {
+    const words = I64;
+    words[at] = x;
+    return words[at] === x;
+  }
+  if (!Number.isSafeInteger(x)) return false;
   I32[2 * at] = x;
   I32[2 * at + 1] = (x | 0) === x ? x >> 31 : Math.floor(x / 2 ** 32);
   return true;
@@ -595,7 +599,11 @@ function storesList(items, isSigned) {
   if (!Array.isArray(items) && !(items instanceof BigInt64Array) && !(items instanceof BigUint64Array)) return false;
   const {length} = items, at = ROOM / 8;
   if (ROOM + 16 * length > U8.length) reach(ROOM + 16 * length); // with as many numbers that the call may write
-  for (let k = 0; k < length; k++) if (!stores(items[k], at + k, isSigned ? I64 : U64)) return false;
+  for (let k = 0; k < length; k++) {
+    const x = isSigned ? items[k] : numberOf(items[k], 1);
+    if (isSigned ? !stores(x, at + k) : x === undefined) return false;
+    if (!isSigned) U64[at + k] = x;
+  }
   return items.length === length;
 }
 
