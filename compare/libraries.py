@@ -136,6 +136,7 @@ def residue_lines(calls: str, types: Iterable[str] = TYPES) -> Iterator[Line]:
 # Of these, that there is no result is counted too.
 COUNTED = {"Negation", "Magnitude", "Reciprocal", "Power", "Sum", "Difference", "Product", "Quotient"}
 
+
 def of_fractions(call: str, words: str, inputs: Iterable[tuple[tuple[int, ...], Pair, Pair, int]]) -> Answered:
     """What is counted of a call: its results, or why there are none. A sign is a fraction."""
     models = [model_of(FRACTIONS, each) for each in words.split(",")]

@@ -38,7 +38,8 @@ def run_part(verb: str, part: Part, words: list[str]) -> int:
     try:
         if function == 'made':
             return 0 if (write if verb == 'make' else as_made)(ROOT, module.made()) else 1
-        return 0 if getattr(module, function)(words) else 1
+        passed = getattr(module, function)(words)
+        return MISSING if passed is None else 0 if passed else 1
     except Unknown as form:
         print(form, file=sys.stderr)
         return 2

@@ -408,7 +408,7 @@ function formOf([symbol, parameters, result, small]) {
 }
 
 /** Writes the items of a list into memory, and returns its place and length. */
-function lowerList({item, size, leaves, isText}, items, at) {
+function lowerList({size, leaves, isText}, items, at) {
   reach(at + size * items.length + 8);
   if (isText) new Uint8Array(exports.memory.buffer, at, items.length).set(items);
   else items.forEach((parts, place) => leaves.forEach(({kind, at: inner}, k) => SET[kind](at + size * place + inner, parts[k])));
@@ -454,7 +454,7 @@ let value;
 let turns = 0; // how often a call has written its arguments into memory
 
 /** The arguments of a call, as numbers, arrays of the parts of a struct, and lists of such arrays, and the numbers that choose the form. */
-function taken({forms: [form, other], parameters, hasWritten}, given, seen) {
+function taken({forms: [, other], parameters, hasWritten}, given, seen) {
   if (given.length !== parameters.length) throw new TypeError(`${seen.call} takes ${parameters.map((it) => it.isWritten ? 'count' : it.name).join(', ')}`);
   const wide = [];
   const number = (x, kind, otherKind) => {

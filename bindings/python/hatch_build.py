@@ -2,8 +2,8 @@
 archive of the calls, and puts what they are made of into a source distribution.
 
 In the repository it makes these two files first, for which it needs a Python from 3.11 on. The
-archive is the one that `bindings/build` makes, or the one that the variable CELLARCOVE_ARCHIVE names. A
-source distribution has the two files, and a copy of what else it needs in `vendor`.
+archive is the one that `bindings/build` makes, or the one that the variable CELLARCOVE_ARCHIVE
+names. A source distribution has the two files, and a copy of what else it needs in `vendor`.
 """
 
 from __future__ import annotations

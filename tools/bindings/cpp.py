@@ -132,4 +132,3 @@ def hpp() -> str:
         text += slice_functions(forms) if forms[0].has_slice else template(*forms) if len(forms) == 2 else plain_function(forms[0])
         text += '\n'
     return filled('cellarcove.hpp', statuses=statuses, calls=text)
-

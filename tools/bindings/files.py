@@ -1,5 +1,6 @@
-"""Writes what C, C++, JavaScript and Python know of the exports, from the sources of crates/cellarcove_c. The calls of Python in C are
-in no commit: bindings/python/hatch_build.py has them made."""
+"""Writes what C, C++, JavaScript and Python know of the exports, from the sources of
+crates/cellarcove_c. The calls of Python in C are in no commit: bindings/python/hatch_build.py has
+them made."""
 from tools import ROOT, write
 from tools.bindings import javascript
 from tools.bindings.c import header
@@ -11,8 +12,10 @@ from tools.bindings.ufuncs import table, ufuncs_c
 
 def made() -> dict[str, str]:
     """The files, and what is to be in them."""
-    return {'bindings/c/cellarcove.h': header(), 'bindings/c/cellarcove.hpp': hpp(), 'bindings/python/src/cellarcove/_table.py': table(),
-            'bindings/python/src/cellarcove/_calls.pyi': stubs(), 'docs/LANGUAGES.md': page()} | javascript.made()
+    package = 'bindings/python/src/cellarcove'
+    return {'bindings/c/cellarcove.h': header(), 'bindings/c/cellarcove.hpp': hpp(),
+            f'{package}/_table.py': table(), f'{package}/_calls.pyi': stubs(),
+            'docs/LANGUAGES.md': page()} | javascript.made()
 
 
 def calls() -> dict[str, str]:

@@ -26,7 +26,7 @@ with contextlib.suppress(ImportError):  # the rows for JavaScript need only the 
 
 from tools.bindings.by_python import BAD_MODULUS, I64, NOT_FITTING, OUTSIDE, PROPERTIES, RESULTS, U64, ZERO_DENOMINATOR
 from tools.bindings.exports import EXPORTS, Call
-from tools.bindings.python import DIVIDES, LETTERS, MODULI, cells, grouped, public_calls, results
+from tools.bindings.python import DIVIDES, LETTERS, MODULI, cells, grouped, public_calls
 
 COUNT = 200                                     # elements of an array
 ONE_BY_ONE = 8                                  # of them, which are called alone too

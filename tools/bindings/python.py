@@ -137,7 +137,7 @@ def of_columns(call: Call) -> str:
     """What a docstring says of columns."""
     if call.has_slice:
         shared = len(call.taken) < len(call.parameters)
-        return f'Of a column of amounts, or of weights, it is an array, whose last axis is that of the weights.' * shared
+        return 'Of a column of amounts, or of weights, it is an array, whose last axis is that of the weights.' * shared
     if call.result.startswith('Date'):
         days = any(parameter.kind == 'Date' for parameter in call.parameters)
         return f'Of columns it is {"a column of `datetime64[D]` if a date is one, and else " * days}three columns: year, month and day.'

@@ -103,7 +103,7 @@ def facts() -> Iterator[tuple[str, list[object]]]:
         named = map(languages.in_rattle, re.findall(r'cellarcove::([\w:]+)\(', line))
         cpp, python = each.cpp.split(', ')[-1], each.python.split(', ')[-1]
         yield camel(each.c), [doing.get(each.c, ''), first_texts(call), cpp, python, line,
-                                        ' || '.join(named)]
+                              ' || '.join(named)]
 
 
 def in_order() -> list[str]:

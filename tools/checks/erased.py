@@ -33,7 +33,7 @@ from typing import NamedTuple, NoReturn
 REPOSITORY = pathlib.Path(__file__).resolve().parent.parent.parent
 LIBRARIES = ('integer_core', 'integer_roots', 'num_integer', 'modular', 'ratio64', 'calendar',
              'bounded_integers', 'applied')
-AT_ROOT = 'num_integer'             # the library whose modules stand at the root of the crate of Rust
+AT_ROOT = 'num_integer'             # the library whose modules stand at the root in Rust
 # The crates for C and of the program, each with the root of its source and that of Rust.
 OTHERS = {'cellarcove_c': ('lib.rt', 'rust/c/src/lib.rs'),
           'intcalc_core': ('lib.rt', 'rust/intcalc/src/lib.rs'),

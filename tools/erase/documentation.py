@@ -8,7 +8,7 @@ from collections.abc import Iterable
 
 from tools.erase import examples
 from tools.erase.deletion import Deletion
-from tools.erase.library import CRATES, ROOT, Module, Place, RustLibrary
+from tools.erase.library import ROOT, Module, Place, RustLibrary
 from tools.erase.prose import anchor, wrapped
 from tools.erase.source import Item, Source
 from tools.erase.words import imported

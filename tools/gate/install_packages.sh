@@ -1,6 +1,6 @@
 #!/usr/bin/env bash
 # Installs the packages of Debian that the gate needs and that this machine lacks: for plain Rust the sources of num-integer and
-# num-traits, of the packages that depend on them and whose tests are run, and of serde; for the tools pytest, mypy and shellcheck; for
+# num-traits, of the packages that depend on them and whose tests are run, and of serde; for the tools pytest, flake8, mypy and shellcheck; for
 # wheels hatchling, with numpy, pandas and dask for its tests; for 32 bits and for WebAssembly compilers, one of them with the sources of its library; and if Node is there, for
 # JavaScript the compiler of TypeScript, Chromium, Firefox, and what bundles. With --all it installs what the other targets of a release and
 # the theorems in Coq need too, and what makes clean roots of Debian.
@@ -23,7 +23,7 @@ if ! python3 -c 'import hatchling, numpy, pip' 2>/dev/null || [ ! -e "$headers/P
     done
 fi
 python3 -c 'import pytest' 2>/dev/null || /usr/bin/python3 -c 'import pytest' 2>/dev/null || missing+=(python3-pytest)
-for name in mypy shellcheck; do
+for name in flake8 mypy shellcheck; do
     command -v "$name" >/dev/null || missing+=("$name")
 done
 [ -d /usr/lib/rustlib/src/rust/library/core ] || missing+=(rustc-web rust-web-src)

@@ -88,7 +88,7 @@ class Page:
         return own[0].source.head() if own and place else []
 
     def section(self, place: Place, shown: Shown) -> None:
-        """Adds the heading of a place, what the head of its file says, and how to import its items."""
+        """Adds the heading of a place, the head of its file, and how to import its items."""
         if self.name in BY_FILE:
             self.heading(2, f"`{'/'.join(place)}.rt`" if place else 'The root')
         else:
@@ -225,7 +225,7 @@ class Brief(Page):
 
 
 class Callers(Brief):
-    """The page of `callers` in the repository: each task, and where its function and its proof are."""
+    """The page of `callers` in the repository: each task, with its function and its proof."""
 
     def section(self, place: Place, shown: Shown) -> None:
         self.add('')
@@ -269,7 +269,7 @@ def squeezed(text: str) -> str:
 
 
 def signature(source: Source, item: Item) -> str:
-    """The head of an item in a line, without its attributes and its clauses. Of an enum that is all."""
+    """The head of an item in a line, without attributes and clauses. Of an enum that is all."""
     first = item.attributes[-1][1] + 1 if item.attributes else item.first
     stops = [clause.first - 1 for clause in item.clauses[:1] if item.kind == 'fn']
     stops += [item.open - 1] if item.open and item.kind != 'enum' else []

@@ -1,11 +1,11 @@
-"""Makes the reference of the sources: a page for each crate, with its public items, their clauses and
-the words they cite.
+"""Makes the reference of the sources: a page for each crate, with its public items, their clauses
+and the words they cite.
 
 The repository has the head and the clauses of each item, and each definition once, a sentence and
-its text: of the libraries in rust/reference, which the documentation of plain Rust shows too, and of
-all else in docs/reference. The page of `callers` is a list there. A release has the whole pages, each
-with the doc comments, the imports, the laws, and the lemmas of `proofs/ForCallers.antt`, in the
-groups of that file.
+its text: of the libraries in rust/reference, which the documentation of plain Rust shows too, and
+of all else in docs/reference. The page of `callers` is a list there. A release has the whole pages,
+each with the doc comments, the imports, and the lemmas of `proofs/ForCallers.antt`, in the groups
+of that file.
 
 A page has each public item that a user of the crate can import, by the path of its import. The
 pages of theorems have all clauses; the others leave out those that only say that numbers lie in
@@ -21,7 +21,7 @@ from pathlib import Path
 
 from tools import ROOT, filled, write
 from tools.erase.documentation import STATED, imports_of, of_rattle
-from tools.erase.library import CRATES as OF_RUST, Library, Module, Place
+from tools.erase.library import Library, Module, Place
 from tools.erase.source import Item, Source, Unknown
 from tools.erase.words import Definition, Imports, Specs
 from tools.pages import mathematics
@@ -168,13 +168,15 @@ class Reference:
                 add(page)
         self.see_words()
         pages = {page.file(): page.text(self.anchors) for page in self.pages.values()}
-        pages |= {'README.md': self.front(), 'index.md': self.index(), 'mathematics.md': self.sentences()}
+        pages |= {'README.md': self.front(), 'index.md': self.index(),
+                  'mathematics.md': self.sentences()}
         return {name: re.sub(r'\n{3,}', '\n\n', text).strip('\n') + '\n'
                 for name, text in pages.items()}
 
     def see_words(self) -> None:
         """Rejects a word of a clause or of a definition that no page defines: one of the toolchain
-        that README.md of rust/reference does not explain, a type that no page shows, and a part of a value."""
+        that README.md of rust/reference does not explain, a type that no page shows, and a part of
+        a value."""
         known = explained(TOOLCHAIN.read_text())
         parts = self.shown | {part for word in known for part in names_in(word)}
         missing = {f'`{word}`' for word in self.specs.outside if word.strip('◌') not in known}

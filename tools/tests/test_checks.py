@@ -8,7 +8,7 @@ from pathlib import Path
 import pytest
 
 from tools import ROOT, dependencies, write
-from tools.checks import (edits, guards, laws, packed, planted, refusals, rust_docs, trust,
+from tools.checks import (edits, guards, javascript, laws, packed, planted, refusals, rust_docs, trust,
                           wrong_lines)
 from tools.erase.source import Source
 from tools.tests import samples
@@ -288,3 +288,11 @@ def test_goals_of_functions() -> None:
     assert len(said.goals) == 3
     assert refusals.then(refusals.of([gcd], said), 'wrong: `least`') == 'clause returns'
     assert refusals.then(refusals.of([lcm], said), 'wrong: `least`') == 'clause returns-clause-least'
+
+
+def test_findings_in_javascript() -> None:
+    printed = ("a.js(1,2): error TS6133: 'x' is declared but its value is never read.\n"
+               "a.js(1,2): error TS2304: Cannot find name 'y'.\n"
+               "a.js(1,2): error TS2304: Cannot find name 'process'.\n"
+               "a.js(1,2): error TS2339: Property 'z' does not exist on type 'number'.\n")
+    assert [line.split("'")[1] for line in javascript.findings(printed)] == ['x', 'y']

@@ -11,7 +11,6 @@ from tools import write
 from tools.erase import documentation, examples
 from tools.erase.additions import Additions
 from tools.erase.callers import Callers
-from tools.erase.library import ROOT
 from tools.erase.source import Unknown
 from tools.tests import samples
 

@@ -72,8 +72,9 @@ def test_names(text: str, absent: list[str]) -> None:
 
 def test_errors() -> None:
     golden = dict(samples.cases('errors'))
-    assert pages.messages_in(golden['code']) == {'the first', 'the second', 'the third', 'the fourth', 'the fifth', '`n` is the sixth',
-                                       'a date, as "2024-02-29"'}
+    assert pages.messages_in(golden['code']) == {
+        'the first', 'the second', 'the third', 'the fourth', 'the fifth', '`n` is the sixth',
+        'a date, as "2024-02-29"'}
     assert pages.messages_on(golden['page']) == {'the first', 'the second', 'a date, as "2024-02-29"'}
     assert pages.exceptions_in(golden['package'], golden['driver']) == CLASSES | {'OverflowError ', 'TypeError ', 'MemoryError '}
     assert pages.rows_on(golden['page']) == CLASSES | {'2 CELLARCOVE_NOT_FITTING', 'TypeError '}

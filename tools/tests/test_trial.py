@@ -7,7 +7,7 @@ from tools.bindings.exports import EXPORTS
 API = '''\
 fn checked::gcd<T: Integer + Fits>(x: T, y: T) -> Option<T>
 fn calendar::Date::plus_days(&self, days: i64) -> Option<Self>
-fn lists::gcd_of<T: Integer>(numbers: &[T]) -> T
+fn applied::lists::gcd_of<T: Integer>(numbers: &[T]) -> T
 fn meeting<T>(now: T, a: (T, T)) -> T
 '''
 

@@ -19,7 +19,7 @@ const line = (name, large = false) => new Map(linesOf(name, textsOf(name, large)
 const parts = (text) => [text.split('\n').slice(0, -1).join(' '), text.split('\n').at(-1)];
 /** The calls whose result is a number, and those with a form for numbers from 2^63 on, which is called too. */
 const isNumber = (name) => !/^weekday/.test(name) && /^[IU]64Answer$|^[iu](32|64|8)$|^bool$/.test(CALLS[name][0][2]) && !writes(name);
-const forms = Object.keys(CALLS).sort().flatMap((name) => CALLS[name].map((form, place) => [name, place > 0])
+const forms = Object.keys(CALLS).sort().flatMap((name) => CALLS[name].map((_form, place) => [name, place > 0])
   .filter(([, large]) => !large || !/-\d/.test(textsOf(name, large).join(' ')) && name !== 'checkedDifference')); // which is below 0
 
 const PROGRAMS = {

@@ -5,7 +5,7 @@ import {createRequire} from 'node:module';
 import {test} from 'node:test';
 import {fileURLToPath} from 'node:url';
 import {inspect} from 'node:util';
-import {CALLS, camel, cellarcove, folder, judge, rows, STRUCTS} from './rows.js';
+import {CALLS, camel, cellarcove, folder, judge, rows} from './rows.js';
 
 const {BUILT_BY, Decimal, Fraction, fractionFromDecimal, PlainDate, ready, Refused, Status, tryFractionFromDecimal, VERSION, ...calls} = cellarcove;
 const {checkedDifference, divModFloor, easter, fractionAdd, gcd, gcdOf, inverseModulo, isLeapYear, isoWeek, lcm, nthRoot, plusMonths, shares, tryLcm} = calls;

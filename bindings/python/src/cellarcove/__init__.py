@@ -30,10 +30,10 @@ import enum
 import operator
 from decimal import Decimal
 from fractions import Fraction
-from typing import Any, NamedTuple, NoReturn, Protocol, SupportsIndex, Union, overload
+from typing import Any, NamedTuple, NoReturn, Protocol, SupportsIndex, Union
 
 from . import _calls, _columns
-from ._calls import *
+from ._calls import *  # noqa: F401, F403
 
 __version__ = _calls.VERSION
 __all__ = [

@@ -499,11 +499,11 @@ def places(numpy: Any, name: str, returned: str, out: Any) -> tuple[Any, ...]:
     found = out if isinstance(out, tuple) else (out,)
     if len(found) != len(returned):
         raise ValueError(f'{name}(): out is a tuple of {len(returned)} arrays')
-    for array, kind in zip(found, returned):
+    for given, kind in zip(found, returned):
         dtype = numpy.dtype(kind)
-        if getattr(array, 'dtype', None) != dtype:
+        if getattr(given, 'dtype', None) != dtype:
             raise TypeError(
-                f'{name}(): out is of {getattr(array, "dtype", type(array))}, '
+                f'{name}(): out is of {getattr(given, "dtype", type(given))}, '
                 f'and a result is of {dtype}'
             )
     return found
