@@ -261,7 +261,7 @@ export function tryFractionFromDecimal(...given) {
 const CLASSES = {
   Fraction: (num, den) => () => new Fraction(num(), den(), MADE),
   Date: (year, month, day) => () => new PlainDate(year(), month(), day(), MADE),
-  Decimal: (isNegative, whole, part) => (returned, places) => new Decimal(isNegative(), whole(), part(), places, MADE), // its second argument
+  Decimal: (isNegative, whole, part) => (_returned, places) => new Decimal(isNegative(), whole(), part(), places, MADE), // its second argument
 };
 
 // ---- memory

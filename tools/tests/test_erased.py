@@ -15,7 +15,7 @@ from tools.tests import samples
 CHANGES = 3_000
 QUIET = ('allow', 'cfg_attr', 'cold', 'deprecated', 'doc', 'inline', 'must_use', 'track_caller')
 GOOD = ('same', 'by rules')
-SAYS = ('Of 1 functions in Rust, 1 are their source with its contracts deleted, 0 differ only by 7 '
+SAYS = ('Of 1 functions in Rust, 1 are their source with its contracts deleted, 0 differ only by 8 '
         'mechanical rewrites,')
 CASES = samples.cases('erased')
 
