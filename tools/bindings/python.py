@@ -6,7 +6,7 @@ from collections.abc import Callable, Sequence
 from typing import Any
 
 from tools import ROOT
-from tools.bindings.examples import DOCS, without_examples
+from tools.bindings.examples import DOCS, of_call, without_examples
 from tools.bindings.exports import EXPORTS, Call, Field, c_type, filled, without_returns
 
 RENAMED = {'fraction_limit_denominator': 'limit_denominator'}
@@ -127,10 +127,36 @@ def raised(call: Call, unsigned: Call | None = None) -> str:
 
 
 def examples(name: str) -> list[tuple[str, str]]:
-    """The calls of a name of which the docstring has the results, with these."""
+    """The calls of a name of which the docstring has the results, with these: those of the last part
+    of rows.txt, or if it has none those of the comment of the export."""
     found = [(call, value) for call, value in re.findall(r'^(\w+\(.*\))  # (.*)$', ROWS, re.M) if call.startswith(f'{name}(')]
-    assert found, f'{name}: the last part of rows.txt has no example'
-    return found
+    return found or examples_of_comment(name)
+
+
+def examples_of_comment(name: str) -> list[tuple[str, str]]:
+    """The calls in the comment of an export, as Python writes them and what they return."""
+    call = next((forms[0] for other, forms in public_calls() if other == name), None)
+    classes = (*CLASSES, 'Decimal')
+    assert call and not any(end in call.result for end in classes if not call.writes), (
+        f'{name}: the last part of rows.txt has no example')
+    return [(f'{name}({", ".join(map(argument, call.taken, shown.arguments))})',
+             returned(call, shown.result)) for shown in of_call(call)]
+
+
+def returned(call: Call, parts: list[int]) -> str:
+    """What a call returns in an example, as Python writes it."""
+    if call.result.startswith('Date'):
+        return 'Date(year={}, month={}, day={})'.format(*parts)
+    if call.result.startswith('Fraction'):
+        return f'Fraction({parts[0]}, {parts[1]})'
+    if call.result == 'bool':
+        return str(bool(parts[0]))
+    return str((*parts,) if call.writes or len(parts) > 1 else parts[0])
+
+
+def argument(parameter: Field, value: Any) -> str:
+    """An argument of an example, as Python writes it."""
+    return f'Date{value!r}' if parameter.kind == 'Date' else repr(value)
 
 
 def of_columns(call: Call) -> str:

@@ -186,6 +186,9 @@ def texts_of(library: RustLibrary) -> dict[str, str]:
     for name, exported in library.moved().items():
         made[f'{name}.rs'] = made_from(f'crates/{MOVED}/src/{name}.rt') + f'//! It is [`{MOVED}::{name}`](crate::{MOVED}::{name}).\n\n' \
             f'pub use crate::{MOVED}::{name}::{{{", ".join(exported)}}};\n'
+    # one import has all calls of modules named `checked`
+    made['checked.rs'] = made.get('checked.rs', '') + ''.join(
+        f'#[doc(inline)]\npub use crate::{"::".join(place)}::{{{", ".join(names)}}};\n' for place, names in library.checked().items())
     others = additions.modules()
     made['lib.rs'] = head_of_root(library, others, made['lib.rs'])
     made |= {place: made_from(f'rust/by_hand/src/{place}') + text for place, text in others.items()}

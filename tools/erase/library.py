@@ -215,6 +215,14 @@ class RustLibrary(Library):
                              | {inner.name for inner in self.below(module) if inner.public})
                 for name, module in below if self.is_open(module)}
 
+    def checked(self) -> dict[Place, list[str]]:
+        """The modules named `checked` below other modules, each with its public items."""
+        found: dict[Place, list[str]] = {}
+        for (_, _, name), place in sorted(self.public.items(), key=lambda row: row[1]):
+            if place[1:] and place[-1] == 'checked':
+                found.setdefault(place, []).append(name)
+        return found
+
     def place_of_type(self, module: Module, name: str) -> Place | None:
         """The public place of a type that the module's crate has."""
         return next((place for (crate, _, found), place in self.public.items() if crate == module.crate and found == name), None)

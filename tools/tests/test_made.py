@@ -7,7 +7,7 @@ from pathlib import Path
 import pytest
 
 from tools import ROOT, as_made, write
-from tools.bindings import examples, exports, files, orders, python
+from tools.bindings import examples, exports, files, languages, orders, python
 from tools.erase import documentation
 from tools.erase.source import Source, Unknown
 from tools.pages import api, crate_page, picture, reference
@@ -156,3 +156,29 @@ def test_orders_of_statuses(name: str) -> None:
     if name == 'fraction_times':    # the words before
         others = [sentence.replace(' and the argument, reduced, fits', '') for sentence in call.statuses]
     assert 'the comment says' in orders.wrong(call._replace(statuses=others))
+
+
+def test_files_of_a_new_export(tmp_path: Path, monkeypatch: pytest.MonkeyPatch) -> None:
+    """A call and its export need three files by hand: its source, that of the export, and what
+    Python computes. All else that languages know of it is made, with the examples of its comment."""
+    name, old = 'has_no_common_factor', 'is_coprime'
+    sources = shutil.copytree(exports.SOURCES, tmp_path / 'src')
+    text = (sources / 'coprime.rt').read_text()                 # of the export
+    added = text[text.index('/// Returns `true` if the greatest'):text.index('/// Returns both numbers')]
+    (sources / 'coprime.rt').write_text(text + '\n' + added.replace(old, name))
+    paths = [*languages.paths(), f'applied::coprime::{name}']   # of the source
+    results = {**examples.RESULTS, name: examples.RESULTS[old]}   # of by_python.toml
+    monkeypatch.setattr(exports, 'SOURCES', sources)
+    monkeypatch.setattr(languages, 'paths', lambda: paths)
+    monkeypatch.setattr(examples, 'RESULTS', results)
+    exports.EXPORTS.cache_clear()
+    made = files.made() | files.calls()
+    call = exports.EXPORTS().forms()[name][0]
+    shown = python.examples(name)
+    assert all(examples.holds(example) for example in examples.of_call(call))
+    monkeypatch.undo()
+    exports.EXPORTS.cache_clear()
+    assert shown == [(f'{name}(8, 15)', 'True'), (f'{name}(8, 6)', 'False')]
+    lacking = {place for place, text in made.items()
+               if not re.search(f'{name}|hasNoCommonFactor', text)}
+    assert lacking == set()
