@@ -7,7 +7,7 @@ from pathlib import Path
 import pytest
 
 from tools import ROOT, as_made, write
-from tools.bindings import examples, exports, files, languages, orders, python
+from tools.bindings import by_python, examples, exports, files, languages, orders, python
 from tools.erase import documentation
 from tools.erase.source import Source, Unknown
 from tools.pages import api, crate_page, picture, reference
@@ -167,7 +167,7 @@ def test_files_of_a_new_export(tmp_path: Path, monkeypatch: pytest.MonkeyPatch) 
     added = text[text.index('/// Returns `true` if the greatest'):text.index('/// Returns both numbers')]
     (sources / 'coprime.rt').write_text(text + '\n' + added.replace(old, name))
     paths = [*languages.paths(), f'applied::coprime::{name}']   # of the source
-    results = {**examples.RESULTS, name: examples.RESULTS[old]}   # of by_python.toml
+    results = {**by_python.RESULTS, name: by_python.RESULTS[old]}   # of by_python.toml
     monkeypatch.setattr(exports, 'SOURCES', sources)
     monkeypatch.setattr(languages, 'paths', lambda: paths)
     monkeypatch.setattr(examples, 'RESULTS', results)
