@@ -38,7 +38,7 @@ TEMPLATES = ROOT / 'tools/pages/templates'
 BELOW = ('is a link to the contract that says it',
          'stand the contract that says it and the definitions that it cites, each of them once')
 # What the repository says in the place of the signs and words of README.md of rust/reference.
-SIGNS = 'They are on [the first page of the libraries](../../rust/reference/README.md).'
+SIGNS = 'The signs are on [the first page of the libraries](../../rust/reference/README.md).'
 LEMMA = re.compile(r'(?:abbrev |unfoldable )?pub (?:ruleset ([^\s:]+) =|([^\s:]+) :)')
 RENAMED = re.compile(r'^pub use [\w.]+\.\{(\S+) as (\S+)\}')
 EXPORT = re.compile(r'pub use Rattle\.(\w+)\.([\w.]+)\.\{([^}]*)\}')
