@@ -124,13 +124,13 @@ pub(crate) fn check_second_positive<T: Integer>(
 #[track_caller]
 pub(crate) fn check_choice(number: usize, choice: &[u64], n: u64, reason: &'static str) {
     if !is_out(number) {
-        tests::check_choice(choice, n, reason);
+        crate::applied::guards::check_choice(choice, n, reason);
     }
 }
 
 #[track_caller]
 pub(crate) fn check_rank(number: usize, rank: u64, n: u64, length: usize, reason: &'static str) {
     if !is_out(number) {
-        tests::check_rank(rank, n, length, reason);
+        crate::applied::guards::check_rank(rank, n, length, reason);
     }
 }

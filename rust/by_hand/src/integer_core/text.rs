@@ -1,0 +1,7 @@
+//! What clippy wants beside `new`.
+
+impl Default for Buffer {
+    fn default() -> Self {
+        Self::new()
+    }
+}
