@@ -3,6 +3,7 @@ import difflib
 import itertools
 import os
 import pathlib
+import re
 import shutil
 import subprocess
 from collections.abc import Iterable, Iterator, Mapping
@@ -15,7 +16,7 @@ DEBIAN = (ROOT / 'tools/gate/debian.toml').read_text() if REGISTRY.is_dir() else
 
 def dependencies(root: pathlib.Path = ROOT) -> dict[str, list[str]]:
     """The crates that the gate proves, each with those on which it depends."""
-    heads = (line.partition(':') for line in (root / 'crates.txt').read_text().splitlines() if ':' in line)
+    heads = (line.partition(':') for line in (root / 'crates.txt').read_text().splitlines() if re.match(r'\w.*:', line))
     return {name.split()[0]: [word for word in below.split() if (root / 'crates' / word).is_dir()] for name, _, below in heads}
 
 

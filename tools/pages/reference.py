@@ -30,9 +30,8 @@ from tools.pages.crate_page import (BY_FILE, FIRST, OF_LIBRARIES, PAGES, THEOREM
 
 CRATES = ROOT / 'crates'
 TOOLCHAIN = ROOT / OF_LIBRARIES / 'README.md'      # by hand
-NAMES = (THEOREMS, 'callers', 'integer_core', 'integer_roots', 'num_integer', 'ratio64',
-         'intcalc_core', 'intcalc', 'modular', 'calendar', 'bounded_integers', 'applied',
-         'cellarcove_c')
+NAMES = ('integer_core', 'integer_roots', 'num_integer', 'ratio64', 'intcalc_core', 'intcalc',
+         'modular', 'calendar', 'applied', 'bounded_integers', 'cellarcove_c', THEOREMS, 'callers')
 TEMPLATES = ROOT / 'tools/pages/templates'
 # What stands below a sentence of mathematics, in the repository and in a release.
 BELOW = ('is a link to the contract that says it',
