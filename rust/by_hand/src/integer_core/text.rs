@@ -1,4 +1,4 @@
-//! What clippy wants beside `new`.
+//! An empty buffer, as `Default` gives it.
 
 impl Default for Buffer {
     fn default() -> Self {
