@@ -2,7 +2,9 @@
 //! 4.5.2, algorithm X). The loop here stops one iteration earlier.
 
 ghost use Rattle.std.specs.Prelude.{◌≡◌, ◌≢◌, ◌≤◌, ◌+◌, ◌*◌, ◌*ℤ◌, pos, unsigned_abs};
+ghost use Rattle.std.specs.Option.{MatchOption};
 ghost use Rattle.integer_core.specs.Bezout.{AreEuclidIterations, EuclidEnds, HasPair, IsBezoutAnswer, IsEuclidIteration, IsSmallPair, NeedsBoth, sign};
+ghost use Rattle.integer_core.specs.Division.{IsTruncated};
 ghost use Rattle.integer_core.specs.Divisors.{Divides, GcdFits, IsGreatestCommonDivisor};
 ghost use Rattle.integer_core.specs.Fibonacci.{fibonacci};
 ghost use Rattle.integer_core.specs.Only.{IsOnly};
@@ -11,7 +13,7 @@ ghost use Rattle.integer_core.specs.Runs.{RunHasIterations};
 use crate::Integer;
 use crate::fitting::{difference, negated, product};
 use crate::guards::check_pair;
-use crate::operators::{is_negative, is_zero, one, zero};
+use crate::operators::{is_minus_one, is_negative, is_zero, one, zero};
 
 /// A greatest common divisor with Bezout's coefficients: for the operands `a` and `b`, `a * x + b * y`
 /// equals `gcd`. `240.extended_gcd(&46)` is `ExtendedGcd { gcd: 2, x: -9, y: 47 }`.
@@ -75,6 +77,27 @@ impl<T: Integer + Copy> Row<T> {
     }
 }
 
+/// Returns the quotient rounded toward zero and its remainder, or `None` if `d` divides `n`. By one division
+/// the loop below both tests and makes its next row. By -1 it does not divide: the quotient need not fit.
+#[inline]
+fn inexact_division<T: Integer + Copy>(n: &T, d: &T) -> Option<(T, T)>
+    requires in_range { T.fits (T.value n.now) × T.fits (T.value d.now) }
+    requires nonzero { T.value d.now ≢ pos 0 }
+    ensures { MatchOption result (Divides (T.value d.now) (T.value n.now))
+        (λ (q, r). (¬ (Divides (T.value d.now) (T.value n.now))) × ((T.fits (T.value q) × T.fits (T.value r))
+        × IsTruncated (T.value n.now) (T.value d.now) (T.value q) (T.value r))) }
+{
+    if is_minus_one(*d) {
+        return None;
+    }
+    let (quotient, remainder) = n.div_rem(d);
+    if is_zero(*&remainder) {
+        None
+    } else {
+        Some((quotient, remainder))
+    }
+}
+
 /// Returns the row whose remainder is the greatest common divisor up to its sign, and the number of
 /// iterations. The loop never computes the row with the remainder 0, whose coefficients need not fit.
 fn last_row<T: Integer + Copy>(a: T, b: T) -> (Row<T>, u32)
@@ -101,12 +124,11 @@ fn last_row<T: Integer + Copy>(a: T, b: T) -> (Row<T>, u32)
         y: one(),
     };
     let mut iterations = 0;
-    'rows: while !previous.remainder.is_multiple_of(&current.remainder) {
-        let (quotient, remainder) = previous.remainder.div_rem(&current.remainder);
-        let x = difference(previous.x, product(*&quotient, *&current.x));
-        let y = difference(previous.y, product(quotient, *&current.y));
+    'rows: while let Some((q, r)) = inexact_division(&previous.remainder, &current.remainder) {
+        let x = difference(previous.x, product(*&q, *&current.x));
+        let y = difference(previous.y, product(q, *&current.y));
         previous = current;
-        current = Row { remainder, x, y };
+        current = Row { remainder: r, x, y };
         iterations += 1;
     }
     (current, iterations)

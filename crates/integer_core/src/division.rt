@@ -10,6 +10,7 @@ use crate::operators::{is_negative, is_zero, quotient, remainder};
 use num_traits::Num;
 
 /// Returns the quotient rounded toward zero, and its remainder.
+#[inline]
 pub(crate) fn div_rem<T: Copy + Num>(n: T, d: T) -> (T, T)
     requires exact { T.exact }
     requires in_range { T.fits (T.value n) × T.fits (T.value d) }

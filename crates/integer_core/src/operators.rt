@@ -67,12 +67,12 @@ pub fn is_negative<T: Num + PartialOrd>(a: T) -> bool
 
 /// Returns `true` if `a` is -1, the only divisor whose quotient may not fit. `is_minus_one(-1)` is
 /// `true`.
-pub fn is_minus_one<T: Copy + Num + PartialOrd>(a: T) -> bool
+pub fn is_minus_one<T: Num + PartialOrd>(a: T) -> bool
     requires exact { T.exact }
     requires in_range { T.fits (T.value a) }
     ensures { IsTrue result ↔ (T.value a ≡ negsuc 0) }
 {
-    is_negative(a) && is_zero(fitting::successor(a))
+    a < zero() && is_zero(fitting::successor(a))
 }
 
 /// Returns `a + b`. `sum(2, 3)` is `5`.
@@ -122,6 +122,7 @@ pub fn product<T: Num>(a: T, b: T) -> T
 /// # Panics
 ///
 /// In plain Rust, if `b` is 0, or if the quotient does not fit.
+#[inline]
 pub fn quotient<T: Num>(a: T, b: T) -> T
     requires exact { T.exact }
     requires nonzero { T.value b ≢ pos 0 }
@@ -138,6 +139,7 @@ pub fn quotient<T: Num>(a: T, b: T) -> T
 /// # Panics
 ///
 /// In plain Rust, if `b` is 0, or if the quotient does not fit.
+#[inline]
 pub fn remainder<T: Num>(a: T, b: T) -> T
     requires exact { T.exact }
     requires nonzero { T.value b ≢ pos 0 }

@@ -4,7 +4,7 @@
 
 use crate::integer_core::fitting::{difference, negated, product};
 use crate::integer_core::guards::check_pair;
-use crate::integer_core::operators::{is_negative, is_zero, one, zero};
+use crate::integer_core::operators::{is_minus_one, is_negative, is_zero, one, zero};
 use crate::integer_core::Integer;
 
 /// A greatest common divisor with Bezout's coefficients: for the operands `a` and `b`,
@@ -63,6 +63,23 @@ impl<T: Integer + Clone> Row<T> {
     }
 }
 
+/// Returns the quotient rounded toward zero and its remainder, or `None` if `d` divides `n`. By one
+/// division the loop below both tests and makes its next row. By -1 it does not divide: the
+/// quotient need not fit.
+#[track_caller]
+#[inline]
+fn inexact_division<T: Integer + Clone>(n: &T, d: &T) -> Option<(T, T)> {
+    if is_minus_one(d.clone()) {
+        return None;
+    }
+    let (quotient, remainder) = n.div_rem(d);
+    if is_zero(remainder.clone()) {
+        None
+    } else {
+        Some((quotient, remainder))
+    }
+}
+
 /// Returns the row whose remainder is the greatest common divisor up to its sign, and the number of
 /// iterations. The loop never computes the row with the remainder 0, whose coefficients need not
 /// fit.
@@ -75,12 +92,11 @@ fn last_row<T: Integer + Clone>(a: T, b: T) -> (Row<T>, u32) {
         y: one(),
     };
     let mut iterations = 0;
-    while !previous.remainder.is_multiple_of(&current.remainder) {
-        let (quotient, remainder) = previous.remainder.div_rem(&current.remainder);
-        let x = difference(previous.x, product(quotient.clone(), current.x.clone()));
-        let y = difference(previous.y, product(quotient, current.y.clone()));
+    while let Some((q, r)) = inexact_division(&previous.remainder, &current.remainder) {
+        let x = difference(previous.x, product(q.clone(), current.x.clone()));
+        let y = difference(previous.y, product(q, current.y.clone()));
         previous = current;
-        current = Row { remainder, x, y };
+        current = Row { remainder: r, x, y };
         iterations += 1;
     }
     (current, iterations)

@@ -8,6 +8,7 @@ use num_traits::Num;
 
 /// Returns the quotient rounded toward zero, and its remainder.
 #[track_caller]
+#[inline]
 pub(crate) fn div_rem<T: Copy + Num>(n: T, d: T) -> (T, T) {
     (quotient(n, d), remainder(n, d))
 }

@@ -137,8 +137,8 @@ pub fn is_negative<T: Num + PartialOrd>(a: T) -> bool {
 ///
 /// [Contract](crate::definitions::num_integer#operatorsis_minus_one)
 #[must_use]
-pub fn is_minus_one<T: Copy + Num + PartialOrd>(a: T) -> bool {
-    is_negative(a) && is_zero(fitting::successor(a))
+pub fn is_minus_one<T: Num + PartialOrd>(a: T) -> bool {
+    a < zero() && is_zero(fitting::successor(a))
 }
 
 /// Returns `a + b`.
@@ -224,6 +224,7 @@ pub fn product<T: Integer>(a: T, b: T) -> T {
 /// [Contract](crate::definitions::num_integer#operatorsquotient)
 #[track_caller]
 #[must_use]
+#[inline]
 pub fn quotient<T: Num>(a: T, b: T) -> T {
     a / b
 }
@@ -245,6 +246,7 @@ pub fn quotient<T: Num>(a: T, b: T) -> T {
 /// [Contract](crate::definitions::num_integer#operatorsremainder)
 #[track_caller]
 #[must_use]
+#[inline]
 pub fn remainder<T: Num>(a: T, b: T) -> T {
     a % b
 }

@@ -1,4 +1,4 @@
-use Rattle.integer_core.proofs.ForAnswers.{arith, iff_false, inexact, inexact_quotient_fits, rows_fit_first, iteration_fits, rows_fit_iteration, sign_fits, rows_few, last_gcd, last_at_once, last_after_iterations, reaches_last}
+use Rattle.integer_core.proofs.ForAnswers.{arith, rows_fit_first, iteration_fits, rows_fit_iteration, sign_fits, rows_few, last_gcd, last_at_once, last_after_iterations, reaches_last}
 use Rattle.integer_core.proofs.bezout.last_row.Goals as goal
 
 pub rows-init : goal.rows-init
@@ -7,43 +7,39 @@ rows-init g c =
     rw (first.remainder, first.x, first.y, c.zero.ensures.value, c.one.ensures.value)
     (rows_fit_first g.met.T.Integer.range_law c.requires.in_range.0 c.requires.in_range.1 c.requires.nonzero c.requires.has_pair)
 
-pub div_rem-quotient-requires-clause-quotient_fits : goal.div_rem-quotient-requires-clause-quotient_fits
-div_rem-quotient-requires-clause-quotient_fits g c q h =
-    let goes_on = iff_false c.is_multiple_of.ensures c.rows-test.true in
-    let keeps = c.rows.invariant in
-    inexact_quotient_fits keeps.range keeps.previous_fits.remainder keeps.current_fits.remainder h.division.division (inexact h.division goes_on)
-
 pub product-requires-clause-product_fits : goal.product-requires-clause-product_fits
 product-requires-clause-product_fits g c =
-    (iteration_fits c.rows.invariant (iff_false c.is_multiple_of.ensures c.rows-test.true) c.div_rem-quotient.ensures.truncated).0.product
+    let parts = c.in-Some.ensures in
+    (iteration_fits c.rows.invariant parts.0 parts.1.1).0.product
 
 pub difference-x-requires-clause-difference_fits : goal.difference-x-requires-clause-difference_fits
 difference-x-requires-clause-difference_fits g c =
-    let iteration = iteration_fits c.rows.invariant (iff_false c.is_multiple_of.ensures c.rows-test.true) c.div_rem-quotient.ensures.truncated in
-    rw c.product.ensures.value iteration.0.next.in_range
+    let parts = c.in-Some.ensures in
+    rw c.product.ensures.value (iteration_fits c.rows.invariant parts.0 parts.1.1).0.next.in_range
 
-pub product-requires-in-rows-clause-product_fits : goal.product-requires-in-rows-clause-product_fits
-product-requires-in-rows-clause-product_fits g c =
-    (iteration_fits c.rows.invariant (iff_false c.is_multiple_of.ensures c.rows-test.true) c.div_rem-quotient.ensures.truncated).1.product
+pub product-requires-in-Some-clause-product_fits : goal.product-requires-in-Some-clause-product_fits
+product-requires-in-Some-clause-product_fits g c =
+    let parts = c.in-Some.ensures in
+    (iteration_fits c.rows.invariant parts.0 parts.1.1).1.product
 
 pub difference-y-requires-clause-difference_fits : goal.difference-y-requires-clause-difference_fits
 difference-y-requires-clause-difference_fits g c =
-    let iteration = iteration_fits c.rows.invariant (iff_false c.is_multiple_of.ensures c.rows-test.true) c.div_rem-quotient.ensures.truncated in
-    rw c.product-in-rows.ensures.value iteration.1.next.in_range
+    let parts = c.in-Some.ensures in
+    rw c.product-in-Some.ensures.value (iteration_fits c.rows.invariant parts.0 parts.1.1).1.next.in_range
 
 pub overflow_add-iterations : goal.overflow_add-iterations
 overflow_add-iterations g c = omega (arith, rows_few c.requires.nonzero c.rows.invariant)
 
 pub rows-preserved : goal.rows-preserved
 rows-preserved g c =
-    let goes_on = iff_false c.is_multiple_of.ensures c.rows-test.true in
-    rw (c.difference-x.ensures.value, c.product.ensures.value, c.difference-y.ensures.value, c.product-in-rows.ensures.value)
-    (rows_fit_iteration c.rows.invariant goes_on c.div_rem-quotient.ensures.truncated c.div_rem-quotient.ensures.in_range.1)
+    let parts = c.in-Some.ensures in
+    rw (c.difference-x.ensures.value, c.product.ensures.value, c.difference-y.ensures.value, c.product-in-Some.ensures.value)
+    (rows_fit_iteration c.rows.invariant parts.0 parts.1.1 parts.1.0.1)
 
 pub returns : goal.returns
 returns g c =
     let h = c.rows.invariant in
-    let ends = c.is_multiple_of.ensures.0 c.rows-test.false in
+    let ends = c.in_default.ensures in
     record {
       x_fits = sign_fits h.range h.current_fits.remainder h.current_fits.x;
       y_fits = sign_fits h.range h.current_fits.remainder h.current_fits.y;
