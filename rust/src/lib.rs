@@ -55,6 +55,7 @@ mod serde_strings;
 pub mod shares;
 pub(crate) mod sign_magnitude;
 
+pub(crate) use crate::integer_core::fitting;
 pub(crate) use crate::integer_core::guards;
 pub(crate) use crate::integer_core::padded;
 pub(crate) use crate::integer_core::Magnitudes;

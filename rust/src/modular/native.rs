@@ -24,7 +24,6 @@ impl<T: NativeInteger> Modular for T {
 }
 
 /// Returns `a * b` modulo `m` as a magnitude.
-#[track_caller]
 fn product_as_magnitude<T: Fits>(a: T, b: T, m: T) -> u128 {
     let (a_negative, x) = a.parts();
     let (b_negative, y) = b.parts();
