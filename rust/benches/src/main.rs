@@ -88,6 +88,44 @@ fn products() {
     }
 }
 
+/// Sums modulo a number of 64 bits, beside the remainder in `u128`: of residues, and of any numbers.
+fn sums() {
+    use cellarcove::modular::sum_modulo;
+    let remainder = |a: i64, b: i64, m: u64| {
+        ((u128::from(a as u64) + u128::from(b as u64)) % u128::from(m)) as u64
+    };
+    let inputs = pairs(62);
+    for modulus in [(1 << 63) - 25, 10_007] {
+        print(
+            &format!("sum_modulo {modulus}"),
+            time(&inputs, |a, b| {
+                sum_modulo(a as u64, b as u64, black_box(modulus))
+            }),
+            time(&inputs, |a, b| remainder(a, b, black_box(modulus))),
+        );
+    }
+}
+
+/// The gcd of neighbours of Fibonacci's numbers, beside that of `num-integer`: of one pair over and over, whose branches the
+/// processor learns, and of 48 pairs in turn.
+fn neighbours() {
+    let mut fibonacci = vec![1, 2];
+    while fibonacci.len() < 89 {
+        fibonacci.push(fibonacci[fibonacci.len() - 1] + fibonacci[fibonacci.len() - 2]);
+    }
+    for (name, count) in [("one pair", 1), ("48 pairs", 48)] {
+        let inputs: Vec<(i64, i64)> = (0..4096)
+            .map(|index| 40 + 47 - index % count)
+            .map(|index| (fibonacci[index], fibonacci[index + 1]))
+            .collect();
+        print(
+            &format!("gcd of neighbours, {name}"),
+            time(&inputs, cellarcove::gcd),
+            time(&inputs, num_integer::gcd),
+        );
+    }
+}
+
 /// Products and powers modulo a number at an integer of a range, beside those at `i64`.
 fn ranges() {
     use cellarcove::bounded_integers::{Bounded, Range};
@@ -159,7 +197,7 @@ fn main() {
         "gcd of i128" 62 |it, a, b| it::gcd(i128::from(a) << 50, i128::from(b));
         "lcm" 31 |it, a, b| it::lcm(a, b);
         "gcd_lcm" 31 |it, a, b| it::gcd_lcm(a, b);
-        "extended_gcd" 62 |it, a, b| it::Integer::extended_gcd(&a, &b).x;
+        "extended_gcd" 62 |it, a, b| it::Integer::extended_gcd(&a, &b);
         "average_floor" 62 |it, a, b| it::average_floor(a, -b);
         "sqrt" 62 |it, a, _b| it::sqrt(a);
         "cbrt" 62 |it, a, _b| it::cbrt(a);
@@ -168,7 +206,9 @@ fn main() {
         "multinomial of three" 3 |it, a, b| it::multinomial(&[a, b, 2]);
     }
     lists();
+    neighbours();
     products();
+    sums();
     ranges();
     dates::print_all();
 }
