@@ -371,12 +371,12 @@ CELLARCOVE_CONST bool cellarcove_is_multiple_of_u64(uint64_t x, uint64_t y);
 
 /* ---- Many numbers divided by one ---- */
 
-/** Writes the quotients of the numbers by a positive divisor, rounded down, and returns the status. Those of -8, 8
- *  and 7 by 3 are -3, 2 and 2. If the status is not 0, quotients stays as it is. numbers points to numbers_len
- *  aligned numbers, which do not change during the call; it may be null if numbers_len is 0. quotients points to
- *  quotients_len aligned numbers, which nothing else reads or writes during the call; it may be null if
- *  quotients_len is 0. CELLARCOVE_OUTSIDE if the divisor is not positive, or if there is not one quotient for each
- *  number. */
+/** Writes the quotients of the numbers by a divisor, rounded down, and returns the status. Those of -8, 8 and 7 by
+ *  3 are -3, 2 and 2, and those of -8, 8 and 7 by -3 are 2, -3 and -3. If the status is not 0, quotients stays as
+ *  it is. numbers points to numbers_len aligned numbers, which do not change during the call; it may be null if
+ *  numbers_len is 0. quotients points to quotients_len aligned numbers, which nothing else reads or writes during
+ *  the call; it may be null if quotients_len is 0. CELLARCOVE_OUTSIDE if the divisor is 0, or if there is not one
+ *  quotient for each number. CELLARCOVE_NOT_FITTING if a quotient does not fit. */
 CELLARCOVE_WRITES uint32_t cellarcove_div_floor_each_i64(const int64_t *numbers, size_t numbers_len,
     int64_t divisor, int64_t *CELLARCOVE_RESTRICT quotients, size_t quotients_len);
 

@@ -666,9 +666,10 @@ template <class N0, class N1> [[nodiscard]] auto is_multiple_of(N0 x, N1 y) {
 
 // ---- Many numbers divided by one
 
-/// Writes the quotients of the numbers by a positive divisor, rounded down, and returns the status. Those of -8, 8
-/// and 7 by 3 are -3, 2 and 2. If the status is not 0, quotients stays as it is. status::outside if the divisor is
-/// not positive, or if there is not one quotient for each number.
+/// Writes the quotients of the numbers by a divisor, rounded down, and returns the status. Those of -8, 8 and 7 by 3
+/// are -3, 2 and 2, and those of -8, 8 and 7 by -3 are 2, -3 and -3. If the status is not 0, quotients stays as it
+/// is. status::outside if the divisor is 0, or if there is not one quotient for each number. status::not_fitting if a
+/// quotient does not fit.
 [[nodiscard]] inline status div_floor_each(const std::int64_t *numbers, detail::checked<std::size_t> numbers_length, detail::checked<std::int64_t> divisor, std::int64_t *quotients, detail::checked<std::size_t> quotients_length) {
     if (auto error = detail::error_of(numbers_length, divisor, quotients_length); error != status::answer) {
         return error;

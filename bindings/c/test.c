@@ -500,12 +500,17 @@ static void divided_by_one(void) {
     int64_t found[5] = {7, 7, 7, 7, 7};
     uint64_t naturals[3] = {7, 7, 7};
     CHECK(cellarcove_div_floor_each_i64(numbers, 5, 0, found, 5) == CELLARCOVE_OUTSIDE && found[0] == 7 && found[4] == 7);
-    CHECK(cellarcove_div_floor_each_i64(numbers, 5, -3, found, 5) == CELLARCOVE_OUTSIDE && found[0] == 7);
     CHECK(cellarcove_div_floor_each_i64(numbers, 5, 3, found, 4) == CELLARCOVE_OUTSIDE && found[0] == 7);
     CHECK(cellarcove_div_floor_each_i64(numbers, 5, 3, found, 5) == CELLARCOVE_ANSWER && found[0] == -3 && found[1] == 2 && found[2] == 0);
     CHECK(found[3] == -INT64_C(3074457345618258603) && found[4] == INT64_C(3074457345618258602));
     CHECK(cellarcove_div_floor_each_i64(numbers, 5, 1, found, 5) == CELLARCOVE_ANSWER && found[0] == -8 && found[3] == INT64_MIN && found[4] == INT64_MAX);
     CHECK(cellarcove_div_floor_each_i64(numbers, 5, INT64_MAX, found, 5) == CELLARCOVE_ANSWER && found[0] == -1 && found[3] == -2 && found[4] == 1);
+    CHECK(cellarcove_div_floor_each_i64(numbers, 5, -3, found, 5) == CELLARCOVE_ANSWER && found[0] == 2 && found[1] == -3 && found[2] == 0);
+    CHECK(found[3] == INT64_C(3074457345618258602) && found[4] == -INT64_C(3074457345618258603));
+    CHECK(cellarcove_div_floor_each_i64(numbers, 5, INT64_MIN, found, 5) == CELLARCOVE_ANSWER && found[0] == 0 && found[1] == -1 && found[3] == 1 && found[4] == -1);
+    CHECK(cellarcove_div_floor_each_i64(numbers, 5, -1, found, 5) == CELLARCOVE_NOT_FITTING && found[0] == 0 && found[3] == 1);
+    CHECK(cellarcove_div_floor_each_i64(numbers, 3, -1, found, 3) == CELLARCOVE_ANSWER && found[0] == 8 && found[1] == -8 && found[2] == 0);
+    CHECK(cellarcove_div_floor_each_i64(numbers, 5, -1, found, 4) == CELLARCOVE_OUTSIDE && found[0] == 8);
     CHECK(cellarcove_div_floor_each_u64(counts, 3, 0, naturals, 3) == CELLARCOVE_OUTSIDE && naturals[0] == 7);
     CHECK(cellarcove_div_floor_each_u64(counts, 3, 3, naturals, 2) == CELLARCOVE_OUTSIDE && naturals[0] == 7);
     CHECK(cellarcove_div_floor_each_u64(counts, 3, 3, naturals, 3) == CELLARCOVE_ANSWER && naturals[0] == 3 && naturals[1] == UINT64_MAX / 3 && naturals[2] == 0);

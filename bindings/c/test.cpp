@@ -72,7 +72,8 @@ static void numbers() {
     CHECK(cellarcove::shares(-100, std::vector<std::uint64_t>{1, 1, 1}, parts) == status::answer && parts == std::vector<std::int64_t>{-34, -33, -33});
     CHECK(cellarcove::shares(-100, std::vector<std::uint64_t>{0, 0, 0}, parts) == status::outside);
     CHECK(cellarcove::div_floor_each(std::vector<std::int64_t>{-8, 8, 7}, 3, parts) == status::answer && parts == std::vector<std::int64_t>{-3, 2, 2});
-    CHECK(cellarcove::div_floor_each(std::vector<std::int64_t>{-8, 8, 7}, -3, parts) == status::outside && parts[0] == -3);
+    CHECK(cellarcove::div_floor_each(std::vector<std::int64_t>{-8, 8, 7}, -3, parts) == status::answer && parts == std::vector<std::int64_t>{2, -3, -3});
+    CHECK(cellarcove::div_floor_each(std::vector<std::int64_t>{INT64_MIN, 8, 7}, -1, parts) == status::not_fitting && parts[0] == 2);
     CHECK(cellarcove::div_floor_each(std::vector<std::int64_t>{-8, 8, 7}, UINT64_MAX, parts) == status::not_fitting);
     CHECK(*cellarcove::date_from_text("-0001-12-31") == *date::make(-1, 12, 31) && cellarcove::date_from_text("2026-1-1") == status::no_date);
     CHECK(*cellarcove::fraction_to_decimal(*fraction::make(-1, 20), 2) == cellarcove::decimal{true, 0, 5, 2});

@@ -14,7 +14,7 @@ VERSION = re.findall(r'^version = "(.*)"$', (ROOT / 'rust/Cargo.toml').read_text
 NUMBERS = {f'{sign}{bits}': f'{"u" if sign == "u" else ""}int{bits}_t' for sign in 'iu' for bits in (8, 16, 32, 64)}
 NUMBERS |= {'usize': 'size_t', 'bool': 'bool'}
 # The order of the modules in the header. One that is not here comes last.
-ORDER = ('operators', 'division', 'fixed_divisors', 'divisors', 'coprime', 'lists', 'roots', 'powers', 'coefficients', 'counting', 'ranking', 'shares', 'paging',
+ORDER = ('operators', 'division', 'invariant_divisors', 'divisors', 'coprime', 'lists', 'roots', 'powers', 'coefficients', 'counting', 'ranking', 'shares', 'paging',
          'layout', 'modulo', 'congruences', 'several_congruences', 'schedules', 'fractions', 'rounding', 'decimals', 'dates', 'weekdays', 'years',
          'texts', 'date_texts')
 

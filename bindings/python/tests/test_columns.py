@@ -220,8 +220,9 @@ class Matrix(unittest.TestCase):
             given = [number for number in [*ends, high] if low <= number <= high]
             many = numpy.random.default_rng(3).integers(low, high, 1300, kind, endpoint=True)
             many[: len(given)] = given
-            for divisor in (1, 2, 3, 7, 100, 2**32 + 1, 2**62 + 1, high - 1, high, -3, low + 1):
-                if divisor == 0 or divisor < low:
+            sizes = [1, 2, 3, 7, 100, 2**32 + 1, 2**62, 2**62 + 1, high - 1, high]
+            for divisor in [*sizes, *(-size for size in sizes[1:] if size <= -low), low, low + 1]:
+                if divisor == 0:
                     continue
                 right = [number // divisor for number in many.tolist()]
                 with self.subTest(f'{kind} by {divisor}'):
@@ -238,6 +239,33 @@ class Matrix(unittest.TestCase):
                             x[:] = many[part]
                             cellarcove.div_floor(x, divisor, out=to)
                             self.assertEqual(to.tolist(), right[part])
+
+    def test_small_by_one(self):
+        """All small numbers, and those next to both ends, divided by all small numbers."""
+        ends = [*range(-(2**63) + 1, -(2**63) + 18), *range(2**63 - 17, 2**63)]
+        numbers = numpy.array([*range(-40, 41), *ends])
+        chosen = numbers % 3 == 0
+        for divisor in [*range(-40, 0), *range(1, 41)]:
+            right = [number // divisor for number in numbers.tolist()]
+            with self.subTest(divisor):
+                self.assertEqual(cellarcove.div_floor(numbers, divisor).tolist(), right)
+                part = cellarcove.div_floor(
+                    numbers, divisor, where=chosen, out=numpy.zeros_like(numbers)
+                )
+                self.assertEqual(
+                    part.tolist(), [q if k else 0 for q, k in zip(right, chosen.tolist())]
+                )
+
+    def test_least_by_minus_one(self):
+        """The one quotient that does not fit, in any block: it has its status, and the others are
+        there."""
+        for place in (0, 511, 512, 1299):
+            numbers = numpy.arange(1300)
+            numbers[place] = -(2**63)
+            found, statuses = cellarcove.div_floor(numbers, -1, errors='status')
+            right = [0 if k == place else -k for k in range(1300)]
+            self.assertEqual(found.tolist(), right)
+            self.assertEqual(statuses.tolist(), [2 * (k == place) for k in range(1300)])
 
     def test_outputs(self):
         """An output of any layout gets the results, also one that is an input."""

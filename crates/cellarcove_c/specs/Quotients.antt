@@ -39,3 +39,8 @@ U64Quotients IsRounded x divisor Reason r = Answers {A = ℕ × ℕ} ((divisor �
 pub record AreFloored (d : ℤ) (numbers quotients : List ℤ) : Type 0 where
   pub one_each : length quotients ≡ length numbers
   pub each : (k : ℕ) → k < length numbers → IsQuotient IsFloored (get_or numbers k (pos 0)) d (get_or quotients k (pos 0))
+
+-- Each number of the list divided by d and rounded down fits.
+-- Examples: by -1: those of 8 and 2^63 - 1 fit; that of -2^63 does not; by 3: each fits.
+abbrev pub QuotientsFit : ℤ → List ℤ → Type 0
+QuotientsFit d numbers = (k : ℕ) → k < length numbers → EachFits (FitsSigned w64) (IsQuotient IsFloored (get_or numbers k (pos 0)) d)

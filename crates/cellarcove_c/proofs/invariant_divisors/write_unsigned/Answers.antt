@@ -1,5 +1,5 @@
-use Rattle.cellarcove_c.proofs.FlooredNumbers.{one_more_natural}
-use Rattle.cellarcove_c.proofs.fixed_divisors.write_unsigned.Goals as goal
+use Rattle.cellarcove_c.proofs.FlooredQuotients.{one_more_natural}
+use Rattle.cellarcove_c.proofs.invariant_divisors.write_unsigned.Goals as goal
 
 pub loop-i-preserved : goal.loop-i-preserved
 loop-i-preserved c =

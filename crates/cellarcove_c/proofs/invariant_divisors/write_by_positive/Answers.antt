@@ -1,7 +1,7 @@
 use Rattle.std.proofs.Common.{FitsSigned, get_or, pos, rules, w64}
 use Rattle.std.proofs.lemmas.Int.{to_z-of_z}
-use Rattle.cellarcove_c.proofs.FlooredNumbers.{one_more_floored}
-use Rattle.cellarcove_c.proofs.fixed_divisors.write_signed.Goals as goal
+use Rattle.cellarcove_c.proofs.FlooredQuotients.{one_more_floored}
+use Rattle.cellarcove_c.proofs.invariant_divisors.write_by_positive.Goals as goal
 
 pub loop-i-preserved : goal.loop-i-preserved
 loop-i-preserved c =
