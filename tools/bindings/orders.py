@@ -15,7 +15,7 @@ from typing import Any
 
 from tools import counted
 from tools.bindings.by_python import I64, NOT_FITTING, RESULTS, ZERO_DENOMINATOR, Day
-from tools.bindings.exports import EXPORTS, Call
+from tools.bindings.exports import EACH, EXPORTS, Call
 from tools.bindings.fuzz import RANGES, columns, small, with_lists
 from tools.bindings.python import grouped
 from tools.bindings.rows import corners
@@ -42,6 +42,9 @@ def has_week(year: int, week: int) -> bool:
 REASONS: dict[str, Reason] = {
     'X is 0': lambda x, _: x[0] == 0,
     'X is not positive': lambda x, _: x[0] <= 0,
+    'the divisor is 0, or if there is not one quotient for each number': lambda _, every: (
+        every[1] == 0
+    ),
     'X or X is 0': lambda x, _: 0 in x,
     'X or X is not positive': lambda x, _: min(x) <= 0,
     'X is negative': lambda x, _: x[0] < 0,
@@ -155,6 +158,11 @@ def in_words(call: Call, arguments: Sequence[Any]) -> int:
 
 def tried(call: Call) -> Iterator[Sequence[Any]]:
     """Arguments of a call."""
+    if call.is_each:
+        forms = EXPORTS().forms()[call.name.removesuffix(EACH)]
+        [of_one] = [form for form in forms if form.form == call.form]
+        yield from ([[number], *others] for number, *others in tried(of_one))
+        return
     if call.has_slice:
         yield from (with_lists(call) for _ in range(TRIED))
         return
