@@ -282,9 +282,10 @@ function layout(kind) {
   return {size: up(end, align), align, leaves};
 }
 
-// A call has the memory behind the program's own: a place for a struct of the result, one for each parameter, and room for lists.
+// A call has the memory behind the program's own: a place for a struct of the result, one for each parameter, and room for lists. What changes
+// and is read by each call is a `var`, since a function that reads a `let` of the module checks each time that it has a value.
 const PLACE = 64, TEXT = 64, ENCODER = /*#__PURE__*/ new TextEncoder();
-let RESULT, ROOM, RESULT_WORD, ROOM_WORD, WORDS, view, I64, U64, I32, U32, U8;
+var RESULT, ROOM, RESULT_WORD, ROOM_WORD, WORDS, FIRST_WORD, SECOND_WORD, view, I64, U64, I32, U32, U8;
 
 /** An address or a length, as the module takes it. */
 let word;
@@ -313,6 +314,7 @@ export function start(instance) {
   ROOM = RESULT + 16 * PLACE;
   [RESULT_WORD, ROOM_WORD] = [RESULT, ROOM].map(word);
   WORDS = Array.from({length: 6}, (_, place) => word(RESULT + PLACE * place));
+  [, FIRST_WORD, SECOND_WORD] = WORDS;
   see(found.memory.buffer);
   exports = found;
   try {
@@ -450,8 +452,8 @@ function run({raw, parameters, inMemory, hasStatus, read}, given) {
   value = status !== 0 ? undefined : read(returned, given[1]);
   return status;
 }
-let value;
-let turns = 0; // how often a call has written its arguments into memory
+var value;
+var turns = 0; // how often a call has written its arguments into memory
 
 /** The arguments of a call, as numbers, arrays of the parts of a struct, and lists of such arrays, and the numbers that choose the form. */
 function taken({forms: [, other], parameters, hasWritten}, given, seen) {
@@ -521,7 +523,9 @@ function planOf(row) {
   if (!exports) throw new Error('cellarcove.wasm is not loaded yet: await ready before the first call');
   const forms = row.map(formOf), [{parameters: all, raw, inMemory, hasStatus, read}] = forms, hasWritten = all.filter(({item}) => item).length === 2;
   const parameters = all.filter(({isWritten}) => !isWritten || !hasWritten), kinds = parameters.map(shortKind);
+  const [{kind, at}, other] = forms[0].leaves;
   const made = {
+    one: inMemory && !other ? kind : '', index: (RESULT + at) / SIZES[kind], // the type and the place of a result in memory that is one number
     forms, hasWritten, parameters, kinds, raw, inMemory, hasStatus, read, takesArrays: all.every(({item}) => !item), written: hasWritten ? all.at(-1).item : null,
     way: kinds[0] >= BYTES ? takesText : kinds.some((kind) => kind >= LIST) ? takesList : kinds.length > 2 ? takesMore : kinds[0] === FRACTION && kinds[1] === FRACTION ? takesFractions : takesFew,
     count: IS_LITTLE && !kinds.includes(undefined) && parameters.every(({isWritten}) => !isWritten) ? kinds.length : -1,
@@ -539,15 +543,22 @@ function numberOf(x, kind) {
 
 /** Whether a signed number is now at a place of the words. */
 function stores(x, at) {
-  if (typeof x === 'bigint') {
-    const words = I64;
-    words[at] = x;
-    return words[at] === x;
+  if (typeof x === 'number') {
+    const low = x | 0, halves = I32, place = 2 * at;
+    halves[place] = low;
+    halves[place + 1] = low >> 31;
+    return low === x || storesHigh(x, place + 1);
   }
-  if (!Number.isSafeInteger(x)) return false;
-  I32[2 * at] = x;
-  I32[2 * at + 1] = (x | 0) === x ? x >> 31 : Math.floor(x / 2 ** 32);
-  return true;
+  if (typeof x !== 'bigint') return false;
+  const words = I64;
+  words[at] = x;
+  return words[at] === x;
+}
+
+/** Whether a number beyond 32 bits is an integer, whose upper half is now at a place. */
+function storesHigh(x, place) {
+  I32[place] = Math.floor(x / 2 ** 32);
+  return Number.isSafeInteger(x);
 }
 
 /** Whether the call of a text has a result in memory: that of a short text that is right. */
@@ -575,9 +586,13 @@ function storesText(row, text, at) {
 /** Whether the parts of a fraction are now at a place. */
 function storesFraction(x, at) {
   if (typeof x === 'string') return storesText(rows.fractionFromText, x, at);
-  if (typeof x !== 'object' || x === null) return stores(x, at) && stores(1, at + 1);
-  if (Array.isArray(x)) return x.length === 2 && stores(x[0], at) && stores(x[1], at + 1);
-  const {num, den} = x;
+  let num = x, den = 1;
+  if (typeof x === 'object' && x !== null) {
+    const isArray = Array.isArray(x);
+    if (isArray && x.length !== 2) return false;
+    num = isArray ? x[0] : x.num;
+    den = isArray ? x[1] : x.den;
+  }
   return stores(num, at) && stores(den, at + 1);
 }
 
@@ -616,8 +631,8 @@ function wordOf(x, kind, place) {
 
 /** Whether a call that has returned has a result. */
 function hasResult(plan, returned, second) {
-  if (plan.hasStatus && U32[RESULT / 4] !== 0) return false;
-  value = plan.read(returned, second);
+  if (plan.hasStatus && U32[RESULT >> 2] !== 0) return false;
+  value = plan.one === 'i64' ? I64[plan.index] : plan.one === 'i32' ? I32[plan.index] : plan.read(returned, second);
   return true;
 }
 
@@ -634,17 +649,22 @@ function takesMore(plan, a, b, c, d, e) { // three to five
   return hasResult(plan, plan.inMemory ? raw(RESULT_WORD, v, w, x, y, z) : raw(v, w, x, y, z));
 }
 
-/** That of two fractions whose parts are `BigInt`s, as those of results. */
+/** That of two fractions. Four `BigInt`s, as those of results, are stored first and then read again, which is faster. */
 function takesFractions(plan, a, b) {
-  if (typeof a !== 'object' || a === null || Array.isArray(a) || typeof b !== 'object' || b === null || Array.isArray(b)) return takesFew(plan, a, b);
-  const {num, den} = a, {num: num2, den: den2} = b, words = I64, at = (RESULT + PLACE) / 8, at2 = at + PLACE / 8;
-  if (typeof num !== 'bigint' || typeof den !== 'bigint' || typeof num2 !== 'bigint' || typeof den2 !== 'bigint') return takesFew(plan, a, b);
-  turns++;
-  words[at] = num;
-  words[at + 1] = den;
-  words[at2] = num2;
-  words[at2 + 1] = den2;
-  return words[at] === num && words[at + 1] === den && words[at2] === num2 && words[at2 + 1] === den2 && hasResult(plan, plan.raw(RESULT_WORD, WORDS[1], WORDS[2]));
+  if (typeof a !== 'object' || a === null || typeof b !== 'object' || b === null) return takesFew(plan, a, b);
+  const turn = ++turns, isArray = Array.isArray(a), isArray2 = Array.isArray(b), at = RESULT + PLACE >> 3, at2 = at + PLACE / 8, words = I64;
+  if (isArray && a.length !== 2 || isArray2 && b.length !== 2) return false;
+  const num = isArray ? a[0] : a.num, den = isArray ? a[1] : a.den, num2 = isArray2 ? b[0] : b.num, den2 = isArray2 ? b[1] : b.den;
+  if (typeof num !== 'bigint' || typeof den !== 'bigint' || typeof num2 !== 'bigint' || typeof den2 !== 'bigint') {
+    if (!stores(num, at) || !stores(den, at + 1) || !stores(num2, at2) || !stores(den2, at2 + 1)) return false;
+  } else {
+    words[at] = num;
+    words[at + 1] = den;
+    words[at2] = num2;
+    words[at2 + 1] = den2;
+    if (words[at] !== num || words[at + 1] !== den || words[at2] !== num2 || words[at2 + 1] !== den2) return false;
+  }
+  return turn === turns && hasResult(plan, plan.raw(RESULT_WORD, FIRST_WORD, SECOND_WORD));
 }
 
 function takesText(plan, text) {
@@ -699,7 +719,7 @@ export function call(name, row, many) {
   let plan = null;
   return (...given) => {
     plan ??= planOf(row);
-    return given.length === plan.count && plan.way(plan, ...given) ? value : slowly(name, row, many, ...given);
+    return given.length === plan.count && plan.way(plan, given[0], given[1], given[2], given[3], given[4]) ? value : slowly(name, row, many, ...given);
   };
 }
 
@@ -708,7 +728,7 @@ export function attempt(name, row, many) {
   let plan = null;
   return (...given) => {
     plan ??= planOf(row);
-    return given.length === plan.count && plan.way(plan, ...given) ? {status: 0, value} : attemptSlowly(name, row, many, ...given);
+    return given.length === plan.count && plan.way(plan, given[0], given[1], given[2], given[3], given[4]) ? {status: 0, value} : attemptSlowly(name, row, many, ...given);
   };
 }
 

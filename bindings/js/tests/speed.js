@@ -56,9 +56,11 @@ const NUMBERS = {gcd: pairs, lcm: pairs, checkedSum: pairs, divFloor: pairs, div
 const lists = many(() => [Array.from({length: 5}, () => below(1000) + 1)]), larger = lists.map(([list]) => [below(1e6), list]);
 const fractions = () => many(() => Fraction.from([below(2000) - 1000, below(60) + 1])), dates = () => many(() => PlainDate.from([1900 + below(200), below(12) + 1, below(28) + 1]));
 const ofFractions = fractions().map((a, k, all) => [a, all[(k + 1) % COUNT]]), ofDates = dates().map((a, k, all) => [a, all[(k + 1) % COUNT]]), later = dates().map((a) => [a, below(60)]);
+const ofPairs = ofFractions.map((given) => given.map(({num, den}) => [Number(num), Number(den)])), ofObjects = ofPairs.map((given) => given.map(([num, den]) => ({num, den})));
 const BY_HAND = {
   sumOf: [big(lists), sum], gcdOf: [big(lists), (numbers) => numbers.reduce(gcd)], shares: [big(larger), shared],
-  fractionCmp: [ofFractions, compared], fractionAdd: [ofFractions, (a, b) => reduced(a.num * b.den + b.num * a.den, a.den * b.den)],
+  fractionCmp: [ofFractions, compared], 'fractionCmp of pairs': [ofPairs, compared, ofFractions], 'fractionCmp, objects': [ofObjects, compared, ofFractions],
+  fractionAdd: [ofFractions, (a, b) => reduced(a.num * b.den + b.num * a.den, a.den * b.den)],
   fractionMul: [ofFractions, (a, b) => reduced(a.num * b.num, a.den * b.den)], plusMonths: [later, monthsLater],
   plusDays: [later, (date, days) => ofTime(time(date) + 864e5 * days)], daysBetween: [ofDates, (a, b) => (time(b) - time(a)) / 864e5],
   weekdayOfDate: [later.map(([date]) => [date]), (date) => new Date(time(date)).getUTCDay()], dateFromText: [later.map(([date]) => [`${date}`]), dateOf],
@@ -70,7 +72,10 @@ function row(name, measured) {
   return {name, loops, least: loops.map(() => Infinity)};
 }
 const numbers = Object.entries(NUMBERS).map(([name, given]) => row(name, [[calls[name], big(given)], [calls[name], given], [calls[ofTry(name)], big(given)], [calls[ofTry(name)], given]]));
-const byHand = Object.entries(BY_HAND).map(([name, [given, hand]]) => row(name, [[calls[name], given], [calls[ofTry(name)], given], [hand, given]]));
+const byHand = Object.entries(BY_HAND).map(([name, [given, hand, same = given]]) => {
+  const [call] = name.split(/\W/);
+  return row(name, [[calls[call], given], [calls[ofTry(call)], given], [hand, same]]);
+});
 for (let turn = -20; turn < turns; turn++) for (const {loops, least} of [...numbers, ...byHand]) loops.forEach((loop, k) => {
   const start = process.hrtime.bigint();
   for (let time = 0; time < TIMES; time++) loop();

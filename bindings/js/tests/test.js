@@ -275,6 +275,25 @@ test('reading an argument may make another call', () => {
   assert.deepEqual([calls.sumOf(large), shares(large.length, large.fill(1n)).length], [44999850000n, 300_000]);
 });
 
+test('two fractions are compared in each of their forms', () => {
+  const forms = [(num, den) => [num, den], (num, den) => ({num, den}), (num, den) => [BigInt(num), den], (num, den) => ({num, den: BigInt(den)}),
+    (num, den) => [BigInt(num), BigInt(den)], (num, den) => ({num: BigInt(num), den: BigInt(den)}), (num, den) => `${num}/${den}`, (num, den) => Fraction.from([num, den])];
+  const given = [[0, 7], [1, 3], [-1, 3], [2 ** 31, 2 ** 31 - 1], [-(2 ** 31) - 1, 2 ** 32 + 1], [2 ** 53 - 1, 2 ** 53 - 2], [1 - 2 ** 53, 2 ** 53 - 2]];
+  for (const [num, den] of given) for (const [num2, den2] of given) {
+    const x = BigInt(num) * BigInt(den2), y = BigInt(num2) * BigInt(den), order = x < y ? -1 : x > y ? 1 : 0;
+    for (const one of forms) for (const other of forms) assert.equal(fractionCmp(one(num, den), other(num2, den2)), order);
+  }
+  const wrong = [[1], [1, 2, 3], [0.5, 1], [1, 0.5], [NaN, 1], [2 ** 53, 1], [1, Infinity], ['1', 2], [null, 1], {num: 1}, {den: 1}, {}, null, undefined, true, NaN];
+  for (const form of forms) for (const one of wrong) {
+    assert.throws(() => fractionCmp(one, form(1, 2)), TypeError);
+    assert.throws(() => fractionCmp(form(1, 2), one), TypeError);
+  }
+  for (const one of [[2n ** 63n, 1], {num: 1n, den: 2n ** 63n}, [-(2n ** 63n) - 1n, 1n], [2n ** 64n + 1n, 2n], {num: 1n, den: 2n ** 64n + 2n}]) for (const form of forms) {
+    assert.throws(() => fractionCmp(form(1, 2), one), {status: Status.NOT_FITTING});
+    assert.throws(() => fractionCmp(one, form(1, 2)), {status: Status.NOT_FITTING});
+  }
+});
+
 test('a number is the BigInt of its value, in a list, a fraction and a date too', () => {
   const numbers = [0, -0, 1, -1, 2 ** 31 - 1, 2 ** 31, -(2 ** 31), -(2 ** 31) - 1, 2 ** 32 - 1, 2 ** 32, -(2 ** 32), 2 ** 40 + 1, -(2 ** 40) + 1, 2 ** 53 - 1, 1 - 2 ** 53];
   for (const x of numbers) {
