@@ -44,6 +44,10 @@ printf 'cmake_minimum_required(VERSION 3.16)\nproject(one C)\nfind_package(cella
 echo 'target_link_libraries(one cellarcove::shared)' >>CMakeLists.txt && cmake -B out . >/dev/null && cmake --build out >/dev/null && out/one
 python3 -c 'import cellarcove; assert cellarcove.div_floor(-8, 3) == -3'
 test "$(intcalc i64 div_mod_floor -8 3)" = '-3 1' && man --warnings intcalc 2>&1 >/dev/null | diff - /dev/null
+bash -c '. /usr/share/bash-completion/completions/intcalc; COMP_WORDS=(intcalc i64 div_m) COMP_CWORD=2; _intcalc; echo "${COMPREPLY[@]}"' | grep -x div_mod_floor
+fish -c 'complete -C "intcalc i64 div_m"' | grep '^div_mod_floor'
+zsh -fc 'fpath+=(/usr/share/zsh/vendor-completions); autoload -Uz compinit && compinit -u; _arguments() { _intcalc_calls; }; _describe() { print -rl -- ${(P)2}; }; $_comps[intcalc]' |
+    grep '^div_mod_floor:'
 mkdir -p mine/src .cargo && printf 'fn main() { assert_eq!(cellarcove::div_floor(-8, 3), -3) }\n' >mine/src/main.rs
 printf '[package]\nname = "mine"\nedition = "2021"\n[dependencies]\ncellarcove = "0"\n' >mine/Cargo.toml
 printf '[source.crates-io]\nreplace-with = "debian"\n[source.debian]\ndirectory = "/usr/share/cargo/registry"\n' >.cargo/config.toml
