@@ -15,3 +15,13 @@ pub use Rattle.applied.proofs.ReducedPairs.{reduced_pair}
 -- The sum of no numbers is 0, that of a list with a first number is that number and the sum of the others, and that of two lists after each other
 -- is the sum of both.
 pub use Rattle.applied.proofs.SignedSums.{signed_sum-nil, signed_sum-cons, signed_sum-append}
+-- ---- natural numbers
+
+-- What the calls say of unsigned numbers, by `/`, `%`, `*` and `min`. `using` finds each but `range_of_part_is_natural` and `meeting_is_natural`, which
+-- a proof file cites.
+pub use Rattle.applied.proofs.NaturalWords.{pages_is_natural, place_is_natural, range_of_page_is_natural, range_of_part_is_natural}
+pub use Rattle.applied.proofs.NaturalWords.{aligned_is_natural, aligned_is_whole, aligned_number_is_natural, padding_is_natural}
+pub use Rattle.applied.proofs.NaturalWords.{next_congruent_below, next_run_is_natural, meeting_is_natural}
+pub use Rattle.applied.proofs.NaturalWords.{nearest_is_natural, nearest_answer_is_natural, binomial_is_natural, falling_is_natural}
+-- Two properties of the same numbers have the same least number and the same count.
+pub use Rattle.applied.proofs.NaturalWords.{least_as, count_as}

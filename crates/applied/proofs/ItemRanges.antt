@@ -23,7 +23,7 @@ module _ {fits : ℤ → Type 0} {low high p q s : ℤ} (range : IsRange fits lo
 -- ---- the range of a page
 
 -- the range of a page: each of its items is on the page, and each item on the page is one of them
-page_range_is : {page size items first end : ℤ} → pos 0 ≤ℤ first → first ≤ℤ end → end ≤ℤ items
+pub page_range_is : {page size items first end : ℤ} → pos 0 ≤ℤ first → first ≤ℤ end → end ≤ℤ items
     → ((item : ℤ) → first ≤ℤ item → item <ℤ end → (pos 0 ≤ℤ item) × ((page *ℤ size) ≤ℤ item) × (item <ℤ (page *ℤ size +ℤ size)))
     → ((item : ℤ) → pos 0 ≤ℤ item → item <ℤ items → (page *ℤ size) ≤ℤ item → item <ℤ (page *ℤ size +ℤ size) → (first ≤ℤ item) × (item <ℤ end))
     → (end ≤ℤ first → first ≡ items) → IsRangeOfPage page size items first end

@@ -12,5 +12,6 @@ pub mod LargestRemainders
 pub mod NearestAnswers
 pub mod FallingFactorials
 pub mod FirstMultiples
+pub mod NaturalWords
 pub mod Laws
 pub mod ForCallers

@@ -27,6 +27,7 @@ pub fn hundredths(x: &Ratio) -> Option<i64>
 }
 
 /// Returns the price of an amount of units, of which each has this price, or `None` if it does not fit.
+#[tactic(auto, using(ratio64::proofs::ForCallers::times_passed_on))]
 pub fn price_of_units(unit_price: &Ratio, units: i64) -> Option<i64>
     ensures { AnswersWhere
         (EachFits (FitsSigned w64) (IsRoundedEven (num_of unit_price.now *ℤ units) (den_of unit_price.now)))

@@ -9,9 +9,10 @@ ghost use Rattle.num_integer.specs.Rounding.{IsNearest, IsNearestEven};
 ghost use Rattle.ratio64.specs.Fraction.{IsExact, IsFraction, IsOutsideI64, IsReduced};
 ghost use Rattle.ratio64.specs.Limiting.{AreNearestParts, IsNearestWithin};
 ghost use Rattle.ratio64.specs.Ratio.{AnswersFraction, den_of, num_of};
-ghost use Rattle.ratio64.specs.Rounding.{AnswersInParts, IsRounded};
+ghost use Rattle.ratio64.specs.Rounding.{AnswersInParts, IsRounded, IsRoundedEven};
 ghost use Rattle.ratio64.specs.declared.fraction.Ratio.{Ratio};
 
+use num_integer::{div_round, div_round_even};
 use ratio64::{ParseRatioError, Ratio, RatioError};
 use std::alloc::{AllocError, Global};
 
@@ -255,6 +256,23 @@ pub fn nearest_quotients(x: &Ratio) -> (i64, i64)
     ensures nearest_even { IsQuotient IsNearestEven (num_of x.now) (den_of x.now) result.1 }
 {
     (x.round(), x.round_even())
+}
+
+/// Returns the nearest integers to the fraction `num / den`, in the words of `Ratio::round` and `Ratio::round_even`.
+pub fn rounded_parts(num: i64, den: i64) -> (i64, i64)
+    requires { pos 0 <ℤ den }
+    ensures rounded { IsRounded num den result.0 }
+    ensures rounded_even { IsRoundedEven num den result.1 }
+{
+    (div_round(num, den), rounded_even(num, den))
+}
+
+/// Returns the nearest integer to the fraction `num / den`, and of two equally near the even one.
+pub fn rounded_even(num: i64, den: i64) -> i64
+    requires { pos 0 <ℤ den }
+    ensures { IsRoundedEven num den result }
+{
+    div_round_even(num, den)
 }
 
 /// Returns a price in whole cents: the fraction rounded down to hundredths. Returns an error if its parts do not fit.

@@ -22,6 +22,7 @@
 //! | `rounding.rt` | `applied`: nearest quotients, roots, powers, logarithms, midpoints, factorials |
 //! | `amounts.rt` | a divisor that is computed in the call, a wider type and back, equal parts |
 //! | `bounded.rt` | `bounded_integers`: minutes of a day, amounts in cents |
+//! | `natural_words.rt` | contracts about natural numbers at unsigned types: pages, offsets, timetables, rounding, combinations |
 //! | `powers.rt` | `modular`: powers as natural numbers, sums of exponents |
 //! | `tasks.rt` | everyday tasks: pages of items, a cipher, amounts of money, a recipe, a line of bytes |
 //!
@@ -40,6 +41,7 @@ pub mod divisors;
 pub mod fractions;
 pub mod lists;
 pub mod multiples;
+pub mod natural_words;
 pub mod numbers;
 pub mod pages;
 pub mod powers;

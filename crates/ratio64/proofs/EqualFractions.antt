@@ -1,5 +1,5 @@
 -- Equal fractions have one exact result, and equal sums and products.
-use Rattle.ratio64.proofs.Common.{◌≢◌, ◌+ℤ◌, ◌*ℤ◌, ℤ, pos, Result, Ok, Err, IfOk, arith, ap, expand, linear, AreEqual, IsExact, IsFraction, IsOutsideI64, AnswersFraction, num_of, den_of, AreEqual-sym, Ratio, RatioError}
+use Rattle.ratio64.proofs.Common.{◌≢◌, ◌+ℤ◌, ◌*ℤ◌, ℤ, pos, Result, Ok, Err, IfOk, arith, ap, expand, linear, AreEqual, IsExact, IsFraction, IsOutsideI64, AnswersFraction, num_of, den_of, AreEqual-sym, positive_is_nonzero, Ratio, RatioError}
 use Rattle.ratio64.proofs.ExactResults.{same_result}
 use Rattle.ratio64.proofs.FractionAnswers.{zero_factor}
 
@@ -53,3 +53,9 @@ module _ {a b c d m n p q : ℤ} (x : IsExact a b m n) (y : IsExact c d p q) whe
   -- and so does their product
   pub product_of_exact_results : {r : Result Ratio RatioError} → AnswersFraction (m *ℤ p) (n *ℤ q) r → AnswersFraction (a *ℤ c) (b *ℤ d) r
   product_of_exact_results = equal_fractions_answered_alike denominators (nonzero_product x.fraction y.fraction) (equal_products m n p q a b c d (AreEqual-sym x.equal) (AreEqual-sym y.equal))
+
+-- The exact result of a fraction times n/d is that of the fraction times n/d.
+pub times_of_exact_result : {a b num den d : ℤ} {r : Result Ratio RatioError} (n : ℤ) → IsExact a b num den → d ≢ pos 0 → AnswersFraction (num *ℤ n) (d *ℤ den) r → AnswersFraction (a *ℤ n) (b *ℤ d) r
+times_of_exact_result {d = d} n x nonzero =
+    let times = simp expand at (ap (λ (t : ℤ). t *ℤ (n *ℤ d)) x.equal.cross) in
+    equal_fractions_answered_alike (nonzero_product nonzero (positive_is_nonzero x.reduced.positive)) (nonzero_product x.fraction nonzero) (record { cross = simp expand (omega (arith, linear)) })

@@ -1,5 +1,6 @@
--- Equal fractions have the same quotients, and the same nearest integer.
-use Rattle.ratio64.proofs.Common.{◌≡◌, ◌<◌, ◌≤◌, ◌*◌, ◌<ℤ◌, ◌≤ℤ◌, ◌-ℤ◌, ◌*ℤ◌, ℕ, ℤ, pos, neg_ℤ, unsigned_abs, Result, arith, ap, sym, ◌∙◌, by_lt_z, unsigned_abs-mul, ceiled_by_range, ceiled_remainder_range, comm, expand, floored_by_range, from_not_less, linear, multiples_apart, product_from_zero, products, sizes, IsCeiled, IsFloored, IsQuotient, AreEqual, IsExact, AreEqual-sym, AnswersInParts, IsRounded, Ratio, RatioError, floored_range, rest_is}
+-- Equal fractions have the same quotients, and the same nearest integers.
+use Rattle.ratio64.proofs.Common.{◌≡◌, ◌<◌, ◌≤◌, ◌*◌, ◌<ℤ◌, ◌≤ℤ◌, ◌-ℤ◌, ◌*ℤ◌, ℕ, ℤ, pos, neg_ℤ, unsigned_abs, Result, arith, ap, sym, ◌∙◌, by_lt_z, unsigned_abs-mul, ceiled_by_range, ceiled_remainder_range, comm, expand, floored_by_range, from_not_less, linear, multiples_apart, product_from_zero, products, sizes, IsCeiled, IsFloored, IsQuotient, IsDivision, AreEqual, IsExact, AreEqual-sym, AnswersInParts, AnswersWhere, EachFits, FitsSigned, IsRounded, IsRoundedEven, Option, Ratio, RatioError, floored_range, rest_is, w64}
+use Rattle.num_integer.proofs.ForCallers.{answers_as}
 
 -- Both fractions times the same number are equal.
 pub equal_times : {a b c d : ℤ} (k : ℤ) → AreEqual a b c d → AreEqual (a *ℤ k) b (c *ℤ k) d
@@ -57,24 +58,41 @@ halves b d s t up same =
 magnitudes : (s t u v : ℤ) → s *ℤ t ≡ u *ℤ v → unsigned_abs s * unsigned_abs t ≡ unsigned_abs u * unsigned_abs v
 magnitudes s t u v e = sym (unsigned_abs-mul s t) ∙ ap unsigned_abs e ∙ unsigned_abs-mul u v
 
+-- a quotient of one fraction, with a remainder of at most half the denominator, is one of the other fraction
+record IsNearBoth (a b c d r s : ℤ) : Type 0 where
+  division : IsDivision c d r (c -ℤ r *ℤ d)
+  nearest : 2 * unsigned_abs (c -ℤ r *ℤ d) ≤ unsigned_abs d
+  tie : 2 * unsigned_abs (c -ℤ r *ℤ d) ≡ unsigned_abs d → 2 * unsigned_abs s ≡ unsigned_abs b
+
+near_both : {a b c d r s : ℤ} → pos 0 <ℤ b → pos 0 <ℤ d → AreEqual a b c d → IsDivision a b r s → 2 * unsigned_abs s ≤ unsigned_abs b → IsNearBoth a b c d r s
+near_both {b = b} {c} {d} {r} b_up d_up equal own near =
+    let rest = magnitudes _ d (c -ℤ r *ℤ d) b (rw (← rest_is own) at (rests r equal)) in
+    let small = (halves _ _ _ _ (omega (arith, sizes)) rest).0 near in
+    record {
+      division = record { equation = omega (arith, linear); small = omega (arith, sizes) };
+      nearest = small;
+      tie = λ half. omega (arith, near, (halves (unsigned_abs d) (unsigned_abs b) _ _ (omega (arith, sizes)) (sym rest)).1 (omega (arith, half)));
+    }
+
 -- Equal fractions, rounded to the nearest integer, are the same integer.
 pub equal_rounded : {a b c d r : ℤ} → pos 0 <ℤ b → pos 0 <ℤ d → AreEqual a b c d → IsRounded a b r → IsRounded c d r
 equal_rounded {a} {b} {c} {d} {r} b_up d_up equal h =
-    let own = h.division in
-    let rest = magnitudes _ d (c -ℤ r *ℤ d) b (rw (← rest_is own.division) at (rests r equal)) in
+    let both = near_both b_up d_up equal h.division.division h.division.nearest in
     let products = magnitudes (r *ℤ b) d (r *ℤ d) b (simp expand) in
-    let near = (halves _ _ _ _ (omega (arith, sizes)) rest).0 own.nearest in
     record {
       remainder = c -ℤ r *ℤ d;
       division = record {
-        division = record { equation = omega (arith, linear); small = omega (arith, sizes) };
-        nearest = near;
-        tie = λ half.
-            let least = (halves (unsigned_abs d) (unsigned_abs b) _ _ (omega (arith, sizes)) (sym rest)).1 (omega (arith, half)) in
-            let away = own.tie (omega (arith, own.nearest, least)) in
-            natural_strict_order (unsigned_abs b) (unsigned_abs d) _ _ _ _ (omega (arith, sizes)) (magnitudes a d c b equal.cross) products away;
+        division = both.division;
+        nearest = both.nearest;
+        tie = λ half. natural_strict_order (unsigned_abs b) (unsigned_abs d) _ _ _ _ (omega (arith, sizes)) (magnitudes a d c b equal.cross) products (h.division.tie (both.tie half));
       };
     }
+
+-- Equal fractions, rounded to the nearest integer and a half to the even one, are the same integer.
+pub equal_rounded_even : {a b c d r : ℤ} → pos 0 <ℤ b → pos 0 <ℤ d → AreEqual a b c d → IsRoundedEven a b r → IsRoundedEven c d r
+equal_rounded_even {c = c} {d} {r} b_up d_up equal h =
+    let both = near_both b_up d_up equal h.division.division h.division.nearest in
+    record { remainder = c -ℤ r *ℤ d; division = record { division = both.division; nearest = both.nearest; tie = λ half. h.division.tie (both.tie half) } }
 
 -- ---- in parts
 
@@ -92,3 +110,18 @@ ceiled_in_parts b_up exact h = record { number = h.number; is = equal_ceiled exa
 pub rounded_in_parts : {a b num den parts : ℤ} {r : Result Ratio RatioError} → pos 0 <ℤ b → IsExact a b num den → AnswersInParts (IsRounded (num *ℤ parts) den) parts r
     → AnswersInParts (IsRounded (a *ℤ parts) b) parts r
 rounded_in_parts b_up exact h = record { number = h.number; is = equal_rounded exact.reduced.positive b_up (equal_times _ (AreEqual-sym exact.equal)) h.is; fraction = h.fraction }
+
+-- To round an exact result to the nearest part, and a half to the even one, is to round the fraction.
+pub rounded_even_in_parts : {a b num den parts : ℤ} {r : Result Ratio RatioError} → pos 0 <ℤ b → IsExact a b num den → AnswersInParts (IsRoundedEven (num *ℤ parts) den) parts r
+    → AnswersInParts (IsRoundedEven (a *ℤ parts) b) parts r
+rounded_even_in_parts b_up exact h = record { number = h.number; is = equal_rounded_even exact.reduced.positive b_up (equal_times _ (AreEqual-sym exact.equal)) h.is; fraction = h.fraction }
+
+-- ---- an exact result times an integer
+
+-- To round an exact result times an integer is to round the fraction times that integer.
+pub times_rounded_even : {a b num den : ℤ} (n : ℤ) (r : Option ℤ) → pos 0 <ℤ b → IsExact a b num den → AnswersWhere (EachFits (FitsSigned w64) (IsRoundedEven (num *ℤ n) den)) (IsRoundedEven (num *ℤ n) den) r
+    → AnswersWhere (EachFits (FitsSigned w64) (IsRoundedEven (a *ℤ n) b)) (IsRoundedEven (a *ℤ n) b) r
+times_rounded_even {a} {b} {num} {den} n r b_up exact h =
+    let to : (z : ℤ) → IsRoundedEven (num *ℤ n) den z → IsRoundedEven (a *ℤ n) b z = λ z is. equal_rounded_even exact.reduced.positive b_up (equal_times n (AreEqual-sym exact.equal)) is in
+    let back : (z : ℤ) → IsRoundedEven (a *ℤ n) b z → IsRoundedEven (num *ℤ n) den z = λ z is. equal_rounded_even b_up exact.reduced.positive (equal_times n exact.equal) is in
+    answers_as r (λ each z is. each z (back z is), λ each z is. each z (to z is)) to h

@@ -6,6 +6,7 @@ pub use Rattle.ratio64.proofs.FittingParts.{positive_is_answered, positive_over_
 -- ---- a value after `unwrap`, `?` and `.ok()?`
 
 pub use Rattle.ratio64.proofs.FractionAnswers.{at_ok, at_some, some_is_exact, none_is_outside}
+pub use Rattle.ratio64.proofs.PassedOn.{quotient_passed_on, rounded_passed_on, rounded_even_passed_on, times_passed_on}
 -- ---- the size of an exact result
 
 pub use Rattle.ratio64.proofs.FittingParts.{common_factor, exact_parts_at_most, positive_denominator_inside, small_parts_inside}
@@ -14,17 +15,17 @@ pub use Rattle.ratio64.proofs.FittingParts.{common_factor, exact_parts_at_most, 
 pub use Rattle.ratio64.proofs.ExactResults.{only_exact_result, quotient_is_exact, reduced_is_exact, whole_exactly, whole_is_exact, whole_is_multiple, zero_is_over_one}
 -- ---- reduced pairs
 
-pub use Rattle.ratio64.specs.ReducedPairs.{AreEqual-sym, denominator_divides, positive_is_nonzero, same_pair}
+pub use Rattle.ratio64.specs.ReducedPairs.{AreEqual-sym, IsReduced-prop, denominator_divides, equal_where_same, gcd-prop, gcd_one-prop, positive_is_nonzero, same_pair}
 pub use Rattle.ratio64.proofs.ReducedParts.{magnitude_reduced, negated_reduced, remainder_reduced}
 -- ---- the order, by cross multiplication
 
-pub use Rattle.ratio64.proofs.Comparisons.{equal_exactly, greater_exactly, less_exactly}
+pub use Rattle.ratio64.proofs.Comparisons.{equal_exactly, equal_fractions_compare_alike, greater_exactly, less_exactly}
 -- ---- equal fractions, their sums and products
 
-pub use Rattle.ratio64.proofs.EqualFractions.{equal_exact, equal_fractions_answered_alike, equal_outside, nonzero_product, product_of_exact_results, sum_of_exact_results}
+pub use Rattle.ratio64.proofs.EqualFractions.{equal_exact, equal_fractions_answered_alike, equal_outside, nonzero_product, product_of_exact_results, sum_of_exact_results, times_of_exact_result}
 -- ---- equal fractions, rounded
 
-pub use Rattle.ratio64.proofs.EqualQuotients.{equal_times, equal_floored, equal_ceiled, equal_rounded, floored_in_parts, ceiled_in_parts, rounded_in_parts}
+pub use Rattle.ratio64.proofs.EqualQuotients.{equal_times, equal_floored, equal_ceiled, equal_rounded, equal_rounded_even, floored_in_parts, ceiled_in_parts, rounded_in_parts, rounded_even_in_parts, times_rounded_even}
 -- ---- equal fractions, small denominators and small parts
 
 pub use Rattle.ratio64.proofs.EqualNearest.{nearest_of_equal, nearest_parts_of_equal}

@@ -14,6 +14,7 @@ pub mod EqualQuotients
 pub mod FractionPowers
 pub mod SpelledDecimals
 pub mod RoundedProducts
+pub mod PassedOn
 pub mod ReducedAnswers
 pub mod ReducedParts
 pub mod NearestNumbers

@@ -17,22 +17,26 @@ one_factor {u} {v} nonzero x y =
     let same : x.factor ≡ y.factor = cancel u x.factor y.factor nonzero (sym x.product ∙ y.product) in
     λ i. record { factor = same i; product = is_prop→PathP (λ i. v ≡ u *ℤ same i) (λ i. ℤ_set v (u *ℤ same i)) x.product y.product i }
 
--- a divisor of 1 is not 0
-divides_one : {d : ℤ} → Divides d (pos 1) → d ≢ pos 0
-divides_one h none = let product = rw none at h.product in absurd (omega (arith, products))
+-- a divisor of a number but 0 is not 0
+divisor_nonzero : {d g : ℤ} → g ≢ pos 0 → Divides d g → d ≢ pos 0
+divisor_nonzero nonzero h none = nonzero (let product = rw none at h.product in omega (arith, products))
+
+-- that a number but 0 is the greatest common divisor of two others has one proof, which a ghost field of a struct needs
+pub gcd-prop : {a b g : ℤ} → g ≢ pos 0 → IsProp (IsGreatestCommonDivisor a b g)
+gcd-prop {a} {b} {g} nonzero x y =
+    let up : IsProp (pos 0 ≤ℤ g) = hlevel props in
+    λ i. record {
+      from_zero = up x.from_zero y.from_zero i;
+      divides_left = one_factor nonzero x.divides_left y.divides_left i;
+      divides_right = one_factor nonzero x.divides_right y.divides_right i;
+      greatest = λ d h k. one_factor (divisor_nonzero nonzero (x.greatest d h k)) (x.greatest d h k) (y.greatest d h k) i;
+    }
 
 one_is_not_zero : pos 1 ≢ pos 0
 one_is_not_zero e = absurd (omega (arith, linear))
 
-gcd_one-prop : (a b : ℤ) → IsProp (IsGreatestCommonDivisor a b (pos 1))
-gcd_one-prop a b x y =
-    let up : IsProp (pos 0 ≤ℤ pos 1) = hlevel props in
-    λ i. record {
-      from_zero = up x.from_zero y.from_zero i;
-      divides_left = one_factor one_is_not_zero x.divides_left y.divides_left i;
-      divides_right = one_factor one_is_not_zero x.divides_right y.divides_right i;
-      greatest = λ d h k. one_factor (divides_one (x.greatest d h k)) (x.greatest d h k) (y.greatest d h k) i;
-    }
+pub gcd_one-prop : (a b : ℤ) → IsProp (IsGreatestCommonDivisor a b (pos 1))
+gcd_one-prop a b = gcd-prop one_is_not_zero
 
 pub IsReduced-prop : (num den : ℤ) → IsProp (IsReduced num den)
 IsReduced-prop num den x y =
