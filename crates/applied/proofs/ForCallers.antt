@@ -21,7 +21,11 @@ pub use Rattle.applied.proofs.SignedSums.{signed_sum-nil, signed_sum-cons, signe
 -- a proof file cites.
 pub use Rattle.applied.proofs.NaturalWords.{pages_is_natural, place_is_natural, range_of_page_is_natural, range_of_part_is_natural}
 pub use Rattle.applied.proofs.NaturalWords.{aligned_is_natural, aligned_is_whole, aligned_number_is_natural, padding_is_natural}
-pub use Rattle.applied.proofs.NaturalWords.{next_congruent_below, next_run_is_natural, meeting_is_natural}
-pub use Rattle.applied.proofs.NaturalWords.{nearest_is_natural, nearest_answer_is_natural, binomial_is_natural, falling_is_natural}
+pub use Rattle.applied.proofs.NaturalWords.{next_run_is_natural, meeting_is_natural}
+pub use Rattle.applied.proofs.NaturalWords.{nearest_is_natural, nearest_answer_is_natural, binomial_is_natural, falling_is_natural, sorted_choice}
+-- ---- timetables
+
 -- Two properties of the same numbers have the same least number and the same count.
-pub use Rattle.applied.proofs.NaturalWords.{least_as, count_as}
+pub use Rattle.applied.proofs.Timetables.{least_as, count_as}
+-- The next run comes within a period; by divisibility at `i64`; and how many runs are before a time.
+pub use Rattle.applied.proofs.Timetables.{next_congruent_below, next_run_by_divisors, count_before}

@@ -12,6 +12,7 @@ pub mod LargestRemainders
 pub mod NearestAnswers
 pub mod FallingFactorials
 pub mod FirstMultiples
+pub mod Timetables
 pub mod NaturalWords
 pub mod Laws
 pub mod ForCallers

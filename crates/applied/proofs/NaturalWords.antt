@@ -1,20 +1,26 @@
 -- What the calls say of unsigned numbers, in natural numbers: by `/`, `%`, `*` and `min`. The lemmas on an `Option` are at 64 bits, so that `using` finds
 -- them for `u64` and `usize`.
-use Rattle.applied.proofs.Common.{[], ◌≡◌, ◌↔◌, ◌<◌, ◌≤◌, ◌+◌, ◌-◌, ◌*◌, ◌/◌, ◌^◌, ◌≤ℤ◌, ◌<ℤ◌, ◌+ℤ◌, ◌-ℤ◌, ◌*ℤ◌, ◌∷◌, ℕ, ℤ, pos, negsuc, suc, unsigned_abs, List, Option, Some, None, MatchOption, arith, ap, by_lt_z, cases_lt, inl, inr, clamps, ints, linear, products, sizes, expand, ceiled_by_range, coefficient, factorial_formula, floored_by_range, next_multiple_least, AnswersQuotient, AnswersWhere, AreAllFrom, AreCongruent, Divides, FitsUnsignedBits, FitsWith, IsLeastFrom, IsMeeting, IsPlace, IsRangeOfPage, IsRangeOfPart, cut_at}
+use Rattle.applied.proofs.Common.{All, List, ◌≡◌, ◌<◌, ◌≤◌, ◌+◌, ◌-◌, ◌*◌, ◌/◌, ◌^◌, ◌≤ℤ◌, ◌<ℤ◌, ◌+ℤ◌, ◌-ℤ◌, ◌*ℤ◌, ℕ, ℤ, pos, negsuc, suc, unsigned_abs, Option, Some, None, MatchOption, arith, ap, cases_lt, inl, inr, clamps, ints, products, sizes, ceiled_by_range, coefficient, factorial_formula, floored_by_range, next_multiple_least, AnswersQuotient, AnswersWhere, Divides, FitsUnsignedBits, FitsWith, IsChoice, IsMeeting, IsPlace, IsRangeOfPage, IsRangeOfPart, cut_at}
 use Rattle.applied.proofs.FallingFactorials.{falling_formula}
 use Rattle.applied.proofs.ItemRanges.{only_page_range, only_part_range, page_range_is, part_range}
+use Rattle.applied.proofs.Timetables.{next_congruent_below}
 use Rattle.applied.specs.Counting.{falling}
 use Rattle.applied.specs.Layout.{IsAlignedUp}
 use Rattle.applied.specs.Rounding.{IsNearest}
 use Rattle.modular.proofs.ForCallers.{congruent_is_natural}
 use Rattle.modular.specs.Congruences.{IsNextCongruent}
-use Rattle.modular.specs.Counts.{IsCountFrom}
 use Rattle.num_integer.proofs.ForCallers.{divides_is_natural, division_is_natural}
 use Rattle.num_integer.specs.Coefficient.{coefficient_of, factorial}
 use Rattle.std.proofs.Math.Nat.{lt_of_mul-lt-mul_right, mod-eq_of_lt}
+use Rattle.std.proofs.lemmas.Bool.Decides.{nat_tests}
 use Rattle.std.proofs.lemmas.Grind.{div_ceil_times}
+use Rattle.std.proofs.lemmas.List.Sorted.{All-permutation, IsNonDecreasingBy-from_sort}
+use Rattle.std.proofs.lemmas.Map.Keys.{IsDistinct-IsPermutation, IsStrictlyIncreasing-from_distinct}
 use Rattle.std.specs.Int.{div_ceil, next_multiple_of}
-use Rattle.std.specs.Prelude.{SomeIff, min, ◌%◌}
+use Rattle.std.specs.List.{IsDistinct}
+use Rattle.std.specs.List.Sorted.{IsPermutation, IsSorted}
+use Rattle.std.specs.Ordering.{nat_cmp}
+use Rattle.std.specs.Prelude.{SomeIff, min, nat_eq, ◌%◌}
 
 -- ---- pages and parts
 
@@ -125,15 +131,6 @@ padding_is_natural offset below h = (divides_is_natural (omega arith)).0 h
 
 -- ---- schedules
 
--- the number a step before a congruent one is congruent
-step_before : {period t phase : ℤ} → AreCongruent period t phase → AreCongruent period (t -ℤ period) phase
-step_before {period} {t} h = record { divides = record { factor = h.divides.factor -ℤ pos 1; product = simp expand (omega (arith, products, h.divides.product)) } }
-
--- The next congruent number is less than a step after the first one that it can be.
-pub next_congruent_below : {from phase period t : ℤ} → pos 0 <ℤ period → IsNextCongruent from phase period t → t <ℤ (from +ℤ period)
-next_congruent_below {from} {phase} {period} {t} up h =
-    by_lt_z t (from +ℤ period) (λ below. below) (λ above. absurd (omega (arith, linear, h.least (t -ℤ period) (omega (arith, linear)) (step_before h.holds))))
-
 -- what fits is not less than something that does not
 no_larger : (u : ℕ) (t : ℤ) {from : ℕ} → u < 2 ^ 64 → pos from ≤ℤ t → t ≤ℤ pos u → FitsUnsignedBits 64 t
 no_larger u (pos t) below from_there least = omega (arith, ints)
@@ -194,21 +191,13 @@ binomial_is_natural n k (Some c) h =
     let is : c ≡ coefficient n k = ap unsigned_abs h.1.1 in
     (is, λ within. rw is (omega (arith, factorial_formula n k within)))
 
+-- Different numbers below n are a combination when they are sorted.
+pub sorted_choice : (n : ℕ) (numbers sorted : List ℕ) → IsPermutation numbers sorted → IsSorted nat_cmp sorted → All (λ c. c < n) numbers → IsDistinct nat_eq numbers → IsChoice n sorted
+sorted_choice n numbers sorted moved order below distinct = record {
+  increasing = IsStrictlyIncreasing-from_distinct sorted (IsNonDecreasingBy-from_sort (λ c. c) sorted order) (IsDistinct-IsPermutation nat_eq (λ x y. grind (arith, nat_tests)) numbers sorted moved distinct);
+  below = All-permutation (λ c. c < n) numbers sorted moved below;
+}
+
 -- A falling factorial, by factorials.
 pub falling_is_natural : {n k r : ℕ} → k ≤ n → r ≡ falling n k → r * factorial (n - k) ≡ factorial n
 falling_is_natural {n} {k} within is = rw is (falling_formula n k within)
-
--- ---- properties of the same numbers
-
-module _ {P Q : ℤ → Type 0} (same : (u : ℤ) → P u ↔ Q u) where
-  -- They have the same least number.
-  pub least_as : {from t : ℤ} → IsLeastFrom from P t → IsLeastFrom from Q t
-  least_as {t = t} h = record { from_there = h.from_there; holds = (same t).0 h.holds; least = λ u later has. h.least u later ((same u).1 has) }
-
-  all_as : (from : ℤ) (items : List ℤ) → AreAllFrom from P items → AreAllFrom from Q items
-  all_as from [] none = λ u later has. none u later ((same u).1 has)
-  all_as from (t ∷ items) h = (least_as h.0, all_as (t +ℤ pos 1) items h.1)
-
-  -- They have the same count.
-  pub count_as : {from n : ℤ} → IsCountFrom from P n → IsCountFrom from Q n
-  count_as {from = from} h = record { items = h.items; all = all_as from h.items h.all; counted = h.counted }

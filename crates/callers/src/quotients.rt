@@ -15,6 +15,17 @@ pub fn quotient_by_positive(n: i64, d: i64) -> i64
     n.div_floor(&d)
 }
 
+/// Returns the quotient, or `None` if the divisor is 0 or the quotient does not fit.
+#[tactic(auto, using(num_integer::proofs::ForCallers::quotient_passed_on))]
+pub fn floored_or_none(n: i64, d: i64) -> Option<i64>
+    ensures { MatchOption result
+        (¬ ((d ≢ pos 0) × EachFits (FitsSigned w64) (IsQuotient IsFloored n d)))
+        (IsQuotient IsFloored n d) }
+{
+    let quotient = checked::div_floor(n, d)?;
+    Some(quotient)
+}
+
 /// Returns the number of whole weeks. The quotient by a literal other than 0 and -1 always fits.
 pub fn weeks(days: i64) -> i64
     ensures { IsQuotient IsFloored days (pos 7) result }

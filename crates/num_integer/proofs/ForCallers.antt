@@ -22,6 +22,7 @@ pub use Rattle.num_integer.proofs.CheckedAnswers.{narrowed, none_narrower}
 pub use Rattle.integer_core.proofs.Whole.{from_not_less, from_test}
 pub use Rattle.num_integer.proofs.CheckedAnswers.{answer_only, answers_as, answers_only, some_in_domain}
 pub use Rattle.num_integer.proofs.FittingAnswers.{signed_is}
+pub use Rattle.num_integer.proofs.PassedOn.{quotient_passed_on}
 -- ---- rulesets, for `omega`, `grind` and `simp`
 -- `omega (arith, linear)` proves equations and inequalities of integers that are linear. `sizes` is `linear` with magnitudes,
 -- and `products` is `linear` with products. `simp expand` multiplies out both sides of an equation. `comm` says that a · b is b · a.

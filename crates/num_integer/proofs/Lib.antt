@@ -9,5 +9,6 @@ pub mod Multiples
 pub mod Powers
 pub mod DivisorSums
 pub mod NearestQuotients
+pub mod PassedOn
 pub mod Laws
 pub mod ForCallers

@@ -3,17 +3,17 @@ use Rattle.ratio64.proofs.Common.{◌≡◌, ◌*ℤ◌, ℤ, Option, None, Fits
 
 -- a fraction times an integer is rounded to no number that fits
 module _ (num n den : ℤ) (r : Option ℤ) (fits : FitsSigned w64 n) (is : r ≡ None) where
-  pub quotient_passed_on : {Kind : ℤ → ℤ → ℤ → ℤ → Type 0} → ¬ (EachFits (FitsSigned w64) (IsQuotient Kind (num *ℤ to_z w64 (of_z w64 n)) den))
+  pub quotient_times_passed_on : {Kind : ℤ → ℤ → ℤ → ℤ → Type 0} → ¬ (EachFits (FitsSigned w64) (IsQuotient Kind (num *ℤ to_z w64 (of_z w64 n)) den))
       → AnswersWhere (EachFits (FitsSigned w64) (IsQuotient Kind (num *ℤ n) den)) (IsQuotient Kind (num *ℤ n) den) r
-  quotient_passed_on none = rw is (rw (to_z-of_z w64 n fits) at none)
+  quotient_times_passed_on none = rw is (rw (to_z-of_z w64 n fits) at none)
 
-  pub rounded_passed_on : ¬ (EachFits (FitsSigned w64) (IsRounded (num *ℤ to_z w64 (of_z w64 n)) den))
+  pub rounded_times_passed_on : ¬ (EachFits (FitsSigned w64) (IsRounded (num *ℤ to_z w64 (of_z w64 n)) den))
       → AnswersWhere (EachFits (FitsSigned w64) (IsRounded (num *ℤ n) den)) (IsRounded (num *ℤ n) den) r
-  rounded_passed_on none = rw is (rw (to_z-of_z w64 n fits) at none)
+  rounded_times_passed_on none = rw is (rw (to_z-of_z w64 n fits) at none)
 
-  pub rounded_even_passed_on : ¬ (EachFits (FitsSigned w64) (IsRoundedEven (num *ℤ to_z w64 (of_z w64 n)) den))
+  pub rounded_even_times_passed_on : ¬ (EachFits (FitsSigned w64) (IsRoundedEven (num *ℤ to_z w64 (of_z w64 n)) den))
       → AnswersWhere (EachFits (FitsSigned w64) (IsRoundedEven (num *ℤ n) den)) (IsRoundedEven (num *ℤ n) den) r
-  rounded_even_passed_on none = rw is (rw (to_z-of_z w64 n fits) at none)
+  rounded_even_times_passed_on none = rw is (rw (to_z-of_z w64 n fits) at none)
 
 -- The `None` of `floor_times`, `ceil_times`, `round_times` and `round_even_times` that `?` passes on.
-pub ruleset times_passed_on = (quotient_passed_on, rounded_passed_on, rounded_even_passed_on)
+pub ruleset times_passed_on = (quotient_times_passed_on, rounded_times_passed_on, rounded_even_times_passed_on)
