@@ -1,6 +1,6 @@
 -- What the calls say of unsigned numbers, in natural numbers: by `/`, `%`, `*` and `min`. The lemmas on an `Option` are at 64 bits, so that `using` finds
 -- them for `u64` and `usize`.
-use Rattle.applied.proofs.Common.{All, List, ◌≡◌, ◌<◌, ◌≤◌, ◌+◌, ◌-◌, ◌*◌, ◌/◌, ◌^◌, ◌≤ℤ◌, ◌<ℤ◌, ◌+ℤ◌, ◌-ℤ◌, ◌*ℤ◌, ℕ, ℤ, pos, negsuc, suc, unsigned_abs, Option, Some, None, MatchOption, arith, ap, cases_lt, inl, inr, clamps, ints, products, sizes, ceiled_by_range, coefficient, factorial_formula, floored_by_range, next_multiple_least, AnswersQuotient, AnswersWhere, Divides, FitsUnsignedBits, FitsWith, IsChoice, IsMeeting, IsPlace, IsRangeOfPage, IsRangeOfPart, cut_at}
+use Rattle.applied.proofs.Common.{All, List, ◌≡◌, ◌<◌, ◌≤◌, ◌+◌, ◌-◌, ◌*◌, ◌/◌, ◌^◌, ◌≤ℤ◌, ◌+ℤ◌, ◌-ℤ◌, ◌*ℤ◌, ℕ, ℤ, pos, negsuc, suc, unsigned_abs, Option, Some, None, MatchOption, arith, ap, cases_lt, inl, inr, clamps, ints, products, sizes, ceiled_by_range, coefficient, factorial_formula, floored_by_range, next_multiple_least, AnswersQuotient, AnswersWhere, Divides, FitsUnsignedBits, FitsWith, IsChoice, IsMeeting, IsPlace, IsRangeOfPage, IsRangeOfPart, cut_at}
 use Rattle.applied.proofs.FallingFactorials.{falling_formula}
 use Rattle.applied.proofs.ItemRanges.{only_page_range, only_part_range, page_range_is, part_range}
 use Rattle.applied.proofs.Timetables.{next_congruent_below}

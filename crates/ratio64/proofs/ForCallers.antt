@@ -19,7 +19,7 @@ pub use Rattle.ratio64.specs.ReducedPairs.{AreEqual-sym, IsReduced-prop, denomin
 pub use Rattle.ratio64.proofs.ReducedParts.{magnitude_reduced, negated_reduced, remainder_reduced}
 -- ---- the order, by cross multiplication
 
-pub use Rattle.ratio64.proofs.Comparisons.{equal_exactly, equal_fractions_compare_alike, greater_exactly, less_exactly}
+pub use Rattle.ratio64.proofs.Comparisons.{equal_exactly, equal_fractions_compare_alike, natural_fractions_compare_alike, natural_reduced_alike, greater_exactly, less_exactly}
 -- ---- equal fractions, their sums and products
 
 pub use Rattle.ratio64.proofs.EqualFractions.{equal_exact, equal_fractions_answered_alike, equal_outside, nonzero_product, product_of_exact_results, sum_of_exact_results, times_of_exact_result}
