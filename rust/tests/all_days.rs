@@ -76,6 +76,11 @@ fn each_day() {
             (weekday_of(day), found.weekday()),
             (weekday_at(day), weekday_at(day))
         );
+        assert_eq!(weekday_at(FIRST).plus_days(day - FIRST), weekday_at(day));
+        assert_eq!(
+            found.last_of_month(),
+            date(year, month, month_length(year, month))
+        );
         if let Some(last) = last {
             assert_eq!((last.next(), found.previous()), (Some(found), Some(last)));
             assert!(last < found, "{day}");
@@ -111,7 +116,8 @@ fn each_day_of_its_year() {
 /// Week 1 is the one that has 4 January. The first Monday is 3 January of year -800.
 #[test]
 fn each_day_of_its_week() {
-    let mut week = IsoWeek::new(-801, 52).expect("the year has this week");
+    let first = IsoWeek::new(-801, 52).expect("the year has this week");
+    let (mut week, mut weeks) = (first, 0);
     for (day, year, month, day_of_month) in days(-800, 1600, FIRST) {
         let weekday = weekday_at(day);
         if weekday == Weekday::Monday {
@@ -122,6 +128,15 @@ fn each_day_of_its_week() {
                 (week.year(), week.week() + 1)
             };
             week = IsoWeek::new(next.0, next.1).expect("the year has this week");
+            weeks += 1;
+            assert_eq!(
+                (first.plus_weeks(weeks), week.plus_weeks(-weeks)),
+                (Some(week), Some(first))
+            );
+            assert_eq!(
+                (first.weeks_between(&week), week.weeks_between(&first)),
+                (Some(weeks), Some(-weeks))
+            );
         }
         let found = date(year, month, day_of_month);
         assert_eq!(found.iso_week(), Some(week), "{day}");

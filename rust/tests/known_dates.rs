@@ -398,6 +398,96 @@ const WEEKS_OF_YEARS: [((u8, u16), &[i64]); 4] = [
     ((52, 365), &[2005, 1900]),
 ];
 
+/// A year and the number of a week.
+type Week = (i64, u8);
+
+/// A week, a number of weeks, and the week this number of weeks later, or `None` where its year does not fit: by
+/// `isocalendar` of Python, 20871 weeks to 400 years.
+const WEEKS_LATER: [(Week, i64, Option<Week>); 15] = [
+    ((2004, 53), 0, Some((2004, 53))),
+    ((2004, 53), 1, Some((2005, 1))),
+    ((2004, 53), -53, Some((2003, 52))),
+    ((2020, 53), 1, Some((2021, 1))),
+    ((2020, 53), -53, Some((2019, 52))),
+    ((2026, 1), 52, Some((2026, 53))),
+    ((2026, 1), 53, Some((2027, 1))),
+    ((0, 1), -1, Some((-1, 52))),
+    ((1970, 1), MAX, Some((176769144494367851, 52))),
+    ((1970, 1), MIN, Some((-176769144494363912, 1))),
+    ((MIN, 1), MAX, Some((-9046602892360409927, 52))),
+    ((MAX, 53), 1, None),
+    ((MAX, 1), MAX, None),
+    ((MIN, 1), -1, None),
+    ((MIN, 52), MIN, None),
+];
+
+#[test]
+fn weeks_later() {
+    for &((year, week), weeks, later) in &WEEKS_LATER {
+        let from = week_of(year, week);
+        let found = from.plus_weeks(weeks);
+        let expected = later.map(|(year, week)| week_of(year, week));
+        holds_at(found == expected, &("plus_weeks", from, weeks));
+        let between = found.and_then(|later| from.weeks_between(&later));
+        holds_at(between == found.and(Some(weeks)), &("weeks_between", from, weeks));
+    }
+    let (first, last) = (week_of(MIN, 1), week_of(MAX, 53));
+    let ends = (first.weeks_between(&last), last.weeks_between(&first));
+    holds_at(ends == (None, None), &"the ends");
+    let beyond = week_of(-9046602892360409926, 1);
+    let weeks = (first.weeks_between(&beyond), beyond.weeks_between(&first));
+    holds_at(weeks == (None, Some(MIN)), &"weeks_between");
+}
+
+/// A day of the week, a number of days, and the day of the week this number of days later.
+const WEEKDAYS_LATER: [(Weekday, i64, Weekday); 10] = [
+    (Monday, 10, Thursday),
+    (Monday, -1, Sunday),
+    (Sunday, 0, Sunday),
+    (Sunday, 7, Sunday),
+    (Sunday, 1, Monday),
+    (Wednesday, -3, Sunday),
+    (Saturday, 1_000_000, Sunday),
+    (Thursday, MAX, Thursday),
+    (Thursday, MIN, Wednesday),
+    (Friday, -700, Friday),
+];
+
+#[test]
+fn weekdays_later() {
+    for &(from, days, to) in &WEEKDAYS_LATER {
+        holds_at(from.plus_days(days) == to, &("plus_days", from, days));
+    }
+}
+
+/// The parts of a date, and the last day of its month, by `monthrange` of Python, 400 years to its years.
+const LAST_OF_MONTHS: [(Parts, u8); 16] = [
+    ((2000, 2, 1), 29),
+    ((1900, 2, 28), 28),
+    ((2023, 2, 28), 28),
+    ((2024, 2, 29), 29),
+    ((2026, 4, 30), 30),
+    ((2026, 7, 31), 31),
+    ((2026, 8, 1), 31),
+    ((2026, 12, 5), 31),
+    ((1, 1, 1), 31),
+    ((9999, 12, 31), 31),
+    ((0, 2, 3), 29),
+    ((-4, 2, 1), 29),
+    ((-100, 2, 1), 28),
+    ((MAX, 2, 1), 28),
+    ((MIN, 2, 9), 29),
+    ((MAX, 12, 31), 31),
+];
+
+#[test]
+fn last_of_months() {
+    for &((year, month, day), last) in &LAST_OF_MONTHS {
+        let found = date((year, month, day)).last_of_month();
+        holds_at(found == date((year, month, last)), &("last_of_month", year, month));
+    }
+}
+
 /// Of 400 years those with 53 weeks, by `isocalendar` of Python.
 #[rustfmt::skip]
 const WITH_53_WEEKS: [i64; 71] = [

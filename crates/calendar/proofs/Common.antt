@@ -34,15 +34,15 @@ pub use Rattle.integer_core.proofs.Quotients.{floored_exists, only_floored}
 pub use Rattle.integer_core.proofs.Whole.{from_not_less, linear, products, sizes}
 pub use Rattle.integer_core.proofs.WrittenTexts.{same_written, then_written}
 pub use Rattle.integer_core.specs.Division.{IsFloored, IsQuotient, IsRemainder}
-pub use Rattle.calendar.specs.Dates.{HasFifthWeekday, HasParts, IsEarlier, IsLastWeekdayOfMonth, IsMonthsAfter, IsMonthsBetween, IsNextLastWeekday, IsNthWeekday, IsYearsBetween, day_numbers, number_of}
+pub use Rattle.calendar.specs.Dates.{HasFifthWeekday, HasParts, IsEarlier, IsLastOfMonth, IsLastWeekdayOfMonth, IsMonthsAfter, IsMonthsBetween, IsNextLastWeekday, IsNthWeekday, IsYearsBetween, day_numbers, number_of}
 pub use Rattle.calendar.specs.Easter.{IsEaster, IsEpact, IsLunarCorrection, IsPaschalFullMoon, IsSolarCorrection, days_to_full_moon}
-pub use Rattle.calendar.specs.IsoWeeks.{HasIsoWeek, HasIsoWeeks, IsDayOfIsoWeek, IsInIsoWeek, IsThursdayOfWeek}
-pub use Rattle.calendar.specs.Laws.{DateExists, DateIsOnly, DateOfPartsIsOnly, DateOfYearDayIsOnly, EarlierFullMoons, EasterIsOnly, EpactOfTheFirstYear, EpactOfTheNextYear, FirstDay, FirstWeekdayExists, FirstWeekdayIsOnly, FullMoonsDiffer, IsoDayExists, IsoDayIsOnly, IsoNumberIsOnly, IsoWeekExists, IsoWeekIsOnly, IsoWeekOfNumbersIsOnly, IsoWeeksAreOnly, LastWeekdayExists, LastWeekdayIsOnly, LastWeekdayOfMonthIsOnly, LeapYearsByDivisors, LengthsOfYears, LunarCorrectionOfTwentyFiveCenturies, LunarCorrectionsFrom1800, MonthsAfterExists, MonthsAfterIsOnly, MonthsBetweenIsOnly, NextLastWeekdayExists, NextLastWeekdayIsOnly, NthWeekdayIsOnly, OrderOfDates, OrderOfIsoWeeks, SolarCorrectionOfTheNextCentury, TextIsOnly, WeekdayIsOnly, WeekdaysFollow, WeeksOfAYear, YearOfDayExists, YearOfDayIsOnly, YearsBetweenIsOnly, YearsFollow}
+pub use Rattle.calendar.specs.IsoWeeks.{HasIsoWeek, HasIsoWeeks, IsDayOfIsoWeek, IsInIsoWeek, IsThursdayOfWeek, IsWeeksAfter}
+pub use Rattle.calendar.specs.Laws.{DateExists, DateIsOnly, DateOfPartsIsOnly, DateOfYearDayIsOnly, EarlierFullMoons, EasterIsOnly, EpactOfTheFirstYear, EpactOfTheNextYear, FirstDay, FirstWeekdayExists, FirstWeekdayIsOnly, FullMoonsDiffer, IsoDayExists, IsoDayIsOnly, IsoNumberIsOnly, IsoWeekExists, IsoWeekIsOnly, IsoWeekOfNumbersIsOnly, IsoWeeksAreOnly, LastOfMonthIsOnly, LastWeekdayExists, LastWeekdayIsOnly, LastWeekdayOfMonthIsOnly, LeapYearsByDivisors, LengthsOfYears, LunarCorrectionOfTwentyFiveCenturies, LunarCorrectionsFrom1800, MonthsAfterExists, MonthsAfterIsOnly, MonthsBetweenIsOnly, NextLastWeekdayExists, NextLastWeekdayIsOnly, NthWeekdayIsOnly, OrderOfDates, OrderOfIsoWeeks, SolarCorrectionOfTheNextCentury, TextIsOnly, WeekdayAfterIsOnly, WeekdayIsOnly, WeekdaysFollow, WeeksAfterExists, WeeksAfterIsOnly, WeeksBetweenAreOnly, WeeksOfAYear, YearOfDayExists, YearOfDayIsOnly, YearsBetweenIsOnly, YearsFollow}
 pub use Rattle.calendar.specs.LeapYears.{is_leap_year}
 pub use Rattle.calendar.specs.Months.{IsDate, days_before_month, days_in_month, month_lengths, month_number, months_of}
 pub use Rattle.calendar.specs.Text.{IsShortest, padded, text_of, week_text, with_number, year_text}
 pub use Rattle.calendar.specs.Weekday.{weekday_number}
-pub use Rattle.calendar.specs.Weeks.{HasWeekday, IsFirstWeekday, IsLastWeekday}
+pub use Rattle.calendar.specs.Weeks.{HasWeekday, IsFirstWeekday, IsLastWeekday, IsWeekdayAfter}
 pub use Rattle.calendar.specs.Years.{HasDay, day_number, days_in_year, first_day}
 pub use Rattle.calendar.specs.declared.date.Date.{Date}
 pub use Rattle.calendar.specs.declared.iso_weeks.IsoWeek.{IsoWeek}

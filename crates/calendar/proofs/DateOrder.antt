@@ -1,5 +1,5 @@
 -- Dates in their order, and their days.
-use Rattle.calendar.proofs.Common.{◌≡◌, ◌⊎◌, ◌+◌, ◌-◌, ◌<◌, ◌≤◌, ◌<ℤ◌, ◌+ℤ◌, ℕ, ℤ, pos, List, length, take, sum, slice_index, ◌∙◌, ap, arith, inl, inr, sym, ints, to_z-of_z, take-take, linear, props, sum_by-take-le, sum_by_more, is_prop→PathP, Date, IsEarlier, number_of, DateIsOnly, DateOfPartsIsOnly, DateOfYearDayIsOnly, OrderOfDates, IsDate, days_before_month, days_in_month, months_of, day_number, first_day}
+use Rattle.calendar.proofs.Common.{◌≡◌, ◌⊎◌, ◌+◌, ◌-◌, ◌<◌, ◌≤◌, ◌<ℤ◌, ◌+ℤ◌, ℕ, ℤ, pos, List, length, take, sum, slice_index, ◌∙◌, ap, arith, inl, inr, sym, ints, to_z-of_z, take-take, linear, props, sum_by-take-le, sum_by_more, is_prop→PathP, Date, HasParts, IsEarlier, IsLastOfMonth, LastOfMonthIsOnly, number_of, DateIsOnly, DateOfPartsIsOnly, DateOfYearDayIsOnly, OrderOfDates, IsDate, days_before_month, days_in_month, months_of, day_number, first_day}
 use Rattle.calendar.specs.Years.{days_in_year}
 use Rattle.calendar.proofs.YearLengths.{later_year, next_first_day}
 
@@ -72,3 +72,18 @@ only_of_year_day a b year day = only_date a b (omega (arith, linear, ap first_da
 -- the order of dates is that of their numbers
 pub order : OrderOfDates
 order a b = (earlier_is_less a b, λ less. grind (arith, linear, compared a b, earlier_is_less b a))
+
+-- ---- the last date of a month
+
+pub last_of_month : {year : ℤ} {month : ℕ} (date : Date) → HasParts date year month (days_in_month year month) → IsLastOfMonth year month date
+last_of_month date h = record {
+  year_is = h.year_is;
+  month_is = h.month_is;
+  last = λ other years months.
+      let to = rw (years, months) at other.valid.day_to_last in
+      rw (years, months, h.year_is, h.month_is, h.day_is) (omega (arith, ints, to));
+}
+
+-- of which there is only one
+pub only_last_of_month : LastOfMonthIsOnly
+only_last_of_month year month a b h k = only_date a b (omega (arith, ints, h.last b k.year_is k.month_is, k.last a h.year_is h.month_is))

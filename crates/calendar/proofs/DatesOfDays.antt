@@ -1,9 +1,10 @@
 -- Each day has a date, and is in a year and in a week.
-use Rattle.calendar.proofs.Common.{◌≡◌, ◌+◌, ◌*◌, ◌/◌, ◌≤◌, ◌+ℤ◌, ◌-ℤ◌, ℕ, zero, suc, ℤ, pos, negsuc, unsigned_abs, FitsSigned, MatchOption, Option, Some, None, w64, ◌∙◌, ap, arith, inl, inr, le_refl, refl, subst, sym, cases_lt, ints, IfSome, IsSome, Date, Thursday, number_of, DateExists, IsoWeekExists, YearOfDayExists, days_in_month, HasDay, day_number, first_day}
+use Rattle.calendar.proofs.Common.{◌≡◌, ◌+◌, ◌*◌, ◌/◌, ◌≤◌, ◌+ℤ◌, ◌-ℤ◌, ◌*ℤ◌, ℕ, zero, suc, ℤ, pos, negsuc, unsigned_abs, FitsSigned, MatchOption, Option, Some, None, w64, ◌∙◌, ap, arith, inl, inr, le_refl, refl, subst, sym, cases_lt, ints, IfSome, IsSome, Date, Thursday, number_of, DateExists, IsoWeekExists, WeeksAfterExists, YearOfDayExists, days_in_month, HasDay, IsDayOfIsoWeek, IsWeeksAfter, day_number, first_day}
 use Rattle.calendar.proofs.DateOrder.{last_of_year, next_month, next_year, year_day_range}
 use Rattle.calendar.proofs.LaterEras.{later, number_later}
 use Rattle.calendar.proofs.MonthLengths.{date_of, month_length_range}
-use Rattle.calendar.proofs.WeekdayPlaces.{weekday_within}
+use Rattle.calendar.proofs.IsoWeeks.{later_week, one_year}
+use Rattle.calendar.proofs.WeekdayPlaces.{same_day, weekday_within, weeks_apart}
 use Rattle.calendar.proofs.YearLengths.{next_first_day}
 
 -- ---- the date of a day
@@ -96,3 +97,20 @@ iso_week_exists day =
         before = omega (arith, ints);
       },
     )
+
+-- ---- a week some weeks later
+
+pub weeks_after_exist : WeeksAfterExists
+weeks_after_exist year week weeks h =
+    let (y, w, later) = iso_week_exists (h.day +ℤ pos 7 *ℤ weeks) in
+    (y, w, record { day = h.day; in_week = h.in_week; in_later = later })
+
+-- its year is that of its Thursday
+pub weeks_beyond : {thursday year day : ℤ} {week : ℕ} (weeks : ℤ) → IsDayOfIsoWeek thursday year week Thursday → day ≡ thursday +ℤ pos 7 *ℤ weeks
+    → ((date : Date) → number_of date ≡ day → ¬ (FitsSigned w64 date.year)) → (y : ℤ) (w : ℕ) → IsWeeksAfter year week weeks y w → ¬ (FitsSigned w64 y)
+weeks_beyond {day = day} weeks h place beyond y w k fits =
+    let (date, is) = date_exists day in
+    let own = later_week h.in_week k in
+    let thursday : own.thursday ≡ day = same_day Thursday own.of_week.has_weekday (weeks_apart weeks place h.has_weekday) (omega (arith, ints, own.of_week.from, own.of_week.to)) (omega (arith, ints, own.of_week.from, own.of_week.to)) in
+    let year : date.year ≡ y = one_year day _ _ (subst (HasDay date.year) is (in_its_year date)) (subst (HasDay y) thursday own.of_year) in
+    beyond date is (rw year fits)

@@ -1,7 +1,7 @@
 -- The weeks of ISO 8601.
-use Rattle.calendar.proofs.Common.{◌≡◌, ◌+◌, ◌-◌, ◌*◌, ◌/◌, ◌%◌, ◌<◌, ◌≤◌, ◌≤ℤ◌, ◌<ℤ◌, ◌+ℤ◌, ◌-ℤ◌, ◌*ℤ◌, ℕ, ℤ, pos, FitsSigned, MatchOption, Option, Some, None, w64, ap, arith, inl, inr, refl, subst, sym, cases_lt, ints, floored_by_range, linear, IsFloored, IsRemainder, ∥∥₁_elim, ∥∥₁_prop, props, is_prop→PathP, Date, number_of, HasIsoWeek, HasIsoWeeks, IsDayOfIsoWeek, IsInIsoWeek, IsThursdayOfWeek, IsoDayExists, IsoDayIsOnly, IsoWeekIsOnly, IsoWeekOfNumbersIsOnly, IsoWeeksAreOnly, OrderOfIsoWeeks, WeeksOfAYear, YearOfDayIsOnly, HasDay, days_in_year, first_day, weekday_number, HasWeekday, Weekday, Monday, Thursday}
+use Rattle.calendar.proofs.Common.{◌≡◌, ◌+◌, ◌-◌, ◌*◌, ◌/◌, ◌%◌, ◌<◌, ◌≤◌, ◌≤ℤ◌, ◌<ℤ◌, ◌+ℤ◌, ◌-ℤ◌, ◌*ℤ◌, ℕ, ℤ, pos, FitsSigned, MatchOption, Option, Some, None, w64, ap, arith, inl, inr, refl, subst, sym, cases_lt, ints, floored_by_range, floored_quotient_range, linear, IsFloored, IsQuotient, IsRemainder, ∥∥₁_elim, ∥∥₁_prop, props, is_prop→PathP, Date, number_of, HasIsoWeek, HasIsoWeeks, IsDayOfIsoWeek, IsInIsoWeek, IsThursdayOfWeek, IsWeeksAfter, IsoWeek, WeeksAfterIsOnly, WeeksBetweenAreOnly, IsoDayExists, IsoDayIsOnly, IsoWeekIsOnly, IsoWeekOfNumbersIsOnly, IsoWeeksAreOnly, OrderOfIsoWeeks, WeeksOfAYear, YearOfDayIsOnly, HasDay, days_in_year, first_day, weekday_number, HasWeekday, Weekday, Monday, Thursday}
 use Rattle.calendar.proofs.DateOrder.{year_day_range}
-use Rattle.calendar.proofs.WeekdayPlaces.{below_seven, days_earlier, days_later, on_weekday, same_day, weekday_within}
+use Rattle.calendar.proofs.WeekdayPlaces.{below_seven, days_earlier, days_later, on_weekday, same_day, weekday_within, weeks_apart}
 use Rattle.calendar.proofs.YearLengths.{later_year, length_range, next_first_day}
 
 -- ---- Thursdays
@@ -129,6 +129,13 @@ thursday_in_year {year} place h from before inside = grind (arith, ints, next_fi
 pub within_year : {day year : ℤ} {week : ℕ} (place : ℕ) → HasWeekday (first_day year +ℤ pos place) Thursday → 7 * week ≤ place + 7 → place < 7 * week → IsInIsoWeek day year week → place < days_in_year year
 within_year {year = year} place own from before h = omega (arith, ints, next_first_day year)
 
+-- of a week that the year has
+pub thursday_of_week : {year : ℤ} {week : ℕ} (place : ℕ) → ∥ HasIsoWeek year week ∥₁ → HasWeekday (first_day year +ℤ pos place) Thursday → 7 * week ≤ place + 7 → place < 7 * week
+    → (place < days_in_year year) × IsDayOfIsoWeek (first_day year +ℤ pos place) year week Thursday
+thursday_of_week {year} {week} place h own from before =
+    let inside : place < days_in_year year = ∥∥₁_elim h (hlevel props) (λ k. within_year place own from before k.in_week) in
+    (inside, thursday_in_year place own from before inside)
+
 -- ---- the number of weeks of a year
 
 -- 53, if the year has a week 53, and else 52
@@ -152,3 +159,51 @@ has_52_weeks {year} none =
 -- of which there is only one
 pub one_number : IsoWeeksAreOnly
 one_number year m n h k = omega (arith, h.no_later k.day n k.in_last, k.no_later h.day m h.in_last)
+
+-- ---- weeks some weeks apart
+
+-- all days of a week have one Thursday
+one_thursday : {a b year : ℤ} {week : ℕ} (h : IsInIsoWeek a year week) (k : IsInIsoWeek b year week) → h.thursday ≡ k.thursday
+one_thursday h k = same_day Thursday h.of_week.has_weekday k.of_week.has_weekday (omega (arith, ints, h.before, k.from)) (omega (arith, ints, h.from, k.before))
+
+-- the Thursdays of two weeks are as many weeks apart
+thursdays_apart : {day year other : ℤ} {week number : ℕ} (weeks : ℤ) (h : IsInIsoWeek day year week) (k : IsInIsoWeek (day +ℤ pos 7 *ℤ weeks) other number) → k.thursday ≡ h.thursday +ℤ pos 7 *ℤ weeks
+thursdays_apart weeks h k = same_day Thursday k.of_week.has_weekday (weeks_apart weeks refl h.of_week.has_weekday)
+    (omega (arith, ints, h.of_week.from, h.of_week.to, k.of_week.from, k.of_week.to)) (omega (arith, ints, h.of_week.from, h.of_week.to, k.of_week.from, k.of_week.to))
+
+-- and so are any two of their days that have one day of the week
+pub later_week : {day year weeks y : ℤ} {week w : ℕ} → IsInIsoWeek day year week → IsWeeksAfter year week weeks y w → IsInIsoWeek (day +ℤ pos 7 *ℤ weeks) y w
+later_week {weeks = weeks} h k =
+    let apart = thursdays_apart weeks k.in_week k.in_later in
+    let same = one_thursday h k.in_week in
+    record {
+      thursday = k.in_later.thursday;
+      of_week = record { has_weekday = k.in_later.of_week.has_weekday; from = omega (arith, ints, apart, same, h.of_week.from); to = omega (arith, ints, apart, same, h.of_week.to) };
+      of_year = k.in_later.of_year;
+      from = k.in_later.from;
+      before = k.in_later.before;
+    }
+
+-- one week is so many weeks later
+pub only_weeks_after : WeeksAfterIsOnly
+only_weeks_after year week weeks y z v w h k = one_week _ y z v w h.in_later (later_week h.in_week k)
+
+-- and it is so many weeks later alone
+pub only_weeks_between : WeeksBetweenAreOnly
+only_weeks_between year week a b y w h k =
+    omega (arith, ints, thursdays_apart a h.in_week h.in_later, thursdays_apart b k.in_week k.in_later, one_thursday h.in_week k.in_week, one_thursday h.in_later k.in_later)
+
+-- the week of a day so many weeks later, if its year fits
+pub week_or_none : (o : Option IsoWeek) {day later year : ℤ} {week : ℕ} (weeks : ℤ) → IsInIsoWeek day year week → later ≡ day +ℤ pos 7 *ℤ weeks
+    → MatchOption o ((y : ℤ) (w : ℕ) → IsInIsoWeek later y w → ¬ (FitsSigned w64 y)) (λ found. IsInIsoWeek later found.year found.week)
+    → MatchOption o ((y : ℤ) (w : ℕ) → IsWeeksAfter year week weeks y w → ¬ (FitsSigned w64 y)) (λ found. IsWeeksAfter year week weeks found.year found.week)
+week_or_none None weeks h place beyond = λ y w k. beyond y w (subst (λ (d : ℤ). IsInIsoWeek d y w) (sym place) (later_week h k))
+week_or_none (Some found) weeks h place near = record { day = _; in_week = h; in_later = subst (λ (d : ℤ). IsInIsoWeek d found.year found.week) place near }
+
+-- as many weeks as there are between the Thursdays
+pub weeks_of_days : {a b year y days given weeks quotient : ℤ} {week w : ℕ} → IsDayOfIsoWeek a year week Thursday → IsDayOfIsoWeek b y w Thursday → days ≡ b -ℤ a → given ≡ days → weeks ≡ quotient
+    → IsQuotient IsFloored given (pos 7) quotient → IsWeeksAfter year week weeks y w
+weeks_of_days {a} {b} {weeks = weeks} {w = w} h k apart same whole quotient =
+    let (low, high) = floored_quotient_range quotient in
+    let place : b ≡ a +ℤ pos 7 *ℤ weeks = omega (arith, ints, low, high, h.has_weekday.remainder.division.division.equation, k.has_weekday.remainder.division.division.equation) in
+    record { day = a; in_week = h.in_week; in_later = rw place at k.in_week }

@@ -10,7 +10,7 @@ pub use Rattle.calendar.proofs.DatesOfDays.{year_of_day_exists}
 pub use Rattle.calendar.proofs.IsoWeeks.{one_year as year_of_day_is_only}
 -- ---- dates
 
-pub use Rattle.calendar.proofs.DateOrder.{only_date as date_is_only, only_of_parts as date_of_parts_is_only, only_of_year_day as date_of_year_day_is_only, order as order_of_dates}
+pub use Rattle.calendar.proofs.DateOrder.{only_date as date_is_only, only_of_parts as date_of_parts_is_only, only_of_year_day as date_of_year_day_is_only, only_last_of_month as last_of_month_is_only, order as order_of_dates}
 pub use Rattle.calendar.proofs.DatesOfDays.{date_exists}
 pub use Rattle.calendar.proofs.DateTexts.{only_text as text_is_only}
 -- ---- months
@@ -20,9 +20,9 @@ pub use Rattle.calendar.proofs.MonthWeekdays.{only_last_of_month as last_weekday
 pub use Rattle.calendar.proofs.NextLastWeekdays.{next_last_weekday_exists, only_next_last as next_last_weekday_is_only}
 -- ---- weeks
 
-pub use Rattle.calendar.proofs.WeekdayPlaces.{first_exists as first_weekday_exists, last_exists as last_weekday_exists, next_weekdays as weekdays_follow, only_first as first_weekday_is_only, only_iso_number as iso_number_is_only, only_last as last_weekday_is_only, only_weekday as weekday_is_only}
-pub use Rattle.calendar.proofs.DatesOfDays.{iso_week_exists}
-pub use Rattle.calendar.proofs.IsoWeeks.{iso_day_exists, of_numbers as iso_week_of_numbers_is_only, one_day as iso_day_is_only, one_number as iso_weeks_are_only, one_week as iso_week_is_only, ordered_weeks as order_of_iso_weeks, week_range as weeks_of_a_year}
+pub use Rattle.calendar.proofs.WeekdayPlaces.{first_exists as first_weekday_exists, last_exists as last_weekday_exists, next_weekdays as weekdays_follow, only_first as first_weekday_is_only, only_iso_number as iso_number_is_only, only_last as last_weekday_is_only, only_weekday as weekday_is_only, only_weekday_after as weekday_after_is_only}
+pub use Rattle.calendar.proofs.DatesOfDays.{iso_week_exists, weeks_after_exist as weeks_after_exists}
+pub use Rattle.calendar.proofs.IsoWeeks.{iso_day_exists, of_numbers as iso_week_of_numbers_is_only, one_day as iso_day_is_only, one_number as iso_weeks_are_only, one_week as iso_week_is_only, only_weeks_after as weeks_after_is_only, only_weeks_between as weeks_between_are_only, ordered_weeks as order_of_iso_weeks, week_range as weeks_of_a_year}
 -- ---- Easter
 
 pub use Rattle.calendar.proofs.EasterSundays.{different_moons as full_moons_differ, earlier_moons as earlier_full_moons, only_easter as easter_is_only}

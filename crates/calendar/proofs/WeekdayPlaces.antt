@@ -1,5 +1,5 @@
 -- Days that have a given day of the week, and the first and the last of them.
-use Rattle.calendar.proofs.Common.{floored_exists, floored_remainder_range, ◌≡◌, ◌+◌, ◌-◌, ◌/◌, ◌%◌, ◌<◌, ◌≤ℤ◌, ◌<ℤ◌, ◌+ℤ◌, ◌-ℤ◌, ◌*ℤ◌, ℕ, ℤ, pos, unsigned_abs, FitsSigned, MatchOption, Option, w64, SomeIff, ap, arith, refl, ints, floored_by_range, greatest_is_only, least_is_only, linear, only_floored, Weekday, Thursday, FirstWeekdayExists, FirstWeekdayIsOnly, IsoNumberIsOnly, LastWeekdayExists, LastWeekdayIsOnly, WeekdayIsOnly, WeekdaysFollow, weekday_number, HasWeekday, IsFirstWeekday, IsLastWeekday}
+use Rattle.calendar.proofs.Common.{floored_exists, floored_remainder_range, ◌≡◌, ◌+◌, ◌-◌, ◌/◌, ◌%◌, ◌<◌, ◌≤ℤ◌, ◌<ℤ◌, ◌+ℤ◌, ◌-ℤ◌, ◌*ℤ◌, ℕ, ℤ, pos, unsigned_abs, FitsSigned, MatchOption, Option, w64, SomeIff, ap, arith, refl, ints, floored_by_range, greatest_is_only, least_is_only, linear, only_floored, IsFloored, IsRemainder, Weekday, Thursday, FirstWeekdayExists, FirstWeekdayIsOnly, IsoNumberIsOnly, LastWeekdayExists, LastWeekdayIsOnly, WeekdayAfterIsOnly, WeekdayIsOnly, WeekdaysFollow, weekday_number, HasWeekday, IsFirstWeekday, IsLastWeekday, IsWeekdayAfter}
 use Rattle.calendar.proofs.FoundOrBeyond.{only_or_beyond}
 
 -- ---- days of one day of the week
@@ -97,3 +97,14 @@ next_weekdays = (
   on_weekday Thursday (pos 0) (omega (arith, ints)),
   λ day a b h k. omega (arith, ints, h.remainder.division.division.equation, k.remainder.division.division.equation, below_seven a, below_seven b),
 )
+
+-- that of a number of days later
+pub weekday_after : {from weekday : Weekday} {days rest : ℤ} → IsRemainder IsFloored days (pos 7) rest → weekday_number weekday ≡ (weekday_number from + unsigned_abs rest) % 7 → IsWeekdayAfter from days weekday
+weekday_after {from} {weekday} {rest = rest} h turned =
+    let range = floored_remainder_range (omega (arith, ints)) h in
+    record { holds = λ day k. on_weekday weekday (k.remainder.quotient +ℤ h.quotient +ℤ pos ((weekday_number from + unsigned_abs rest) / 7)) (omega (arith, ints, range, turned, k.remainder.division.division.equation, h.division.division.equation)) }
+
+pub only_weekday_after : WeekdayAfterIsOnly
+only_weekday_after from days a b h k =
+    let (n, small, day) = weekday_within (pos 0) from in
+    only_weekday _ a b (h.holds _ day) (k.holds _ day)

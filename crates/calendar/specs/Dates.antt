@@ -71,7 +71,14 @@ pub record IsYearsBetween (from to : Date) (years : ℤ) : Type 0 where
   pub holds : HasMonths from to (pos 12 *ℤ years)
   pub greatest : (more : ℤ) → HasMonths from to (pos 12 *ℤ more) → more ≤ℤ years
 
--- ---- the n-th and the last weekday of a month
+-- ---- the last day, and the n-th and the last weekday of a month
+
+-- The date has this year and this month, and no other such date is later.
+-- Examples: 2000 and 2: 2000-02-29; 1900 and 2: 1900-02-28; not 2000 and 2: 2000-02-28.
+pub record IsLastOfMonth (year : ℤ) (month : ℕ) (date : Date) : Type 0 where
+  pub year_is : date.year ≡ year
+  pub month_is : date.month ≡ month
+  pub last : (other : Date) → other.year ≡ year → other.month ≡ month → number_of other ≤ℤ number_of date
 
 -- The date has this year, this month and this day of the week. Its day of the month is greater than 7·(n - 1) and at most 7·n.
 -- Examples: 2026, 11, Thursday: 1: 2026-11-05; 4: 2026-11-26; none at 0 or 5.

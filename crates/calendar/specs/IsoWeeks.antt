@@ -39,3 +39,10 @@ pub record HasIsoWeeks (year : ℤ) (weeks : ℕ) : Type 0 where
   pub day : ℤ
   pub in_last : IsInIsoWeek day year weeks
   pub no_later : (other : ℤ) (week : ℕ) → IsInIsoWeek other year week → week ≤ weeks
+
+-- A day that is 7 · weeks days after one of the week `week` of `year` is in the week `later_week` of `later_year`.
+-- Examples: 2004 and 53: 1: 2005 and 1; -53: 2003 and 52; 0: 2004 and 53.
+pub record IsWeeksAfter (year : ℤ) (week : ℕ) (weeks later_year : ℤ) (later_week : ℕ) : Type 0 where
+  pub day : ℤ
+  pub in_week : IsInIsoWeek day year week
+  pub in_later : IsInIsoWeek (day +ℤ pos 7 *ℤ weeks) later_year later_week

@@ -2,14 +2,14 @@
 use Rattle.std.specs.Prelude.{◌≡◌, ◌⊎◌, ◌↔◌, ◌<◌, ◌≤◌, ◌+◌, ◌*◌, ◌%◌, ◌<ℤ◌, ◌+ℤ◌, ℕ, ℤ, pos, FitsSigned, IsTrue, if◌then◌else◌}
 use Rattle.std.specs.Int.{w64}
 use Rattle.integer_core.specs.Divisors.{Divides}
-use Rattle.calendar.specs.Dates.{HasParts, IsEarlier, IsLastWeekdayOfMonth, IsMonthsAfter, IsMonthsBetween, IsNextLastWeekday, IsNthWeekday, IsYearsBetween, number_of, year_day_of}
-use Rattle.calendar.specs.IsoWeeks.{HasIsoWeek, HasIsoWeeks, IsDayOfIsoWeek, IsInIsoWeek}
+use Rattle.calendar.specs.Dates.{HasParts, IsEarlier, IsLastOfMonth, IsLastWeekdayOfMonth, IsMonthsAfter, IsMonthsBetween, IsNextLastWeekday, IsNthWeekday, IsYearsBetween, number_of, year_day_of}
+use Rattle.calendar.specs.IsoWeeks.{HasIsoWeek, HasIsoWeeks, IsDayOfIsoWeek, IsInIsoWeek, IsWeeksAfter}
 use Rattle.calendar.specs.LeapYears.{is_leap_year}
 use Rattle.calendar.specs.Years.{HasDay, day_number, days_in_year, first_day}
 use Rattle.calendar.specs.Easter.{IsEaster, IsEpact, IsLunarCorrection, IsSolarCorrection, days_to_full_moon, is_day_earlier}
 use Rattle.calendar.specs.Text.{text_of}
 use Rattle.calendar.specs.Weekday.{iso_number, weekday_number}
-use Rattle.calendar.specs.Weeks.{HasWeekday, IsFirstWeekday, IsLastWeekday}
+use Rattle.calendar.specs.Weeks.{HasWeekday, IsFirstWeekday, IsLastWeekday, IsWeekdayAfter}
 use Rattle.calendar.specs.declared.date.Date.{Date}
 use Rattle.calendar.specs.declared.iso_weeks.IsoWeek.{IsoWeek}
 use Rattle.calendar.specs.declared.weekday.Weekday.{Weekday}
@@ -101,6 +101,10 @@ NextLastWeekdayExists = (after : Date) (weekday : Weekday) → (date : Date) × 
 abbrev pub NextLastWeekdayIsOnly : Type 0
 NextLastWeekdayIsOnly = (after : Date) (weekday : Weekday) (a b : Date) → IsNextLastWeekday after weekday a → IsNextLastWeekday after weekday b → a ≡ b
 
+-- Each month has at most one last day.
+abbrev pub LastOfMonthIsOnly : Type 0
+LastOfMonthIsOnly = (year : ℤ) (month : ℕ) (a b : Date) → IsLastOfMonth year month a → IsLastOfMonth year month b → a ≡ b
+
 -- ---- weeks
 
 -- Each ISO 8601 number is that of at most one day of the week.
@@ -110,6 +114,10 @@ IsoNumberIsOnly = (a b : Weekday) → iso_number a ≡ iso_number b → a ≡ b
 -- Each day has at most one day of the week.
 abbrev pub WeekdayIsOnly : Type 0
 WeekdayIsOnly = (day : ℤ) (a b : Weekday) → HasWeekday day a → HasWeekday day b → a ≡ b
+
+-- At most one day of the week comes a number of days after another.
+abbrev pub WeekdayAfterIsOnly : Type 0
+WeekdayAfterIsOnly = (from : Weekday) (days : ℤ) (a b : Weekday) → IsWeekdayAfter from days a → IsWeekdayAfter from days b → a ≡ b
 
 -- Day 0 is a Thursday, and the days of the week follow one another.
 abbrev pub WeekdaysFollow : Type 0
@@ -162,6 +170,18 @@ IsoWeeksAreOnly = (year : ℤ) (m n : ℕ) → HasIsoWeeks year m → HasIsoWeek
 -- The days of an earlier week are before those of a later one.
 abbrev pub OrderOfIsoWeeks : Type 0
 OrderOfIsoWeeks = (a b y z : ℤ) (v w : ℕ) → IsInIsoWeek a y v → IsInIsoWeek b z w → (y <ℤ z) ⊎ ((y ≡ z) × (v < w)) → a <ℤ b
+
+-- Each week has a week any number of weeks later.
+abbrev pub WeeksAfterExists : Type 0
+WeeksAfterExists = (year : ℤ) (week : ℕ) (weeks : ℤ) → HasIsoWeek year week → (y : ℤ) × (w : ℕ) × IsWeeksAfter year week weeks y w
+
+-- At most one week is a number of weeks after another.
+abbrev pub WeeksAfterIsOnly : Type 0
+WeeksAfterIsOnly = (year : ℤ) (week : ℕ) (weeks y z : ℤ) (v w : ℕ) → IsWeeksAfter year week weeks y v → IsWeeksAfter year week weeks z w → (y ≡ z) × (v ≡ w)
+
+-- From each week to each other there is at most one number of weeks.
+abbrev pub WeeksBetweenAreOnly : Type 0
+WeeksBetweenAreOnly = (year : ℤ) (week : ℕ) (a b y : ℤ) (w : ℕ) → IsWeeksAfter year week a y w → IsWeeksAfter year week b y w → a ≡ b
 
 -- ---- Easter
 

@@ -10,6 +10,11 @@ use Rattle.calendar.specs.declared.weekday.Weekday.{Weekday}
 pub record HasWeekday (day : ℤ) (weekday : Weekday) : Type 0 where
   pub remainder : IsRemainder IsFloored (day +ℤ pos 4) (pos 7) (pos (weekday_number weekday))
 
+-- A day that is `days` days after one with the day of the week `from` has this day of the week.
+-- Examples: Monday: 10: Thursday; -1: Sunday; 7: Monday.
+pub record IsWeekdayAfter (from : Weekday) (days : ℤ) (weekday : Weekday) : Type 0 where
+  pub holds : (day : ℤ) → HasWeekday day from → HasWeekday (day +ℤ days) weekday
+
 -- The day is the first from `from` on that has the day of the week.
 -- Examples: Sunday: from 0: 3; from 3: 3; from 4: 10.
 abbrev pub IsFirstWeekday : ℤ → Weekday → ℤ → Type 0

@@ -34,7 +34,7 @@ impl Date {
     ghost use Rattle.std.specs.Int.{w64};
     ghost use Rattle.std.specs.Option.{SomeIff};
     ghost use Rattle.integer_core.specs.Only.{IsOnly};
-    ghost use Rattle.calendar.specs.Dates.{HasParts, number_of, year_day_of};
+    ghost use Rattle.calendar.specs.Dates.{HasParts, IsLastOfMonth, number_of, year_day_of};
     ghost use Rattle.calendar.specs.Months.{days_in_month};
     ghost use Rattle.calendar.specs.Years.{HasDay, days_in_year, first_day};
     ghost use Rattle.calendar.specs.declared.date.Date.{Date};
@@ -152,6 +152,20 @@ impl Date {
                 month: 1,
                 day_of_month: 1,
             })
+        }
+    }
+
+    /// Returns the last date of the same month.
+    /// `Date::new(2000, 2, 1).unwrap().last_of_month()` is `Date::new(2000, 2, 29).unwrap()`.
+    #[inline]
+    pub const fn last_of_month(&self) -> Self
+        ensures last { IsLastOfMonth self.now.year self.now.month result }
+        ensures day { result.day_of_month ≡ days_in_month self.now.year self.now.month }
+    {
+        Self {
+            year: self.year,
+            month: self.month,
+            day_of_month: length_of_month(self.year, self.month),
         }
     }
 
@@ -273,7 +287,7 @@ impl Date {
 
     /// Returns the date of a day that is counted as by [`Date::day_of_era`], or `None` if its year does not
     /// fit. The day may be outside the era.
-    fn from_day_of_era(era: i64, day: i64) -> Option<Self>
+    pub(crate) fn from_day_of_era(era: i64, day: i64) -> Option<Self>
         requires { unsigned_abs day < 2 ^ 32 }
         ensures { MatchOption result
             ((date : Date) → number_of date ≡ pos 146097 *ℤ era +ℤ day -ℤ pos 865566 → ¬ (FitsSigned w64 date.year))

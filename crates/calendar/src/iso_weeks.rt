@@ -4,15 +4,17 @@ ghost use Rattle.std.specs.Prelude.{◌≡◌, ◌↔◌, ◌+◌, ◌%◌, ◌<
 ghost use Rattle.std.specs.Int.{w64};
 ghost use Rattle.integer_core.specs.Division.{IsFloored, IsRemainder};
 ghost use Rattle.calendar.specs.Dates.{number_of};
-ghost use Rattle.calendar.specs.IsoWeeks.{HasIsoWeek, HasIsoWeeks, IsDayOfIsoWeek, IsInIsoWeek, IsThursdayOfWeek};
+ghost use Rattle.calendar.specs.IsoWeeks.{HasIsoWeek, HasIsoWeeks, IsDayOfIsoWeek, IsInIsoWeek, IsThursdayOfWeek, IsWeeksAfter};
 ghost use Rattle.calendar.specs.Years.{HasDay, days_in_year, first_day};
 ghost use Rattle.calendar.specs.Weekday.{weekday_number};
 ghost use Rattle.calendar.specs.Weeks.{HasWeekday};
 ghost use Rattle.calendar.specs.declared.weekday.Weekday.TheVariants.{Thursday};
 
-use crate::eras::{days_to_month, era_before_year};
+use crate::eras::{days_to_month, era_before_year, eras_in_weeks};
 use crate::years::{is_longer_than, nearby_year};
 use crate::{Date, Weekday};
+use integer_core::div_floor;
+use integer_core::narrowing::narrowed;
 
 /// An ISO 8601 week, from Monday to Sunday. Its year is the year of its Thursday. Week 1 contains the first
 /// Thursday of the year. An earlier week is less than a later one.
@@ -67,6 +69,42 @@ impl IsoWeek {
             (λ date. IsDayOfIsoWeek (number_of date) self.now.year self.now.week weekday) }
     {
         Date::from_iso_week(self.year, self.week, weekday)
+    }
+
+    /// Returns the week `weeks` weeks after this one, or before it if `weeks` is negative, or `None` if its
+    /// year does not fit an `i64`. `IsoWeek::new(2004, 53).unwrap().plus_weeks(1)` is `IsoWeek::new(2005, 1)`,
+    /// and `IsoWeek::new(i64::MAX, 53).unwrap().plus_weeks(1)` is `None`.
+    pub fn plus_weeks(&self, weeks: i64) -> Option<Self>
+        ensures { MatchOption result
+            ((year : ℤ) (week : ℕ) → IsWeeksAfter self.now.year self.now.week weeks year week
+            → ¬ (FitsSigned w64 year))
+            (λ later. IsWeeksAfter self.now.year self.now.week weeks later.year later.week) }
+    {
+        let (era, day) = self.thursday().day_of_era();
+        let (eras, rest) = eras_in_weeks(weeks);
+        Date::from_day_of_era(era + eras, i64::from(day + 7 * rest))?.iso_week()
+    }
+
+    /// Returns the number of weeks from this one to `to`, which is negative if `to` is earlier, or `None` if
+    /// it does not fit.
+    /// `IsoWeek::new(2004, 53).unwrap().weeks_between(&IsoWeek::new(2005, 2).unwrap())` is `Some(2)`.
+    pub fn weeks_between(&self, to: &Self) -> Option<i64>
+        ensures { MatchOption result
+            ((weeks : ℤ) × IsWeeksAfter self.now.year self.now.week weeks to.now.year to.now.week
+            × ¬ (FitsSigned w64 weeks))
+            (λ weeks. IsWeeksAfter self.now.year self.now.week weeks to.now.year to.now.week) }
+    {
+        let days = to.thursday().wide_day_number() - self.thursday().wide_day_number();
+        narrowed(div_floor(days, 7))
+    }
+
+    /// Returns the date of the Thursday of the week.
+    #[tactic(auto, using(crate::proofs::IsoWeeks::number_range))]
+    fn thursday(&self) -> Date
+        ensures { IsDayOfIsoWeek (number_of result) self.now.year self.now.week Thursday }
+    {
+        let days = days_to_first_thursday(self.year) + 7 * (u16::from(self.week) - 1);
+        Date::in_year(self.year, days)
     }
 }
 

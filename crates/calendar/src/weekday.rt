@@ -5,7 +5,7 @@ ghost use Rattle.std.specs.Fmt.{padded};
 ghost use Rattle.integer_core.specs.Division.{IsFloored, IsRemainder};
 ghost use Rattle.calendar.specs.Dates.{number_of};
 ghost use Rattle.calendar.specs.Weekday.{iso_number, weekday_error_text, weekday_name, weekday_number};
-ghost use Rattle.calendar.specs.Weeks.{HasWeekday};
+ghost use Rattle.calendar.specs.Weeks.{HasWeekday, IsWeekdayAfter};
 
 use crate::Date;
 use integer_core::mod_floor;
@@ -55,6 +55,15 @@ impl Weekday {
             1..=7 => Some(weekday_after_sunday(u32::from(number))),
             _ => None,
         }
+    }
+
+    /// Returns the day of the week `days` days after this one, or before it if `days` is negative.
+    /// `Weekday::Monday.plus_days(10)` is `Weekday::Thursday`, and `Weekday::Monday.plus_days(-1)` is
+    /// `Weekday::Sunday`.
+    pub fn plus_days(self, days: i64) -> Self
+        ensures { IsWeekdayAfter self days result }
+    {
+        weekday_after_sunday(u32::from(self.days_after_sunday()) + mod_floor(days, 7) as u32)
     }
 
     /// Returns the English name.

@@ -3,11 +3,11 @@
 ghost use Rattle.std.specs.Prelude.{[], ◌∷◌, ◌++◌, ◌^◌, List, length, ◌≡◌, ◌⊎◌, ◌↔◌, ◌+◌, ◌-◌, ◌<◌, ◌≤◌, ◌<ℤ◌, ◌+ℤ◌, ◌-ℤ◌, FitsSigned, IfOk, IfSome, IsTrue, MatchOption, Ok, map, pos, slice_index, ℕ, ℤ};
 ghost use Rattle.std.specs.Int.{w64};
 ghost use Rattle.std.specs.Option.{SomeIff};
-ghost use Rattle.calendar.specs.Dates.{HasFifthWeekday, HasMonths, IsEarlier, IsLastWeekdayOfMonth, IsMonthsAfter, IsMonthsBetween, IsNextLastWeekday, IsNthWeekday, IsYearsBetween, day_numbers, number_of, year_day_of};
-ghost use Rattle.calendar.specs.IsoWeeks.{HasIsoWeek, HasIsoWeeks, IsDayOfIsoWeek, IsInIsoWeek};
+ghost use Rattle.calendar.specs.Dates.{HasFifthWeekday, HasMonths, IsEarlier, IsLastOfMonth, IsLastWeekdayOfMonth, IsMonthsAfter, IsMonthsBetween, IsNextLastWeekday, IsNthWeekday, IsYearsBetween, day_numbers, number_of, year_day_of};
+ghost use Rattle.calendar.specs.IsoWeeks.{HasIsoWeek, HasIsoWeeks, IsDayOfIsoWeek, IsInIsoWeek, IsWeeksAfter};
 ghost use Rattle.calendar.specs.Months.{IsDate, days_in_month, month_number};
 ghost use Rattle.calendar.specs.Weekday.{iso_number};
-ghost use Rattle.calendar.specs.Weeks.{HasWeekday, IsFirstWeekday, IsLastWeekday};
+ghost use Rattle.calendar.specs.Weeks.{HasWeekday, IsFirstWeekday, IsLastWeekday, IsWeekdayAfter};
 ghost use Rattle.calendar.specs.Years.{HasDay, days_in_year};
 ghost use Rattle.calendar.specs.declared.date.Date.{Date};
 ghost use Rattle.calendar.specs.declared.weekday.Weekday.{Weekday};
@@ -681,4 +681,67 @@ pub fn of_week(week: &IsoWeek, table: &[u8; 53]) -> u8
     ensures { result ≡ slice_index table.now (week.now.week - 1) }
 {
     table[usize::from(week.week()) - 1]
+}
+
+/// Returns the date on which the rent is due: the last date of the month.
+pub fn rent_is_due(date: &Date) -> Date
+    ensures { IsLastOfMonth date.now.year date.now.month result }
+{
+    date.last_of_month()
+}
+
+/// Returns how many days of the month are left after the date.
+pub fn days_left_in_month(date: &Date) -> u8
+    ensures { result ≡ days_in_month date.now.year date.now.month - date.now.day_of_month }
+{
+    date.last_of_month().day_of_month - date.day_of_month
+}
+
+/// Returns the week of the next issue of a paper that comes every second week, or `None` if its year does not fit.
+pub fn week_of_next_issue(week: &IsoWeek) -> Option<IsoWeek>
+    ensures { MatchOption result
+        ((y : ℤ) (w : ℕ) → IsWeeksAfter week.now.year week.now.week (pos 2) y w → ¬ (FitsSigned w64 y))
+        (λ next. IsWeeksAfter week.now.year week.now.week (pos 2) next.year next.week) }
+{
+    match week.plus_weeks(2) {
+        Some(next) => Some(next),
+        None => None,
+    }
+}
+
+/// Returns the year of the week that is a number of weeks later, or `None` if it does not fit.
+pub fn year_of_later_week(week: &IsoWeek, weeks: i64) -> Option<i64>
+    ensures { MatchOption result
+        ((y : ℤ) (w : ℕ) → IsWeeksAfter week.now.year week.now.week weeks y w → ¬ (FitsSigned w64 y))
+        (λ year. (w : ℕ) × IsWeeksAfter week.now.year week.now.week weeks year w) }
+{
+    let later = week.plus_weeks(weeks)?;
+    Some(later.year)
+}
+
+/// Returns how many weeks a course takes, or `None` if it does not fit.
+pub fn weeks_of_course(first: &IsoWeek, after: &IsoWeek) -> Option<i64>
+    ensures { MatchOption result
+        ((weeks : ℤ) × IsWeeksAfter first.now.year first.now.week weeks after.now.year after.now.week
+        × ¬ (FitsSigned w64 weeks))
+        (λ weeks. IsWeeksAfter first.now.year first.now.week weeks after.now.year after.now.week) }
+{
+    match first.weeks_between(after) {
+        Some(weeks) => Some(weeks),
+        None => None,
+    }
+}
+
+/// Returns the day of the week on which a parcel comes.
+pub fn day_of_delivery(ordered: Weekday) -> Weekday
+    ensures { IsWeekdayAfter ordered (pos 10) result }
+{
+    ordered.plus_days(10)
+}
+
+/// Returns the day of the week `days` days after the date. If a date is that many days later, it has this day.
+pub fn weekday_in_days(date: &Date, days: i64) -> Weekday
+    ensures { HasWeekday (number_of date.now +ℤ days) result }
+{
+    date.weekday().plus_days(days)
 }

@@ -162,8 +162,10 @@ pub fn laws_of_dates()
     ensures last_weekday_of_month_is_only { dates.LastWeekdayOfMonthIsOnly }
     ensures next_last_weekday_exists { dates.NextLastWeekdayExists }
     ensures next_last_weekday_is_only { dates.NextLastWeekdayIsOnly }
+    ensures last_of_month_is_only { dates.LastOfMonthIsOnly }
     ensures iso_number_is_only { dates.IsoNumberIsOnly }
     ensures weekday_is_only { dates.WeekdayIsOnly }
+    ensures weekday_after_is_only { dates.WeekdayAfterIsOnly }
     ensures weekdays_follow { dates.WeekdaysFollow }
     ensures first_weekday_exists { dates.FirstWeekdayExists }
     ensures first_weekday_is_only { dates.FirstWeekdayIsOnly }
@@ -177,6 +179,9 @@ pub fn laws_of_dates()
     ensures weeks_of_a_year { dates.WeeksOfAYear }
     ensures iso_weeks_are_only { dates.IsoWeeksAreOnly }
     ensures order_of_iso_weeks { dates.OrderOfIsoWeeks }
+    ensures weeks_after_exists { dates.WeeksAfterExists }
+    ensures weeks_after_is_only { dates.WeeksAfterIsOnly }
+    ensures weeks_between_are_only { dates.WeeksBetweenAreOnly }
     ensures easter_is_only { dates.EasterIsOnly }
     ensures full_moons_differ { dates.FullMoonsDiffer }
     ensures earlier_full_moons { dates.EarlierFullMoons }

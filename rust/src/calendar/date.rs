@@ -207,6 +207,27 @@ impl Date {
         }
     }
 
+    /// Returns the last date of the same month.
+    ///
+    /// # Examples
+    ///
+    /// ```
+    /// use cellarcove::calendar::Date;
+    ///
+    /// assert_eq!(Date::new(2000, 2, 1).unwrap().last_of_month(), Date::new(2000, 2, 29).unwrap());
+    /// ```
+    ///
+    /// [Contract](crate::definitions::calendar#datelast_of_month)
+    #[must_use]
+    #[inline]
+    pub const fn last_of_month(&self) -> Self {
+        Self {
+            year: self.year,
+            month: self.month,
+            day_of_month: length_of_month(self.year, self.month),
+        }
+    }
+
     /// Returns `true` if the date is the last of its month.
     #[inline]
     const fn ends_month(&self) -> bool {
@@ -347,7 +368,7 @@ impl Date {
 
     /// Returns the date of a day that is counted as by [`Date::day_of_era`], or `None` if its year
     /// does not fit. The day may be outside the era.
-    fn from_day_of_era(era: i64, day: i64) -> Option<Self> {
+    pub(crate) fn from_day_of_era(era: i64, day: i64) -> Option<Self> {
         Self::from_day_number(day - EPOCH_IN_ERA_0).eras_later(era)
     }
 

@@ -13,6 +13,9 @@ pub(crate) const YEARS_PER_ERA: i64 = 400;
 /// The days of an era.
 pub(crate) const DAYS_PER_ERA: i64 = 146097;
 
+/// The weeks of an era.
+const WEEKS_PER_ERA: i64 = 20871;
+
 /// The quarters of a day in a century, on average.
 const QUARTERS_PER_CENTURY: u32 = 146097;
 
@@ -68,6 +71,13 @@ pub(crate) const fn era_before_year(year: i64) -> (i64, u32) {
 #[inline]
 pub(crate) const fn eras_in_days(days: i64) -> (i64, u32) {
     groups_and_rest(days, DAYS_PER_ERA)
+}
+
+/// Returns how many eras there are in `weeks` whole weeks, rounded down, and the weeks that are
+/// left.
+#[inline]
+pub(crate) const fn eras_in_weeks(weeks: i64) -> (i64, u32) {
+    groups_and_rest(weeks, WEEKS_PER_ERA)
 }
 
 /// Returns the quotient of `n` by `size`, rounded down, and the remainder.

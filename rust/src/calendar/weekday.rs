@@ -71,6 +71,23 @@ impl Weekday {
         }
     }
 
+    /// Returns the day of the week `days` days after this one, or before it if `days` is negative.
+    ///
+    /// # Examples
+    ///
+    /// ```
+    /// use cellarcove::calendar::Weekday;
+    ///
+    /// assert_eq!(Weekday::Monday.plus_days(10), Weekday::Thursday);
+    /// assert_eq!(Weekday::Monday.plus_days(-1), Weekday::Sunday);
+    /// ```
+    ///
+    /// [Contract](crate::definitions::calendar#weekdayplus_days)
+    #[must_use]
+    pub fn plus_days(self, days: i64) -> Self {
+        weekday_after_sunday(u32::from(self.days_after_sunday()) + mod_floor(days, 7) as u32)
+    }
+
     /// Returns the English name.
     fn name(self) -> &'static str {
         match self {
