@@ -4,3 +4,5 @@
 pub use crate::coefficients::binomial_counted;
 pub use crate::integer_core::counted::{extended_gcd_counted, GcdCounted};
 pub use crate::integer_roots::counted::SqrtCounted;
+#[doc(inline)]
+pub use crate::modular::counted::power_modulo_counted;

@@ -2,7 +2,7 @@
 //! their domains, and two moduli are tested before their multiple.
 
 use cellarcove::applied::{layout, powers};
-use cellarcove::modular::counted::power_modulo_counted;
+use cellarcove::counted::power_modulo_counted;
 use cellarcove::modular::{chinese_remainder, product_modulo, Modular};
 use cellarcove::{sqrt, Integer, Roots};
 use num_traits::{Num, One, Zero};

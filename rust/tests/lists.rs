@@ -1,7 +1,8 @@
 //! Divisors, multiples and sums of short lists, coprime numbers and reduced pairs, against lists of all divisors and multiples.
 
 use cellarcove::applied::coprime::{is_coprime, reduced};
-use cellarcove::applied::lists::{checked, gcd_of, lcm_of};
+use cellarcove::applied::lists::{gcd_of, lcm_of};
+use cellarcove::checked;
 
 /// The numbers of all signed bytes, in 32 bits.
 fn bytes() -> impl Iterator<Item = i32> + Clone {

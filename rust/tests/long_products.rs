@@ -1,6 +1,7 @@
 //! Products and powers modulo numbers of 64 and of 128 bits, against sums alone.
 
-use cellarcove::modular::{counted::power_modulo_counted, power_modulo, product_modulo};
+use cellarcove::counted::power_modulo_counted;
+use cellarcove::modular::{power_modulo, product_modulo};
 
 /// The largest prime of 128 bits.
 const PRIME: u128 = 340282366920938463463374607431768211297;

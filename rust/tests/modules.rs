@@ -3,8 +3,8 @@
 use cellarcove::applied::schedules::{next_meeting, CommonSolution};
 use cellarcove::applied::{halving, layout, paging, powers, ranking, rolling_hash::RollingHash};
 use cellarcove::calendar::{easter, Date, Weekday};
-use cellarcove::counted::{extended_gcd_counted, GcdCounted, SqrtCounted};
-use cellarcove::modular::{chinese_remainder, counted, inverse_modulo, product_modulo, residue};
+use cellarcove::counted::{self, extended_gcd_counted, GcdCounted, SqrtCounted};
+use cellarcove::modular::{chinese_remainder, inverse_modulo, product_modulo, residue};
 use cellarcove::ratio64::{ParseRatioError, Ratio, RatioError};
 use cellarcove::{binomial, checked, operators, Integer, IterBinomial, Roots};
 use std::collections::HashSet;
@@ -109,12 +109,16 @@ fn places_of_before() {
     assert_eq!(cellarcove::shares::shares(1, &[0], &mut [0]), Err(error));
 }
 
-/// Each call of a module named `checked` is in the first one too.
+/// Each call of a module named `checked` is in the first one too, and so with `counted`.
 #[test]
 fn one_import_of_checked_calls() {
     assert_eq!(
         checked::div_round(7, 2),
         cellarcove::applied::rounding::checked::div_round(7, 2)
+    );
+    assert_eq!(
+        counted::power_modulo_counted(3, 4, 7),
+        cellarcove::modular::counted::power_modulo_counted(3, 4, 7)
     );
     assert_eq!(
         (checked::div_round_even(5, 2), checked::div_round(7, 0)),

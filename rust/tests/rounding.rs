@@ -1,10 +1,10 @@
 //! Rounded quotients of all pairs of bytes, roots with what is left, logarithms and factorials, against a separate
 //! computation in wider types.
 
-use cellarcove::applied::counting::{self, factorial, falling};
+use cellarcove::applied::counting::{factorial, falling};
 use cellarcove::applied::powers::{self, ilog, sqrt_rem};
-use cellarcove::applied::rounding::checked::{product_div_round, product_div_round_even};
 use cellarcove::applied::rounding::{self, div_round, div_round_even};
+use cellarcove::checked::{self, product_div_round, product_div_round_even};
 use std::ops::RangeInclusive;
 
 /// The integers nearest to `n / d`, in increasing order: two if a half is left, and else one.
@@ -238,7 +238,7 @@ fn logarithms() {
         let wanted = degree(number, base);
         assert_eq!(ilog(number as u8, base as u8), wanted, "{number} {base}");
         assert_eq!(
-            powers::checked::ilog(number, base),
+            checked::ilog(number, base),
             Some(wanted),
             "{number} {base}"
         );
@@ -247,7 +247,7 @@ fn logarithms() {
         for base in i8::MIN..=i8::MAX {
             let wanted = (number >= 1 && base >= 2).then(|| degree(number.into(), base.into()));
             assert_eq!(
-                powers::checked::ilog(number, base),
+                checked::ilog(number, base),
                 wanted,
                 "{number} {base}"
             );
@@ -273,10 +273,10 @@ fn factorials() {
     for n in 0..=200u8 {
         let wanted = product(1..=n.into());
         let fit = wanted.and_then(|f| u64::try_from(f).ok());
-        assert_eq!(counting::checked::factorial(u64::from(n)), fit, "{n}");
-        assert_eq!(counting::checked::factorial(u128::from(n)), wanted, "{n}");
+        assert_eq!(checked::factorial(u64::from(n)), fit, "{n}");
+        assert_eq!(checked::factorial(u128::from(n)), wanted, "{n}");
         assert_eq!(
-            counting::checked::factorial(n),
+            checked::factorial(n),
             wanted.and_then(|f| u8::try_from(f).ok()),
             "{n}"
         );
@@ -284,8 +284,8 @@ fn factorials() {
             assert_eq!(factorial(u64::from(n)), fit, "{n}");
         }
     }
-    assert_eq!(counting::checked::factorial(u64::MAX), None);
-    assert_eq!(counting::checked::factorial(-1), None);
+    assert_eq!(checked::factorial(u64::MAX), None);
+    assert_eq!(checked::factorial(-1), None);
     assert_eq!(factorial(20i64), 2432902008176640000);
     assert_eq!(factorial(34u128), 295232799039604140847618609643520000000);
 }
@@ -300,7 +300,7 @@ fn falling_factorials() {
         };
         let fit = wanted.and_then(|f| u64::try_from(f).ok());
         assert_eq!(
-            counting::checked::falling(n as u64, k as u64),
+            checked::falling(n as u64, k as u64),
             fit,
             "{n} {k}"
         );
@@ -318,10 +318,10 @@ fn falling_factorials() {
             }
         });
         let fit = wanted.and_then(|f| i8::try_from(f).ok());
-        assert_eq!(counting::checked::falling(n, k), fit, "{n} {k}");
+        assert_eq!(checked::falling(n, k), fit, "{n} {k}");
     }
     assert_eq!(falling(u64::MAX, 1), u64::MAX);
     assert_eq!(falling(u64::MAX, 0), 1);
-    assert_eq!(counting::checked::falling(u64::MAX, u64::MAX - 1), None);
-    assert_eq!(counting::checked::falling(u64::MAX, 2), None);
+    assert_eq!(checked::falling(u64::MAX, u64::MAX - 1), None);
+    assert_eq!(checked::falling(u64::MAX, 2), None);
 }

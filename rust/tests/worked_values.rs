@@ -4,7 +4,7 @@ use cellarcove::applied::halving::midpoint;
 use cellarcove::applied::layout::{align_up, padding};
 use cellarcove::applied::paging::{pages, place_of, range_of_page, range_of_part};
 use cellarcove::applied::schedules::next_meeting;
-use cellarcove::modular::counted::power_modulo_counted;
+use cellarcove::counted::power_modulo_counted;
 use cellarcove::modular::CommonSolution::{self, At, Beyond, Never};
 use cellarcove::modular::{
     chinese_remainder, count_congruent, difference_modulo, inverse_modulo, negation_modulo,

@@ -17,7 +17,7 @@ from tools.erase import copies, documentation
 from tools.erase.additions import Additions
 from tools.erase.callers import Callers
 from tools.erase.deletion import GHOST_NAMES
-from tools.erase.library import CRATES, MOVED, ROOT, SINCE, WITHIN, RustLibrary
+from tools.erase.library import CRATES, JOINED, MOVED, ROOT, SINCE, WITHIN, RustLibrary
 from tools.erase.prose import within_columns
 from tools.erase.source import Item, Unknown
 
@@ -186,9 +186,11 @@ def texts_of(library: RustLibrary) -> dict[str, str]:
     for name, exported in library.moved().items():
         made[f'{name}.rs'] = made_from(f'crates/{MOVED}/src/{name}.rt') + f'//! It is [`{MOVED}::{name}`](crate::{MOVED}::{name}).\n\n' \
             f'pub use crate::{MOVED}::{name}::{{{", ".join(exported)}}};\n'
-    # one import has all calls of modules named `checked`
-    made['checked.rs'] = made.get('checked.rs', '') + ''.join(
-        f'#[doc(inline)]\npub use crate::{"::".join(place)}::{{{", ".join(names)}}};\n' for place, names in library.checked().items())
+    # one import has all calls of modules of one name
+    for name in JOINED:
+        made[f'{name}.rs'] = made.get(f'{name}.rs', '') + ''.join(
+            f'#[doc(inline)]\npub use crate::{"::".join(place)}::{{{", ".join(names)}}};\n'
+            for place, names in library.joined(name).items())
     others = additions.modules()
     made['lib.rs'] = head_of_root(library, others, made['lib.rs'])
     made |= {place: made_from(f'rust/by_hand/src/{place}') + text for place, text in others.items()}

@@ -4,7 +4,7 @@ import collections
 import functools
 import re
 
-from tools.erase.library import Place, RustLibrary
+from tools.erase.library import JOINED, Place, RustLibrary
 from tools.erase.prose import WIDTH, wrapped
 from tools.erase.source import Item, Source
 
@@ -71,7 +71,7 @@ def imports(library: RustLibrary, code: str, place: Place) -> list[str]:
     for match in NAME.finditer(code):
         found = places(library).get(match.group(1), set())
         for at in [at for at in (place, ()) if at in found][:1] or (found if len(found) == 1 else ()):
-            names.setdefault(at, set()).add(match.group(1))
+            names.setdefault(at[-1:] if at[-1:] and at[-1] in JOINED else at, set()).add(match.group(1))
     for match in METHOD.finditer(code):
         for at, trait in methods(library).get(match.group(1), ()):
             names.setdefault(at, set()).add(trait)

@@ -16,6 +16,8 @@ CRATES = {'integer_core': 'mod', 'integer_roots': 'mod', 'num_integer': '',
           'modular': 'pub mod', 'ratio64': 'pub mod', 'calendar': 'pub mod', 'bounded_integers': 'pub mod', 'applied': 'pub mod'}
 # The crate whose modules stood at the root until a version, and are there too, deprecated.
 MOVED, SINCE = 'applied', '0.5.0'
+# The names of modules of which one at the root has all items in the Rust crate.
+JOINED = ('checked', 'counted')
 # The public modules that are private in the Rust crate: others export what they have, or no caller there needs it.
 WITHIN = {('integer_core', 'counted'), ('integer_core', 'guards'), ('integer_core', 'padded'), ('integer_core', 'fitting'),
           ('integer_roots', 'counted'), ('num_integer', 'sign_magnitude'), ('applied', 'guards')}
@@ -215,11 +217,11 @@ class RustLibrary(Library):
                              | {inner.name for inner in self.below(module) if inner.public})
                 for name, module in below if self.is_open(module)}
 
-    def checked(self) -> dict[Place, list[str]]:
-        """The modules named `checked` below other modules, each with its public items."""
+    def joined(self, module: str) -> dict[Place, list[str]]:
+        """The modules of this name below other modules, each with its public items."""
         found: dict[Place, list[str]] = {}
         for (_, _, name), place in sorted(self.public.items(), key=lambda row: row[1]):
-            if place[1:] and place[-1] == 'checked':
+            if place[1:] and place[-1] == module:
                 found.setdefault(place, []).append(name)
         return found
 

@@ -13,7 +13,7 @@ use crate::{Fits, Integer};
 /// # Examples
 ///
 /// ```
-/// use cellarcove::modular::checked::residue;
+/// use cellarcove::checked::residue;
 ///
 /// assert_eq!(residue(-3, 7), Some(4));
 /// assert_eq!(residue(-3, 0), None);
@@ -34,7 +34,7 @@ pub fn residue<T: Integer + Copy>(a: T, m: T) -> Option<T> {
 /// # Examples
 ///
 /// ```
-/// use cellarcove::modular::checked::sum_modulo;
+/// use cellarcove::checked::sum_modulo;
 ///
 /// assert_eq!(sum_modulo(5, 4, 7), Some(2));
 /// assert_eq!(sum_modulo(5, 4, -7), None);
@@ -56,7 +56,7 @@ pub fn sum_modulo<T: Integer + Copy>(a: T, b: T, m: T) -> Option<T> {
 /// # Examples
 ///
 /// ```
-/// use cellarcove::modular::checked::difference_modulo;
+/// use cellarcove::checked::difference_modulo;
 ///
 /// assert_eq!(difference_modulo(2, 5, 7), Some(4));
 /// assert_eq!(difference_modulo(2, 5, 0), None);
@@ -77,7 +77,7 @@ pub fn difference_modulo<T: Integer + Copy>(a: T, b: T, m: T) -> Option<T> {
 /// # Examples
 ///
 /// ```
-/// use cellarcove::modular::checked::negation_modulo;
+/// use cellarcove::checked::negation_modulo;
 ///
 /// assert_eq!(negation_modulo(2, 7), Some(5));
 /// assert_eq!(negation_modulo(2, 0), None);
@@ -98,7 +98,7 @@ pub fn negation_modulo<T: Integer + Copy>(a: T, m: T) -> Option<T> {
 /// # Examples
 ///
 /// ```
-/// use cellarcove::modular::checked::product_modulo;
+/// use cellarcove::checked::product_modulo;
 ///
 /// assert_eq!(product_modulo(4, 5, 7), Some(6));
 /// assert_eq!(product_modulo(4, 5, 0), None);
@@ -119,7 +119,7 @@ pub fn product_modulo<T: Modular>(a: T, b: T, m: T) -> Option<T> {
 /// # Examples
 ///
 /// ```
-/// use cellarcove::modular::checked::power_modulo;
+/// use cellarcove::checked::power_modulo;
 ///
 /// assert_eq!(power_modulo(3, 4, 7), Some(4));
 /// assert_eq!(power_modulo(3, 4, 0), None);
@@ -141,7 +141,7 @@ pub fn power_modulo<T: Modular>(a: T, exponent: u128, m: T) -> Option<T> {
 /// # Examples
 ///
 /// ```
-/// use cellarcove::modular::checked::inverse_modulo;
+/// use cellarcove::checked::inverse_modulo;
 ///
 /// assert_eq!(inverse_modulo(3, 7), Some(5));
 /// assert_eq!(inverse_modulo(3, 0), None);
@@ -163,7 +163,7 @@ pub fn inverse_modulo<T: Integer + Copy>(a: T, m: T) -> Option<T> {
 /// # Examples
 ///
 /// ```
-/// use cellarcove::modular::checked::quotient_modulo;
+/// use cellarcove::checked::quotient_modulo;
 ///
 /// assert_eq!(quotient_modulo(2, 3, 7), Some(3));
 /// assert_eq!(quotient_modulo(2, 3, 0), None);
@@ -185,7 +185,7 @@ pub fn quotient_modulo<T: Modular>(a: T, b: T, m: T) -> Option<T> {
 /// # Examples
 ///
 /// ```
-/// use cellarcove::modular::checked::solutions;
+/// use cellarcove::checked::solutions;
 ///
 /// assert_eq!(solutions(6, 4, 10), Some((4, 5)));
 /// assert_eq!(solutions(6, 4, 0), None);
@@ -207,7 +207,7 @@ pub fn solutions<T: Modular>(a: T, b: T, m: T) -> Option<(T, T)> {
 /// # Examples
 ///
 /// ```
-/// use cellarcove::modular::checked::next_congruent;
+/// use cellarcove::checked::next_congruent;
 ///
 /// assert_eq!(next_congruent(10, 1, 4), Some(13));
 /// assert_eq!(next_congruent(10, 1, 0), None);
@@ -229,7 +229,7 @@ pub fn next_congruent<T: Fits>(from: T, residue: T, modulus: T) -> Option<T> {
 /// # Examples
 ///
 /// ```
-/// use cellarcove::modular::checked::previous_congruent;
+/// use cellarcove::checked::previous_congruent;
 ///
 /// assert_eq!(previous_congruent(10, 1, 4), Some(9));
 /// assert_eq!(previous_congruent(10, 1, 0), None);
@@ -251,7 +251,7 @@ pub fn previous_congruent<T: Fits>(to: T, residue: T, modulus: T) -> Option<T> {
 /// # Examples
 ///
 /// ```
-/// use cellarcove::modular::checked::count_congruent;
+/// use cellarcove::checked::count_congruent;
 ///
 /// assert_eq!(count_congruent(1, 10, 1, 4), Some(3));
 /// assert_eq!(count_congruent(1, 10, 1, 0), None);
@@ -274,7 +274,7 @@ pub fn count_congruent<T: Fits>(from: T, to: T, residue: T, modulus: T) -> Optio
 /// # Examples
 ///
 /// ```
-/// use cellarcove::modular::checked::chinese_remainder;
+/// use cellarcove::checked::chinese_remainder;
 ///
 /// assert_eq!(chinese_remainder(1, 4, 3, 6), Some((9, 12)));
 /// assert_eq!(chinese_remainder(1, 4, 3, 0), None);
@@ -296,8 +296,8 @@ pub fn chinese_remainder<T: Modular + Fits>(a: T, m: T, b: T, n: T) -> Option<(T
 /// # Examples
 ///
 /// ```
+/// use cellarcove::checked::next_common_solution;
 /// use cellarcove::modular::CommonSolution;
-/// use cellarcove::modular::checked::next_common_solution;
 ///
 /// assert_eq!(next_common_solution(10, 1, 4, 3, 6), Some(CommonSolution::At(21)));
 /// assert_eq!(next_common_solution(10, 1, 0, 3, 6), None);
@@ -325,8 +325,8 @@ pub fn next_common_solution<T: Modular + Fits>(
 /// # Examples
 ///
 /// ```
+/// use cellarcove::checked::next_common_solution_of;
 /// use cellarcove::modular::CommonSolution;
-/// use cellarcove::modular::checked::next_common_solution_of;
 ///
 /// assert_eq!(
 ///     next_common_solution_of(10, &[(1, 4), (3, 6), (0, 7)]),

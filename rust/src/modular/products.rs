@@ -140,7 +140,7 @@ pub fn power_modulo<T: Modular>(a: T, exponent: u128, m: T) -> T {
 /// # Examples
 ///
 /// ```
-/// use cellarcove::modular::counted::power_modulo_counted;
+/// use cellarcove::counted::power_modulo_counted;
 ///
 /// assert_eq!(power_modulo_counted(3, 4, 7), (4, 2));
 /// assert_eq!(power_modulo_counted(3, 0, 7), (1, 0));

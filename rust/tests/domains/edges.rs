@@ -5,7 +5,7 @@ use cellarcove::applied::rolling_hash::RollingHash;
 use cellarcove::applied::{counting, layout, lists, paging, powers, ranking, schedules};
 use cellarcove::bounded_integers::Percent;
 use cellarcove::calendar::days_in_month;
-use cellarcove::counted::SqrtCounted;
+use cellarcove::counted::{power_modulo_counted, SqrtCounted};
 use cellarcove::modular::{self, CommonSolution, Modular};
 use cellarcove::ratio64::Ratio;
 use cellarcove::{binomial, multinomial};
@@ -111,7 +111,7 @@ fn moduli() {
             modular::residue(5, 0);
             modular::product_modulo(4, 5, 0);
             4.product_modulo(&5, &0);
-            modular::counted::power_modulo_counted(2, 3, 0);
+            power_modulo_counted(2, 3, 0);
             modular::count_congruent(1, 10, 1, 0);
             RollingHash::new(10, 0, 2);
         }
@@ -133,7 +133,7 @@ fn moduli() {
         modular::product_modulo(-4, -5, 7) => 6;
         4.product_modulo(&5, &1) => 0;
         (-4).product_modulo(&-5, &7) => 6;
-        modular::counted::power_modulo_counted(-2, 3, 7).0 => 6;
+        power_modulo_counted(-2, 3, 7).0 => 6;
         modular::power_modulo(2, 3, 1) => 0;
         modular::count_congruent(1, 10, 0, 1) => Some(10);
         modular::chinese_remainder(0, 1, 0, 1) => Some((0, 1));

@@ -8,7 +8,9 @@ use cellarcove::applied::{
 };
 use cellarcove::bounded_integers::Percent;
 use cellarcove::calendar::{days_in_month, Date};
-use cellarcove::counted::{binomial_counted, extended_gcd_counted, GcdCounted, SqrtCounted};
+use cellarcove::counted::{
+    binomial_counted, extended_gcd_counted, power_modulo_counted, GcdCounted, SqrtCounted,
+};
 use cellarcove::modular::{self, Modular};
 use cellarcove::ratio64::Ratio;
 use cellarcove::{binomial, multinomial, operators, Integer, IterBinomial, Roots};
@@ -288,7 +290,7 @@ fn moduli() {
             modular::product_modulo(4u8, 5, 0);
             4.product_modulo(&5, &-7);
             modular::power_modulo(2, 3, -7);
-            modular::counted::power_modulo_counted(2, 3, -7);
+            power_modulo_counted(2, 3, -7);
             2.power_modulo_counted(3, &0);
             modular::inverse_modulo(3i64, -7);
             modular::inverse_modulo(3, 0);

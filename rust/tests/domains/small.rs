@@ -2,7 +2,9 @@
 
 use crate::{check, exact};
 use cellarcove::applied::{halving, layout, paging, powers, schedules};
-use cellarcove::counted::{binomial_counted, extended_gcd_counted, GcdCounted, SqrtCounted};
+use cellarcove::counted::{
+    binomial_counted, extended_gcd_counted, power_modulo_counted, GcdCounted, SqrtCounted,
+};
 use cellarcove::modular::{self, Modular};
 use cellarcove::{operators, Average, Integer, IterBinomial, Roots};
 
@@ -310,7 +312,7 @@ macro_rules! tests {
                         modular::power_modulo(a, 3, m)
                     });
                     check("power_modulo_counted", args, answer(&|_| x * x), || {
-                        modular::counted::power_modulo_counted(a, 2, m).0
+                        power_modulo_counted(a, 2, m).0
                     });
                     check("power_modulo_counted", args, answer(&|_| x * x), || {
                         a.power_modulo_counted(2, &m).0

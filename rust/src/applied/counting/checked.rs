@@ -12,7 +12,7 @@ use crate::Fits;
 /// # Examples
 ///
 /// ```
-/// use cellarcove::applied::counting::checked::factorial;
+/// use cellarcove::checked::factorial;
 ///
 /// assert_eq!(factorial(5u8), Some(120));
 /// assert_eq!(factorial(6u8), None);
@@ -34,7 +34,7 @@ pub fn factorial<T: Fits>(n: T) -> Option<T> {
 /// # Examples
 ///
 /// ```
-/// use cellarcove::applied::counting::checked::falling;
+/// use cellarcove::checked::falling;
 ///
 /// assert_eq!(falling(8u16, 3), Some(336));
 /// assert_eq!(falling(8u8, 3), None);

@@ -14,7 +14,7 @@ use crate::{checked, Fits, NativeInteger};
 /// # Examples
 ///
 /// ```
-/// use cellarcove::applied::lists::checked::gcd_of;
+/// use cellarcove::checked::gcd_of;
 ///
 /// assert_eq!(gcd_of(&[12, 18, 8]), Some(2));
 /// assert_eq!(gcd_of(&[i8::MIN, 2]), Some(2));
@@ -62,7 +62,7 @@ fn divisor_of_both<T: Fits>(divisor: T, number: T) -> T {
 /// # Examples
 ///
 /// ```
-/// use cellarcove::applied::lists::checked::lcm_of;
+/// use cellarcove::checked::lcm_of;
 ///
 /// assert_eq!(lcm_of(&[4, 6, 10]), Some(60));
 /// assert_eq!(lcm_of(&[16u8, 17]), None);
@@ -110,7 +110,7 @@ fn has_zero<T: Fits>(numbers: &[T]) -> bool {
 /// # Examples
 ///
 /// ```
-/// use cellarcove::applied::lists::checked::sum_of;
+/// use cellarcove::checked::sum_of;
 ///
 /// assert_eq!(sum_of(&[100i8, 100, -100]), Some(100));
 /// assert_eq!(sum_of(&[100i8, 100]), None);
@@ -134,7 +134,7 @@ pub fn sum_of<T: NativeInteger<Magnitude = u64>>(numbers: &[T]) -> Option<T> {
 /// # Examples
 ///
 /// ```
-/// use cellarcove::applied::lists::checked::dot_product;
+/// use cellarcove::checked::dot_product;
 ///
 /// assert_eq!(dot_product(&[(2, 1999), (1, 501)]), Some(4499));
 /// assert_eq!(dot_product(&[(100i8, 100), (-100, 99)]), Some(100));

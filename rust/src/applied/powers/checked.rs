@@ -11,7 +11,7 @@ use crate::{Integer, Roots};
 /// # Examples
 ///
 /// ```
-/// use cellarcove::applied::powers::checked::sqrt_rem;
+/// use cellarcove::checked::sqrt_rem;
 ///
 /// assert_eq!(sqrt_rem(99), Some((9, 18)));
 /// assert_eq!(sqrt_rem(-99), None);
@@ -33,7 +33,7 @@ pub fn sqrt_rem<T: Roots + Copy>(n: T) -> Option<(T, T)> {
 /// # Examples
 ///
 /// ```
-/// use cellarcove::applied::powers::checked::ilog;
+/// use cellarcove::checked::ilog;
 ///
 /// assert_eq!(ilog(1000, 10), Some(3));
 /// assert_eq!(ilog(0, 10), None);

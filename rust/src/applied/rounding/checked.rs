@@ -21,7 +21,7 @@ use crate::NativeInteger;
 /// # Examples
 ///
 /// ```
-/// use cellarcove::applied::rounding::checked::product_div_round;
+/// use cellarcove::checked::product_div_round;
 ///
 /// assert_eq!(product_div_round(1999, 19, 100), Some(380));
 /// assert_eq!(product_div_round(5, 1, 2), Some(3));
@@ -57,7 +57,7 @@ fn wide_product_div_round<T: NativeInteger<Magnitude = u64>>(a: T, b: T, d: T) -
 /// # Examples
 ///
 /// ```
-/// use cellarcove::applied::rounding::checked::product_div_round_even;
+/// use cellarcove::checked::product_div_round_even;
 ///
 /// assert_eq!(product_div_round_even(250, 1, 100), Some(2));
 /// assert_eq!(product_div_round_even(350, 1, 100), Some(4));
