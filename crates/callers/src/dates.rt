@@ -709,16 +709,6 @@ pub fn week_of_next_issue(week: &IsoWeek) -> Option<IsoWeek>
     }
 }
 
-/// Returns the year of the week that is a number of weeks later, or `None` if it does not fit.
-pub fn year_of_later_week(week: &IsoWeek, weeks: i64) -> Option<i64>
-    ensures { MatchOption result
-        ((y : ℤ) (w : ℕ) → IsWeeksAfter week.now.year week.now.week weeks y w → ¬ (FitsSigned w64 y))
-        (λ year. (w : ℕ) × IsWeeksAfter week.now.year week.now.week weeks year w) }
-{
-    let later = week.plus_weeks(weeks)?;
-    Some(later.year)
-}
-
 /// Returns how many weeks a course takes, or `None` if it does not fit.
 pub fn weeks_of_course(first: &IsoWeek, after: &IsoWeek) -> Option<i64>
     ensures { MatchOption result

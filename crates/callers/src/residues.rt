@@ -201,6 +201,26 @@ pub fn next_time_or_none(now: i64, first: i64, period: i64) -> Option<i64>
     checked::next_congruent(now, first, period)
 }
 
+/// Returns the next run of a job, which is less than a period away, or `None` if it does not fit.
+pub fn next_run(now: i64, first: i64, period: i64) -> Option<i64>
+    requires { pos 0 <ℤ period }
+    ensures { IfSome result (λ next. next <ℤ (now +ℤ period)) }
+{
+    let next = next_congruent(now, first, period)?;
+    Some(next)
+}
+
+/// Returns the last run of a job, which is less than a period ago, or `None` if it does not fit.
+pub fn last_run(now: i64, first: i64, period: i64) -> Option<i64>
+    requires { pos 0 <ℤ period }
+    ensures { IfSome result (λ last. (now -ℤ period) <ℤ last) }
+{
+    match previous_congruent(now, first, period) {
+        Some(last) => Some(last),
+        None => None,
+    }
+}
+
 /// Returns the number of times in `from..=to`, or 0 if the period is 0. If the number does not fit, the contract leaves
 /// the result open.
 pub fn count_of_times(from: u64, to: u64, first: u64, period: u64) -> u64

@@ -1,5 +1,5 @@
 -- The next congruent number and the previous one, and a number that fits the type or is beyond it.
-use Rattle.modular.proofs.Common.{◌≡◌, ◌≤ℤ◌, ◌<ℤ◌, ◌+ℤ◌, ◌-ℤ◌, ℤ, pos, neg_ℤ, Option, Some, None, MatchOption, arith, subst, sym, AnswersWhere, FitsWith, expand, linear, sizes, small_multiple_is_zero, AreCongruent, IsNextCongruent, IsPreviousCongruent, IsResidue, from_not_less}
+use Rattle.modular.proofs.Common.{◌≡◌, ◌≤ℤ◌, ◌<ℤ◌, ◌+ℤ◌, ◌-ℤ◌, ℤ, pos, neg_ℤ, Option, Some, None, MatchOption, arith, subst, sym, AnswersWhere, FitsWith, IfSome, LiesBelow, expand, linear, sizes, small_multiple_is_zero, AreCongruent, IsNextCongruent, IsPreviousCongruent, IsResidue, from_not_less}
 use Rattle.modular.proofs.Congruences.{congruent-sym, congruent-trans, congruent_by}
 
 -- of two congruent numbers, one that is less than the modulus further is not the larger
@@ -31,3 +31,14 @@ pub found_or_beyond : {X : Type 0} (fits : ℤ → Type 0) (value : X → ℤ) (
     → MatchOption found ((t : ℤ) × Is t × ¬ (fits t)) (FitsWith fits value Is)
 found_or_beyond fits value Is (Some t) is h = (h.1.0, subst Is (sym h.1.1) is)
 found_or_beyond fits value Is None is h = (_, is, h)
+
+-- if it fits, it is less than the modulus away
+pub near_next : {X : Type 0} (fits : ℤ → Type 0) (value : X → ℤ) (from : ℤ) {modulus w : ℤ} (found : Option X) → LiesBelow modulus w → AnswersWhere (fits (from +ℤ w)) (λ t. fits (value t) × (value t ≡ from +ℤ w)) found
+    → IfSome found (λ t. value t <ℤ (from +ℤ modulus))
+near_next fits value from (Some t) below h = omega (arith, linear, below.below, h.1.1)
+near_next fits value from None below h = tt
+
+pub near_previous : {X : Type 0} (fits : ℤ → Type 0) (value : X → ℤ) (to : ℤ) {modulus w : ℤ} (found : Option X) → LiesBelow modulus w → AnswersWhere (fits (to -ℤ w)) (λ t. fits (value t) × (value t ≡ to -ℤ w)) found
+    → IfSome found (λ t. (to -ℤ modulus) <ℤ value t)
+near_previous fits value to (Some t) below h = omega (arith, linear, below.below, h.1.1)
+near_previous fits value to None below h = tt

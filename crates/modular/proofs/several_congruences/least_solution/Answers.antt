@@ -43,4 +43,4 @@ loop-congruence-preserved g c =
 pub returns : goal.returns
 returns g c =
     let kept = rw (take_all _ _ c.loop-congruence-test.false) at c.loop-congruence.invariant.kept in
-    least_of_class kept g.T.Number.value c.next_congruent.result g.met.T.Integer.range_law c.requires.in_range c.next_congruent.ensures
+    least_of_class kept g.T.Number.value c.next_congruent.result g.met.T.Integer.range_law c.requires.in_range c.next_congruent.ensures.next
