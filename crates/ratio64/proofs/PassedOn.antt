@@ -1,18 +1,18 @@
 -- Results that a caller passes on by `?`, in the caller's words: its argument in the place of the bits of that argument.
-use Rattle.ratio64.proofs.Common.{◌≡◌, ◌*ℤ◌, ℤ, Option, None, FitsSigned, of_z, to_z, to_z-of_z, w64, AnswersWhere, EachFits, IsQuotient, IsRounded, IsRoundedEven}
+use Rattle.ratio64.proofs.Common.{◌≡◌, ◌*ℤ◌, ℤ, MatchOption, Option, None, FitsSigned, of_z, to_z, to_z-of_z, w64, EachFits, IsQuotient, IsRounded, IsRoundedEven}
 
 -- a fraction times an integer is rounded to no number that fits
-module _ (num n den : ℤ) (r : Option ℤ) (fits : FitsSigned w64 n) (is : r ≡ None) where
+module _ (Q : ℤ → Type 0) (num n den : ℤ) (r : Option ℤ) (fits : FitsSigned w64 n) (is : r ≡ None) where
   pub quotient_times_passed_on : {Kind : ℤ → ℤ → ℤ → ℤ → Type 0} → ¬ (EachFits (FitsSigned w64) (IsQuotient Kind (num *ℤ to_z w64 (of_z w64 n)) den))
-      → AnswersWhere (EachFits (FitsSigned w64) (IsQuotient Kind (num *ℤ n) den)) (IsQuotient Kind (num *ℤ n) den) r
+      → MatchOption r (¬ (EachFits (FitsSigned w64) (IsQuotient Kind (num *ℤ n) den))) Q
   quotient_times_passed_on none = rw is (rw (to_z-of_z w64 n fits) at none)
 
   pub rounded_times_passed_on : ¬ (EachFits (FitsSigned w64) (IsRounded (num *ℤ to_z w64 (of_z w64 n)) den))
-      → AnswersWhere (EachFits (FitsSigned w64) (IsRounded (num *ℤ n) den)) (IsRounded (num *ℤ n) den) r
+      → MatchOption r (¬ (EachFits (FitsSigned w64) (IsRounded (num *ℤ n) den))) Q
   rounded_times_passed_on none = rw is (rw (to_z-of_z w64 n fits) at none)
 
   pub rounded_even_times_passed_on : ¬ (EachFits (FitsSigned w64) (IsRoundedEven (num *ℤ to_z w64 (of_z w64 n)) den))
-      → AnswersWhere (EachFits (FitsSigned w64) (IsRoundedEven (num *ℤ n) den)) (IsRoundedEven (num *ℤ n) den) r
+      → MatchOption r (¬ (EachFits (FitsSigned w64) (IsRoundedEven (num *ℤ n) den))) Q
   rounded_even_times_passed_on none = rw is (rw (to_z-of_z w64 n fits) at none)
 
 -- The `None` of `floor_times`, `ceil_times`, `round_times` and `round_even_times` that `?` passes on.
