@@ -30,7 +30,7 @@ use std::marker::PhantomData;
 /// assert_eq!(Minutes::new(90).to_string(), "90");
 /// ```
 ///
-/// A range of another shape is refused when its type is compiled, as one that has no 0:
+/// No program with an integer of a range of another shape compiles. This range has no 0:
 ///
 /// ```compile_fail
 /// use cellarcove::bounded_integers::{Bounded, Range};
@@ -83,8 +83,8 @@ pub struct Bounded<R: Range> {
     ghost in_range: { Between R.LOW R.HIGH number },
 }
 
-/// Marks an integer with its range, which has one of the three shapes by its law. In plain Rust, another one is refused when this is
-/// compiled.
+/// Marks an integer with its range, which has one of the three shapes by its law. In plain Rust, it doesn't compile at a range of
+/// another shape.
 pub(crate) fn lawful<R: Range>() -> PhantomData<R> {
     PhantomData
 }

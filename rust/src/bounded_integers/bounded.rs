@@ -27,7 +27,7 @@ use core::marker::PhantomData;
 /// assert_eq!(Minutes::new(90).to_string(), "90");
 /// ```
 ///
-/// A range of another shape is refused when its type is compiled, as one that has no 0:
+/// No program with an integer of a range of another shape compiles. This range has no 0:
 ///
 /// ```compile_fail
 /// use cellarcove::bounded_integers::{Bounded, Range};
@@ -111,7 +111,8 @@ pub struct Bounded<R> {
     pub(crate) range: PhantomData<R>,
 }
 
-/// Marks an integer with its range. A range of no lawful shape is refused when this is compiled.
+/// Marks an integer with its range. It doesn't compile at a range of another shape than the three
+/// of [`Range`].
 pub(crate) fn lawful<R: Range>() -> PhantomData<R> {
     let () = Shape::<R>::IS_LAWFUL;
     PhantomData

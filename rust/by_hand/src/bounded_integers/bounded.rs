@@ -16,7 +16,7 @@ impl<R: Range> Hash for Bounded<R> {
     }
 }
 
-/// Marks an integer with its range. A range of no lawful shape is refused when this is compiled.
+/// Marks an integer with its range. It doesn't compile at a range of another shape than the three of [`Range`].
 pub(crate) fn lawful<R: Range>() -> PhantomData<R> {
     let () = Shape::<R>::IS_LAWFUL;
     PhantomData
