@@ -5,7 +5,7 @@
 //! $ cargo run --example own_type 100.00 3
 //! 33.33 each, and 0.01 left
 //! boxes of 33.33: 4 for the whole amount
-//! $ cargo run --example own_type -0.05 2
+//! $ cargo run --example own_type -- -0.05 2
 //! -0.03 each, and 0.01 left
 //! boxes of -0.03: 2 for the whole amount
 //! ```

@@ -12,7 +12,7 @@ mod parse;
 mod reduction;
 
 pub use conversions::TryFromRatioError;
-pub use decimal::Decimal;
+pub use decimal::{Decimal, ParseDecimalError};
 pub use error::RatioError;
 pub use fraction::Ratio;
 pub use parse::ParseRatioError;

@@ -2,7 +2,7 @@
 #![cfg(feature = "serde")]
 
 use cellarcove::calendar::{Date, IsoWeek, Weekday};
-use cellarcove::ratio64::Ratio;
+use cellarcove::ratio64::{Decimal, Ratio};
 use serde_json::{from_str, to_string};
 
 #[test]
@@ -31,6 +31,19 @@ fn fractions() {
     }
     let said = from_str::<Ratio>("3").unwrap_err().to_string();
     assert!(said.contains("expected a fraction, as \"3/4\""), "{said}");
+}
+
+#[test]
+fn decimals() {
+    let amount = Decimal::new(-5, 2).unwrap();
+    assert_eq!(to_string(&amount).unwrap(), "\"-0.05\"");
+    assert_eq!(from_str::<Decimal>("\"-0.05\"").unwrap(), amount);
+    assert_eq!(from_str::<Decimal>("\"12.30\"").unwrap().places(), 2);
+    for invalid in ["\"\"", "\"1,5\"", "\"1e3\"", "\"5.\"", "1.5", "3", "null"] {
+        assert!(from_str::<Decimal>(invalid).is_err(), "{invalid}");
+    }
+    let said = from_str::<Decimal>("1.5").unwrap_err().to_string();
+    assert!(said.contains("expected a decimal number, as \"-0.05\""), "{said}");
 }
 
 #[test]

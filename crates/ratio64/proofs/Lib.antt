@@ -22,3 +22,7 @@ pub mod NeighbourIterations
 pub mod NearerNeighbour
 pub mod LimitedDenominators
 pub mod NearestParts
+pub mod DecimalOrder
+pub mod ReadDecimals
+pub mod ExactDecimals
+pub mod DecimalLaws

@@ -122,7 +122,7 @@ printed_is_read x r num_fits den_fits h =
 
 -- ---- results that cannot differ are the same
 
-same_number : (a b : ℤ) → ¬ (¬ (a ≡ b)) → a ≡ b
+pub same_number : (a b : ℤ) → ¬ (¬ (a ≡ b)) → a ≡ b
 same_number a b h = grind (arith, linear)
 
 same_error : (e f : ParseRatioError) → ¬ (¬ (e ≡ f)) → e ≡ f

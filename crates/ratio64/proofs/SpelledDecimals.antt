@@ -57,7 +57,7 @@ module _ {text : List ℕ} {units : ℤ} {places : ℕ} (s : SpellsDecimal text 
   no_point : (i : ℕ) → i < length s.whole → get_or s.whole i 0 ≢ 46
   no_point = no_mark 46 s.whole (omega arith) s.whole_digits
 
-  alone : (places == 0) ≡ true → (text ≡ s.whole) × (s.part ≡ [])
+  pub alone : (places == 0) ≡ true → (text ≡ s.whole) × (s.part ≡ [])
   alone none = grind (arith, nil_from_length, append-nil)
 
   parts_are : ((text ≡ s.whole) × (s.part ≡ [])) ⊎ (text ≡ s.whole ++ (46 ∷ s.part))

@@ -1,5 +1,5 @@
 -- Decimal numbers, and their strings.
-use Rattle.std.specs.Prelude.{◌≡◌, ◌++◌, ◌/◌, ◌%◌, ◌+◌, ◌^◌, ◌*ℤ◌, ◌==◌, ℤ, ℕ, zero, suc, List, [], ◌∷◌, codes, length, pos, unsigned_abs, if◌then◌else◌}
+use Rattle.std.specs.Prelude.{◌≡◌, ◌++◌, ◌/◌, ◌%◌, ◌+◌, ◌-◌, ◌^◌, ◌*ℤ◌, ◌==◌, ℤ, ℕ, zero, suc, List, [], ◌∷◌, codes, length, pos, unsigned_abs, if◌then◌else◌}
 use Rattle.std.specs.Fmt.{decimal, sign_text}
 use Rattle.std.specs.Int.{is_negative}
 use Rattle.std.specs.Str.Parse.{IsNumeral}
@@ -17,6 +17,11 @@ units_of x = x.units
 -- Examples: of 246.80: 2; of 7: 0.
 abbrev pub places_of : Decimal → ℕ
 places_of x = x.places
+
+-- The quintillionths of a decimal number are the number times 10^18.
+-- Examples: of 0.5 and of 0.50: 5·10^17; of 7: 7·10^18.
+abbrev pub quintillionths_of : Decimal → ℤ
+quintillionths_of x = units_of x *ℤ pos (10 ^ (18 - places_of x))
 
 -- x is the nearest to n/d of the decimal numbers with so many places. Of two that are equally near, it is the one whose units are even.
 -- Examples: 1234/5 with 2 places: 246.80; 1/8 with 2: 0.12; -1/20 with 1: 0.0.

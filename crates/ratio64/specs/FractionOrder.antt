@@ -23,7 +23,7 @@ ranked_times Less k x y up h = times_lt k x y up h
 ranked_times Equal k x y up h = ap (λ (t : ℤ). k *ℤ t) h
 ranked_times Greater k x y up h = times_lt k y x up h
 
-int_cmp-times : (k x y : ℤ) → pos 0 <ℤ k → int_cmp x y ≡ int_cmp (k *ℤ x) (k *ℤ y)
+pub int_cmp-times : (k x y : ℤ) → pos 0 <ℤ k → int_cmp x y ≡ int_cmp (k *ℤ x) (k *ℤ y)
 int_cmp-times k x y up = int_cmp_is (k *ℤ x) (k *ℤ y) (int_cmp x y) (ranked_times (int_cmp x y) k x y up (int_ranked x y (int_cmp x y) refl))
 
 -- ---- the fractions a/b, c/d and e/f over their common denominator

@@ -1,16 +1,19 @@
 -- The laws of fractions. Each is proved in proofs/Laws.antt, by a lemma of its name in small letters.
-use Rattle.std.specs.Prelude.{◌≡◌, ◌↔◌, ◌<ℤ◌, ◌+ℤ◌, ◌*ℤ◌, ℕ, ℤ, List, pos, FitsSigned, Ok, Result}
+use Rattle.std.specs.Prelude.{◌≡◌, ◌↔◌, ◌<ℤ◌, ◌+ℤ◌, ◌*ℤ◌, ◌^◌, ℕ, ℤ, List, pos, FitsSigned, Ok, Result}
 use Rattle.std.specs.Cmp.{IsTotalOrder}
 use Rattle.std.specs.Int.{w64}
+use Rattle.std.specs.Ordering.{int_cmp}
 use Rattle.std.specs.declared.cmp.Ordering.TheVariants.{Equal, Less}
 use Rattle.num_integer.specs.Only.{IsOnly}
-use Rattle.ratio64.specs.Decimal.{SpellsDecimal, decimal_text, places_of, units_of}
+use Rattle.ratio64.specs.Decimal.{SpellsDecimal, decimal_text, places_of, quintillionths_of, units_of}
+use Rattle.ratio64.specs.DecimalText.{ReadsDecimal}
 use Rattle.ratio64.specs.Fraction.{AreEqual, IsExact, IsFraction, IsReduced, fraction_cmp}
 use Rattle.ratio64.specs.Limiting.{AreNearestParts, IsNearestWithin}
 use Rattle.ratio64.specs.Ratio.{AnswersFraction, num_of, den_of, text_of}
 use Rattle.ratio64.specs.RatioText.{ReadsFraction}
 use Rattle.ratio64.specs.Rounding.{IsRounded, IsRoundedEven}
 use Rattle.ratio64.specs.declared.decimal.Decimal.{Decimal}
+use Rattle.ratio64.specs.declared.decimal.reading.ParseDecimalError.{ParseDecimalError}
 use Rattle.ratio64.specs.declared.error.RatioError.{RatioError}
 use Rattle.ratio64.specs.declared.fraction.Ratio.{Ratio}
 use Rattle.ratio64.specs.declared.parse.ParseRatioError.{ParseRatioError}
@@ -102,6 +105,23 @@ DecimalIsSpelled = (x : Decimal) → SpellsDecimal (decimal_text (units_of x) (p
 -- Each string spells at most one decimal number.
 abbrev pub SpelledDecimalIsOnly : Type 0
 SpelledDecimalIsOnly = (text : List ℕ) (units : ℤ) (places : ℕ) → SpellsDecimal text units places → IsOnly (λ (u, p). SpellsDecimal text u p) (units, places)
+
+-- Each number of units and of places are those of at most one decimal number.
+abbrev pub DecimalOfPartsIsOnly : Type 0
+DecimalOfPartsIsOnly = (x y : Decimal) → units_of x ≡ units_of y → places_of x ≡ places_of y → x ≡ y
+
+-- Decimal numbers compare as the fractions of their units over 10^places do.
+abbrev pub DecimalsCompareAsFractions : Type 0
+DecimalsCompareAsFractions = (x y : Decimal) → int_cmp (quintillionths_of x) (quintillionths_of y)
+    ≡ fraction_cmp (units_of x) (pos (10 ^ places_of x)) (units_of y) (pos (10 ^ places_of y))
+
+-- Each string is parsed as only one result of a decimal number.
+abbrev pub ReadDecimalIsOnly : Type 0
+ReadDecimalIsOnly = (text : List ℕ) (r s : Result Decimal ParseDecimalError) → ReadsDecimal text r → ReadsDecimal text s → r ≡ s
+
+-- The string of a decimal number is parsed as that number, with as many places.
+abbrev pub DecimalIsReadBack : Type 0
+DecimalIsReadBack = (x : Decimal) (r : Result Decimal ParseDecimalError) → ReadsDecimal (decimal_text (units_of x) (places_of x)) r → r ≡ Ok x
 
 -- ---- strings
 

@@ -1,4 +1,5 @@
 pub mod Decimal
+pub mod DecimalText
 pub mod Fraction
 pub mod Laws
 pub mod Limiting

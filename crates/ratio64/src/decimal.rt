@@ -1,17 +1,23 @@
 //! Decimal numbers of so many places: fractions rounded, and their strings.
 
-ghost use Rattle.std.specs.Prelude.{◌≡◌, ◌<◌, ◌≤◌, ◌^◌, Some, unsigned_abs};
+ghost use Rattle.std.specs.Prelude.{◌≡◌, ◌≢◌, ◌<◌, ◌≤◌, ◌^◌, ◌*ℤ◌, Err, Some, pos, unsigned_abs};
 ghost use Rattle.num_integer.specs.Checked.{AnswersWhere};
 
-use crate::Ratio;
+mod order;
+mod reading;
+
+use crate::reduction::product;
+use crate::{Ratio, RatioError};
 use num_integer::padded::Text;
+use num_integer::{Integer, div_floor};
+pub use reading::ParseDecimalError;
 use std::fmt;
 
-/// A decimal number with at most 18 places, as [`Ratio::to_decimal`] returns it: an amount of money, say.
-/// `Ratio::new(1234, 5).unwrap().to_decimal(2).unwrap().to_string()` is `"246.80"`. Two are equal if they print the
-/// same, and 0.5 is not 0.50: `Ratio::new(1, 2).unwrap().to_decimal(1) == Ratio::new(1, 2).unwrap().to_decimal(2)`
-/// is `false`.
-#[derive(Debug, Clone, Copy, PartialEq, Eq, Hash)]
+/// A decimal number with at most 18 places: an amount of money, say.
+/// `Ratio::new(1234, 5).unwrap().to_decimal(2).unwrap().to_string()` is `"246.80"`, and `"246.80".parse::<Decimal>().ok()`
+/// is `Decimal::new(24680, 2)`. Decimals compare as numbers, whatever their places, so 0.5 equals 0.50:
+/// `Decimal::new(5, 1) == Decimal::new(50, 2)` is `true`.
+#[derive(Debug, Clone, Copy)]
 pub struct Decimal {
     units: i128,
     places: u32,
@@ -21,6 +27,30 @@ pub struct Decimal {
 
 impl Decimal {
     ghost use Rattle.ratio64.specs.Decimal.{places_of, units_of};
+    ghost use Rattle.ratio64.specs.Ratio.{AnswersFraction};
+
+    /// Returns `units` divided by 10 to the power of `places`, or `None` if there are more than 18 places or `units` is
+    /// `i128::MIN`. `Decimal::new(-5, 2).unwrap().to_string()` is `"-0.05"`, and `Decimal::new(1, 19)` is `None`.
+    pub const fn new(units: i128, places: u32) -> Option<Self>
+        ensures { AnswersWhere ((places ≤ 18) × (unsigned_abs units < 2 ^ 127))
+            (λ x. (units_of x ≡ units) × (places_of x ≡ places)) result }
+    {
+        if places > 18 || units == i128::MIN {
+            return None;
+        }
+        Some(Self { units, places })
+    }
+
+    /// Returns the integer with no places. `Decimal::from_integer(7).to_string()` is `"7"`.
+    pub fn from_integer(number: i64) -> Self
+        ensures units { units_of result ≡ number }
+        ensures places { places_of result ≡ 0 }
+    {
+        Self {
+            units: i128::from(number),
+            places: 0,
+        }
+    }
 
     /// Returns the number times 10 to the power of its places.
     /// `Ratio::new(1234, 5).unwrap().to_decimal(2).unwrap().units()` is `24680`.
@@ -37,10 +67,23 @@ impl Decimal {
     {
         self.places
     }
+
+    /// Returns the fraction that is the same number. `Decimal::new(-5, 2).unwrap().to_ratio()` is `Ratio::new(-1, 20)`.
+    ///
+    /// # Errors
+    ///
+    /// - [`RatioError::NotFitting`] if a part of the reduced fraction does not fit an `i64`.
+    pub fn to_ratio(&self) -> Result<Ratio, RatioError>
+        ensures fraction { AnswersFraction (units_of self.now) (pos (10 ^ places_of self.now)) result }
+        ensures never_zero { result ≢ Err RatioError.ZeroDenominator }
+    {
+        Ratio::reduced(self.units, 10_i128.pow(self.places))
+    }
 }
 
 impl Ratio {
-    ghost use Rattle.ratio64.specs.Decimal.{IsDecimalOf};
+    ghost use Rattle.num_integer.specs.Divisors.{Divides};
+    ghost use Rattle.ratio64.specs.Decimal.{IsDecimalOf, places_of, units_of};
     ghost use Rattle.ratio64.specs.Ratio.{den_of, num_of};
 
     /// Returns the nearest decimal number with so many places, and of two equally near the one whose last
@@ -55,6 +98,25 @@ impl Ratio {
         let scale = 10_i64.checked_pow(places)?;
         Some(Decimal {
             units: self.wide_round_even_times(scale),
+            places,
+        })
+    }
+
+    /// Returns the decimal number with so many places that is the same number, or `None` if there is none or if there are
+    /// more than 18 places. `Ratio::new(1, 8).unwrap().to_decimal_exactly(3).unwrap().to_string()` is `"0.125"`, and
+    /// `Ratio::new(1, 8).unwrap().to_decimal_exactly(2)` is `None`.
+    pub fn to_decimal_exactly(&self, places: u32) -> Option<Decimal>
+        ensures { AnswersWhere
+            ((places ≤ 18) × Divides (den_of self.now) (num_of self.now *ℤ pos (10 ^ places)))
+            (λ x. (places_of x ≡ places)
+            × (units_of x *ℤ den_of self.now ≡ num_of self.now *ℤ pos (10 ^ places))) result }
+    {
+        let scale = 10_i64.checked_pow(places)?;
+        if !scale.is_multiple_of(&self.den()) {
+            return None;
+        }
+        Some(Decimal {
+            units: product(self.num(), div_floor(scale, self.den())),
             places,
         })
     }

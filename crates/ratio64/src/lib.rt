@@ -10,7 +10,7 @@ mod order;
 mod parse;
 mod reduction;
 
-pub use decimal::Decimal;
+pub use decimal::{Decimal, ParseDecimalError};
 pub use error::RatioError;
 pub use fraction::Ratio;
 pub use parse::ParseRatioError;

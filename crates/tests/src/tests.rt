@@ -5,6 +5,7 @@ mod coefficients;
 mod cookbook;
 mod dates;
 mod days;
+mod decimals;
 mod divisors;
 mod ends;
 mod fractions;

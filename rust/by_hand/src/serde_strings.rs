@@ -2,7 +2,7 @@
 #![cfg(feature = "serde")]
 
 use crate::calendar::{Date, IsoWeek, Weekday};
-use crate::ratio64::Ratio;
+use crate::ratio64::{Decimal, Ratio};
 use core::fmt;
 use core::marker::PhantomData;
 use core::str::FromStr;
@@ -47,6 +47,7 @@ macro_rules! as_string {
 }
 
 as_string!(Ratio, "a fraction, as \"3/4\"");
+as_string!(Decimal, "a decimal number, as \"-0.05\"");
 as_string!(Date, "a date, as \"2024-02-29\"");
 as_string!(IsoWeek, "a week, as \"2026-W48\"");
 as_string!(Weekday, "a day of the week, as \"Monday\"");

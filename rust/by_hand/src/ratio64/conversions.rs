@@ -1,6 +1,6 @@
 //! Fractions of integers, and integers and floating-point numbers of fractions.
 
-use crate::ratio64::{Ratio, RatioError};
+use crate::ratio64::{Decimal, Ratio, RatioError};
 use crate::errors::Error;
 use core::fmt;
 
@@ -74,6 +74,21 @@ macro_rules! try_into_integer {
 }
 
 try_into_integer!(i8 i16 i32 i64 i128 isize u8 u16 u32 u64 u128 usize);
+
+/// The integer with no places.
+///
+/// # Examples
+///
+/// ```
+/// use cellarcove::ratio64::Decimal;
+///
+/// assert_eq!(Decimal::from(-7i64).to_string(), "-7");
+/// ```
+impl From<i64> for Decimal {
+    fn from(number: i64) -> Decimal {
+        Decimal::from_integer(number)
+    }
+}
 
 impl Ratio {
     /// Returns the nearest floating-point number, and of two equally near the one whose last bit

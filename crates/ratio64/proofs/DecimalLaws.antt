@@ -1,0 +1,124 @@
+-- The laws of decimal numbers: one for its parts, one result for a string, and which of them is first.
+use Rattle.ratio64.proofs.Common.{◌≡◌, ◌≢◌, ◌-◌, ◌^◌, ◌<◌, ◌≤◌, ◌*ℤ◌, ◌<ℤ◌, List, ℕ, ℤ, pos, mul-pos, products, unsigned_abs, Result, Ok, Err, arith, ap, refl, sym, ◌∙◌, expand, is_prop→PathP, linear, mul-one, places_of, units_of, decimal_text}
+use Rattle.ratio64.proofs.DecimalOrder.{quintillion}
+use Rattle.ratio64.proofs.DecimalTexts.{ten_up}
+use Rattle.ratio64.proofs.ReadDecimals.{only_kept}
+use Rattle.ratio64.proofs.ReadTexts.{same_number}
+use Rattle.ratio64.proofs.SpelledDecimals.{decimal_spelled}
+use Rattle.ratio64.specs.Decimal.{SpellsDecimal, quintillionths_of}
+use Rattle.ratio64.specs.DecimalText.{AnswersNumber, AreKept, ReadsDecimal}
+use Rattle.ratio64.specs.Fraction.{fraction_cmp}
+use Rattle.ratio64.specs.FractionOrder.{int_cmp-times}
+use Rattle.ratio64.specs.Laws.{DecimalIsReadBack, DecimalOfPartsIsOnly, DecimalsCompareAsFractions, ReadDecimalIsOnly}
+use Rattle.ratio64.specs.declared.decimal.Decimal.{Decimal}
+use Rattle.ratio64.specs.declared.decimal.reading.ParseDecimalError.{ParseDecimalError}
+use Rattle.ratio64.specs.declared.decimal.reading.ParseDecimalError.TheVariants.{NotADecimal, TooManyPlaces, NotFitting}
+use Rattle.std.proofs.Props.{props}
+use Rattle.std.specs.Ordering.{int_cmp}
+
+-- ---- one for its parts
+
+few-prop : (p : ℕ) → IsProp (p ≤ 18)
+few-prop p = hlevel props
+
+below-prop : (u : ℤ) → IsProp (unsigned_abs u < 2 ^ 127)
+below-prop u = hlevel props
+
+pub decimal_of_parts_is_only : DecimalOfPartsIsOnly
+decimal_of_parts_is_only x y p q = λ i. record {
+  units = p i;
+  places = q i;
+  few = is_prop→PathP (λ i. q i ≤ 18) (λ i. few-prop (q i)) x.few y.few i;
+  below = is_prop→PathP (λ i. unsigned_abs (p i) < 2 ^ 127) (λ i. below-prop (p i)) x.below y.below i;
+}
+
+-- ---- the order is that of fractions
+
+product_up : (m n : ℕ) → 0 < m → 0 < n → pos 0 <ℤ (pos m *ℤ pos n)
+product_up m n m_up n_up = let up = mul-pos m_up n_up in omega (arith, products)
+
+pub decimals_compare_as_fractions : DecimalsCompareAsFractions
+decimals_compare_as_fractions x y =
+    let p = pos (10 ^ places_of x) in
+    let q = pos (10 ^ places_of y) in
+    let s = pos (10 ^ (18 - places_of x)) in
+    let t = pos (10 ^ (18 - places_of y)) in
+    let k = pos (10 ^ 18) in
+    let p_up = ten_up (places_of x) in
+    let q_up = ten_up (places_of y) in
+    let k_up = ten_up 18 in
+    let p_all : p *ℤ s ≡ k = quintillion (places_of x) x.few in
+    let q_all : q *ℤ t ≡ k = quintillion (places_of y) y.few in
+    let left : (p *ℤ q) *ℤ (units_of x *ℤ s) ≡ k *ℤ (units_of x *ℤ q) = rw (← p_all) (simp expand) in
+    let right : (p *ℤ q) *ℤ (units_of y *ℤ t) ≡ k *ℤ (units_of y *ℤ p) = rw (← q_all) (simp expand) in
+    let both = int_cmp-times (p *ℤ q) (quintillionths_of x) (quintillionths_of y) (product_up (10 ^ places_of x) (10 ^ places_of y) p_up q_up) in
+    let cross = int_cmp-times k (units_of x *ℤ q) (units_of y *ℤ p) (omega (arith, linear)) in
+    both ∙ ap (λ (z : ℤ). int_cmp z ((p *ℤ q) *ℤ (units_of y *ℤ t))) left ∙ ap (λ (z : ℤ). int_cmp (k *ℤ (units_of x *ℤ q)) z) right ∙ sym cross
+
+-- ---- the numbers that a string spells have one result
+
+own_kept : (x : Decimal) → AreKept (units_of x) (places_of x) (units_of x)
+own_kept x =
+    let few = x.few in
+    let none : places_of x - 18 ≡ 0 = omega arith in
+    record { product = rw none (mul-one (units_of x)) }
+
+too_large : {u k : ℤ} {p : ℕ} (x : Decimal) → AreKept u p (units_of x) → AreKept u p k → 2 ^ 127 ≤ unsigned_abs k → ⊥
+too_large x own other big =
+    let small = x.below in
+    let same = ap unsigned_abs (only_kept other own) in
+    absurd (omega (arith, same))
+
+only_number : {u : ℤ} {p : ℕ} (r s : Result Decimal ParseDecimalError) → AnswersNumber u p r → AnswersNumber u p s → r ≢ Err NotADecimal → s ≢ Err NotADecimal → r ≡ s
+only_number (Err NotADecimal) s h k m n = absurd (m refl)
+only_number r (Err NotADecimal) h k m n = absurd (n refl)
+only_number (Ok x) (Ok y) h k m n = ap Ok (decimal_of_parts_is_only x y (only_kept h.number.0 k.number.0) (h.number.1 ∙ sym k.number.1))
+only_number (Ok x) (Err TooManyPlaces) h k m n = absurd (k.too_many_places.0 refl (units_of x) h.number.0)
+only_number (Ok x) (Err NotFitting) h k m n = let big = k.not_fitting.0 refl in absurd (too_large x h.number.0 big.1 big.2)
+only_number (Err TooManyPlaces) (Ok y) h k m n = absurd (h.too_many_places.0 refl (units_of y) k.number.0)
+only_number (Err TooManyPlaces) (Err TooManyPlaces) h k m n = refl
+only_number (Err TooManyPlaces) (Err NotFitting) h k m n = let big = k.not_fitting.0 refl in absurd (h.too_many_places.0 refl big.0 big.1)
+only_number (Err NotFitting) (Ok y) h k m n = let big = h.not_fitting.0 refl in absurd (too_large y k.number.0 big.1 big.2)
+only_number (Err NotFitting) (Err TooManyPlaces) h k m n = let big = h.not_fitting.0 refl in absurd (k.too_many_places.0 refl big.0 big.1)
+only_number (Err NotFitting) (Err NotFitting) h k m n = refl
+
+-- ---- a string has one result
+
+same_places : (p q : ℕ) → ¬ (¬ (p ≡ q)) → p ≡ q
+same_places p q h = grind arith
+
+same_error : (e f : ParseDecimalError) → ¬ (¬ (e ≡ f)) → e ≡ f
+same_error NotADecimal NotADecimal h = refl
+same_error TooManyPlaces TooManyPlaces h = refl
+same_error NotFitting NotFitting h = refl
+same_error _ _ h = absurd (h (λ e. absurd cc))
+
+same_read : (r s : Result Decimal ParseDecimalError) → ¬ (¬ (r ≡ s)) → r ≡ s
+same_read (Ok x) (Ok y) h = ap Ok (decimal_of_parts_is_only x y
+    (same_number (units_of x) (units_of y) (λ other. h (λ e. let same : x ≡ y = cc in other (ap units_of same))))
+    (same_places (places_of x) (places_of y) (λ other. h (λ e. let same : x ≡ y = cc in other (ap places_of same)))))
+same_read (Err e) (Err f) h = ap Err (same_error e f (λ other. h (λ same. let one : e ≡ f = cc in other one)))
+same_read _ _ h = absurd (h (λ same. absurd cc))
+
+-- a string that spells a number is not rejected
+spelled_read : {text : List ℕ} {u : ℤ} {p : ℕ} {r : Result Decimal ParseDecimalError} → ReadsDecimal text r → SpellsDecimal text u p → r ≢ Err NotADecimal
+spelled_read {u = u} {p = p} h s e = h.not_a_decimal.0 e u p s
+
+pub read_decimal_is_only : ReadDecimalIsOnly
+read_decimal_is_only text r s h k = same_read r s (λ other.
+    let none : (u : ℤ) (p : ℕ) → ¬ (SpellsDecimal text u p) = λ u p spelled. other (only_number r s (h.answer u p spelled) (k.answer u p spelled) (spelled_read h spelled) (spelled_read k spelled)) in
+    other (h.not_a_decimal.1 none ∙ sym (k.not_a_decimal.1 none)))
+
+-- ---- what is printed is read back
+
+own_answer : (x : Decimal) → AnswersNumber (units_of x) (places_of x) (Ok x)
+own_answer x = record {
+  number = (own_kept x, let few = x.few in omega arith);
+  too_many_places = (λ e. absurd cc, λ none. absurd (none (units_of x) (own_kept x)));
+  not_fitting = (λ e. absurd cc, λ big. absurd (too_large x (own_kept x) big.1 big.2));
+}
+
+pub decimal_is_read_back : DecimalIsReadBack
+decimal_is_read_back x r h =
+    let spelled = decimal_spelled x in
+    only_number r (Ok x) (h.answer (units_of x) (places_of x) spelled) (own_answer x) (spelled_read h spelled) (λ e. absurd cc)
