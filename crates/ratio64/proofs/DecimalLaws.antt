@@ -1,5 +1,5 @@
 -- The laws of decimal numbers: one for its parts, one result for a string, and which of them is first.
-use Rattle.ratio64.proofs.Common.{◌≡◌, ◌≢◌, ◌-◌, ◌^◌, ◌<◌, ◌≤◌, ◌*ℤ◌, ◌<ℤ◌, List, ℕ, ℤ, pos, mul-pos, products, unsigned_abs, Result, Ok, Err, arith, ap, refl, sym, ◌∙◌, expand, is_prop→PathP, linear, mul-one, places_of, units_of, decimal_text}
+use Rattle.ratio64.proofs.Common.{◌≡◌, ◌≢◌, ◌-◌, ◌^◌, ◌<◌, ◌≤◌, ◌*ℤ◌, ◌<ℤ◌, List, ℕ, ℤ, pos, mul-pos, products, unsigned_abs, Result, Ok, Err, arith, ap, refl, sym, ◌∙◌, expand, is_prop→PathP, linear, mul-one, places_of, units_of}
 use Rattle.ratio64.proofs.DecimalOrder.{quintillion}
 use Rattle.ratio64.proofs.DecimalTexts.{ten_up}
 use Rattle.ratio64.proofs.ReadDecimals.{only_kept}
@@ -7,7 +7,6 @@ use Rattle.ratio64.proofs.ReadTexts.{same_number}
 use Rattle.ratio64.proofs.SpelledDecimals.{decimal_spelled}
 use Rattle.ratio64.specs.Decimal.{SpellsDecimal, quintillionths_of}
 use Rattle.ratio64.specs.DecimalText.{AnswersNumber, AreKept, ReadsDecimal}
-use Rattle.ratio64.specs.Fraction.{fraction_cmp}
 use Rattle.ratio64.specs.FractionOrder.{int_cmp-times}
 use Rattle.ratio64.specs.Laws.{DecimalIsReadBack, DecimalOfPartsIsOnly, DecimalsCompareAsFractions, ReadDecimalIsOnly}
 use Rattle.ratio64.specs.declared.decimal.Decimal.{Decimal}

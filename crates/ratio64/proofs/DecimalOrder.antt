@@ -1,5 +1,5 @@
 -- The order of decimal numbers, by the whole numbers and by the rests.
-use Rattle.ratio64.proofs.Common.{◌≡◌, ◌≤◌, ◌+◌, ◌-◌, ◌*◌, ◌^◌, ◌<ℤ◌, ◌≤ℤ◌, ◌+ℤ◌, ◌*ℤ◌, ℕ, ℤ, pos, arith, refl, sym, ◌∙◌, ap, comm, expand, linear, products, multiples_apart, floored_range, product_from_zero, IsFloored, int_cmp_is, int_ranked, FitsSigned, w128, to_z, of_z, to_z-of_z, fits_signed_from_abs, sizes, places_of, units_of, Equal, Greater, Less}
+use Rattle.ratio64.proofs.Common.{◌≡◌, ◌≤◌, ◌+◌, ◌-◌, ◌^◌, ◌<ℤ◌, ◌≤ℤ◌, ◌+ℤ◌, ◌*ℤ◌, ℕ, ℤ, pos, arith, refl, sym, ◌∙◌, ap, comm, expand, linear, multiples_apart, floored_range, product_from_zero, IsFloored, int_cmp_is, int_ranked, FitsSigned, w128, to_z, of_z, to_z-of_z, fits_signed_from_abs, sizes, places_of, units_of, Equal, Greater, Less}
 use Rattle.ratio64.proofs.DecimalTexts.{ten_up}
 use Rattle.ratio64.specs.Decimal.{quintillionths_of}
 use Rattle.ratio64.specs.FractionOrder.{int_cmp-times}

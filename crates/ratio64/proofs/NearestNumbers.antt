@@ -1,5 +1,5 @@
 -- Quotients by a positive number, and the nearest integer.
-use Rattle.ratio64.proofs.Common.{◌≡◌, ◌<◌, ◌≤◌, ◌*◌, ◌^◌, ◌<ℤ◌, ◌-ℤ◌, ◌*ℤ◌, ℤ, pos, neg_ℤ, unsigned_abs, FitsSigned, MatchOption, Option, Width, w64, w128, of_z, to_z, ap, arith, inl, inr, by_lt_z, ints, LiesWithin, expand, linear, multiples_apart, product_from_zero, products, sizes, AnswersWhere, IsDivision, IsQuotient, IsOnly, EachFits, RoundedEvenIsOnly, RoundedIsOnly, IsRounded, IsRoundedEven, rest_is, subst}
+use Rattle.ratio64.proofs.Common.{◌≡◌, ◌<◌, ◌≤◌, ◌^◌, ◌<ℤ◌, ◌-ℤ◌, ◌*ℤ◌, ℤ, pos, neg_ℤ, unsigned_abs, FitsSigned, MatchOption, Option, Width, w64, w128, of_z, to_z, ap, arith, inl, inr, by_lt_z, ints, LiesWithin, expand, linear, multiples_apart, product_from_zero, products, sizes, AnswersWhere, IsDivision, IsQuotient, IsOnly, EachFits, RoundedEvenIsOnly, RoundedIsOnly, IsRounded, IsRoundedEven, rest_is, subst}
 use Rattle.num_integer.proofs.Laws.{nearest_even_quotient_is_only, nearest_quotient_is_only}
 
 -- ---- a quotient by a positive number fits if the dividend does

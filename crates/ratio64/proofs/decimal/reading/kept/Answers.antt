@@ -1,6 +1,6 @@
 use Rattle.std.proofs.Common.{rules}
-use Rattle.ratio64.proofs.Common.{◌<◌, ◌≤◌, arith, length, sym, ◌∙◌, ap, digits_value, AllDigits, IsNumeral, drop, refl}
-use Rattle.ratio64.proofs.ReadDecimals.{all_digits_dropped, dropped_numeral, long_cut, short_kept}
+use Rattle.ratio64.proofs.Common.{◌<◌, ◌≤◌, length}
+use Rattle.ratio64.proofs.ReadDecimals.{dropped_numeral, long_cut, short_kept}
 use Rattle.ratio64.proofs.decimal.reading.kept.Goals as goal
 
 pub returns-then-part-le18 : goal.returns-then-part-le18

@@ -1,5 +1,5 @@
 use Rattle.std.proofs.Common.{rules}
-use Rattle.ratio64.proofs.Common.{◌≡◌, ◌<◌, ◌^◌, ◌*ℤ◌, ◌∙◌, refl, den_of, num_of, of_z, pos, to_z, unsigned_abs, w128, iff_false, Divides, IsFloored, IsQuotient}
+use Rattle.ratio64.proofs.Common.{◌≡◌, ◌^◌, ◌*ℤ◌, ◌∙◌, refl, den_of, num_of, of_z, pos, to_z, w128, iff_false, Divides, IsFloored, IsQuotient}
 use Rattle.ratio64.proofs.DecimalTexts.{few_places, fitting_scale}
 use Rattle.ratio64.proofs.ExactDecimals.{scale_divided, scale_divides, units_exact}
 use Rattle.ratio64.proofs.WideSums.{read}
