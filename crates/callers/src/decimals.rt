@@ -1,14 +1,18 @@
-//! Functions that round fractions half to even, also to decimal numbers.
+//! Functions that round fractions half to even, also to decimal numbers, and read decimal numbers.
 
 ghost use Rattle.std.specs.Prelude.{◌≡◌, ◌≤◌, ◌^◌, ◌*ℤ◌, FitsSigned, MatchOption, pos};
 ghost use Rattle.std.specs.Int.{w64};
 ghost use Rattle.num_integer.specs.Checked.{AnswersWhere};
 ghost use Rattle.num_integer.specs.Range.{EachFits};
-ghost use Rattle.ratio64.specs.Decimal.{IsDecimalOf};
-ghost use Rattle.ratio64.specs.Ratio.{den_of, num_of};
+ghost use Rattle.num_integer.specs.Divisors.{Divides};
+ghost use Rattle.std.specs.Ordering.{int_cmp};
+ghost use Rattle.ratio64.specs.Decimal.{IsDecimalOf, places_of, quintillionths_of, units_of};
+ghost use Rattle.ratio64.specs.DecimalText.{ReadsDecimal};
+ghost use Rattle.ratio64.specs.Ratio.{AnswersFraction, den_of, num_of};
 ghost use Rattle.ratio64.specs.Rounding.{AnswersInParts, IsRoundedEven};
 
-use ratio64::{Decimal, Ratio, RatioError};
+use ratio64::{Decimal, ParseDecimalError, Ratio, RatioError};
+use std::cmp::Ordering;
 
 /// Returns the price in whole units.
 pub fn whole_price(price: &Ratio) -> i64
@@ -61,4 +65,47 @@ pub fn amount(x: &Ratio) -> Decimal
         Some(amount) => amount,
         None => unreachable!("2 places are at most 18"),
     }
+}
+
+/// Returns the amount that a customer typed.
+pub fn typed_amount(text: &str) -> Result<Decimal, ParseDecimalError>
+    ensures { ReadsDecimal text.now result }
+{
+    let amount = text.parse::<Decimal>()?;
+    Ok(amount)
+}
+
+/// Returns an amount of so many cents.
+pub fn amount_of_cents(cents: i64) -> Decimal
+    ensures units { units_of result ≡ cents }
+    ensures places { places_of result ≡ 2 }
+{
+    match Decimal::new(i128::from(cents), 2) {
+        Some(amount) => amount,
+        None => unreachable!("64 bits fit"),
+    }
+}
+
+/// Returns the fraction that is the amount.
+pub fn fraction_of_amount(amount: &Decimal) -> Result<Ratio, RatioError>
+    ensures { AnswersFraction (units_of amount.now) (pos (10 ^ places_of amount.now)) result }
+{
+    let fraction = amount.to_ratio()?;
+    Ok(fraction)
+}
+
+/// Returns the price in whole cents if it has no smaller part.
+pub fn exact_cents(price: &Ratio) -> Option<Decimal>
+    ensures { AnswersWhere ((2 ≤ 18) × Divides (den_of price.now) (num_of price.now *ℤ pos (10 ^ 2)))
+        (λ x. (places_of x ≡ 2) × (units_of x *ℤ den_of price.now ≡ num_of price.now *ℤ pos (10 ^ 2))) result }
+{
+    let cents = price.to_decimal_exactly(2)?;
+    Some(cents)
+}
+
+/// Compares an amount with a limit.
+pub fn against_limit(amount: &Decimal, limit: &Decimal) -> Ordering
+    ensures { result ≡ int_cmp (quintillionths_of amount.now) (quintillionths_of limit.now) }
+{
+    amount.cmp(limit)
 }

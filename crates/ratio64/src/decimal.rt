@@ -29,8 +29,8 @@ impl Decimal {
     ghost use Rattle.ratio64.specs.Decimal.{places_of, units_of};
     ghost use Rattle.ratio64.specs.Ratio.{AnswersFraction};
 
-    /// Returns `units` divided by 10 to the power of `places`, or `None` if there are more than 18 places or `units` is
-    /// `i128::MIN`. `Decimal::new(-5, 2).unwrap().to_string()` is `"-0.05"`, and `Decimal::new(1, 19)` is `None`.
+    /// Returns `units` divided by 10 to the power of `places`, or `None` if there are more than 18 places or the units are
+    /// -2^127. `Decimal::new(-5, 2).unwrap().to_string()` is `"-0.05"`, and `Decimal::new(1, 19)` is `None`.
     pub const fn new(units: i128, places: u32) -> Option<Self>
         ensures { AnswersWhere ((places ≤ 18) × (unsigned_abs units < 2 ^ 127))
             (λ x. (units_of x ≡ units) × (places_of x ≡ places)) result }
@@ -42,12 +42,12 @@ impl Decimal {
     }
 
     /// Returns the integer with no places. `Decimal::from_integer(7).to_string()` is `"7"`.
-    pub fn from_integer(number: i64) -> Self
+    pub const fn from_integer(number: i64) -> Self
         ensures units { units_of result ≡ number }
         ensures places { places_of result ≡ 0 }
     {
         Self {
-            units: i128::from(number),
+            units: number as i128,
             places: 0,
         }
     }
@@ -115,10 +115,8 @@ impl Ratio {
         if !scale.is_multiple_of(&self.den()) {
             return None;
         }
-        Some(Decimal {
-            units: product(self.num(), div_floor(scale, self.den())),
-            places,
-        })
+        let units = product(self.num(), div_floor(scale, self.den()));
+        Some(Decimal { units, places })
     }
 }
 

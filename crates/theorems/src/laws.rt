@@ -136,6 +136,10 @@ pub fn laws_of_fractions()
     ensures products_of_equal_fractions { fractions.ProductsOfEqualFractions }
     ensures decimal_is_spelled { fractions.DecimalIsSpelled }
     ensures spelled_decimal_is_only { fractions.SpelledDecimalIsOnly }
+    ensures decimal_of_parts_is_only { fractions.DecimalOfPartsIsOnly }
+    ensures decimals_compare_as_fractions { fractions.DecimalsCompareAsFractions }
+    ensures read_decimal_is_only { fractions.ReadDecimalIsOnly }
+    ensures decimal_is_read_back { fractions.DecimalIsReadBack }
     ensures reading_is_only { fractions.ReadingIsOnly }
     ensures text_is_read_back { fractions.TextIsReadBack }
 {}

@@ -34,14 +34,13 @@ pub struct Decimal {
 
 impl Decimal {
     /// Returns `units` divided by 10 to the power of `places`, or `None` if there are more than 18
-    /// places or `units` is `i128::MIN`.
+    /// places or the units are -2^127.
     ///
     /// # Examples
     ///
     /// ```
     /// use cellarcove::ratio64::Decimal;
     ///
-    /// assert_eq!(units, i128::MIN);
     /// assert_eq!(Decimal::new(-5, 2).unwrap().to_string(), "-0.05");
     /// assert_eq!(Decimal::new(1, 19), None);
     /// ```
@@ -67,9 +66,9 @@ impl Decimal {
     ///
     /// [Contract](crate::definitions::ratio64#decimalfrom_integer)
     #[must_use]
-    pub fn from_integer(number: i64) -> Self {
+    pub const fn from_integer(number: i64) -> Self {
         Self {
-            units: i128::from(number),
+            units: number as i128,
             places: 0,
         }
     }
@@ -169,10 +168,8 @@ impl Ratio {
         if !scale.is_multiple_of(&self.den()) {
             return None;
         }
-        Some(Decimal {
-            units: product(self.num(), div_floor(scale, self.den())),
-            places,
-        })
+        let units = product(self.num(), div_floor(scale, self.den()));
+        Some(Decimal { units, places })
     }
 }
 

@@ -17,7 +17,9 @@ ruleset of_rounding = (law.rounded_is_only, law.rounded_even_is_only, law.neares
 
 ruleset of_sums = (law.sums_of_equal_fractions, law.products_of_equal_fractions)
 
-ruleset of_strings = (law.decimal_is_spelled, law.spelled_decimal_is_only, law.reading_is_only, law.text_is_read_back)
+ruleset of_decimals = (law.decimal_is_spelled, law.spelled_decimal_is_only, law.decimal_of_parts_is_only, law.decimals_compare_as_fractions, law.read_decimal_is_only, law.decimal_is_read_back)
+
+ruleset of_strings = (law.reading_is_only, law.text_is_read_back)
 
 pub returns : goal.returns
-returns c = search (of_reduced_pairs, of_order, of_rounding, of_sums, of_strings)
+returns c = search (of_reduced_pairs, of_order, of_rounding, of_sums, of_decimals, of_strings)

@@ -16,8 +16,8 @@ returns-then-not-is_multiple_of c =
 
 pub invariant_of-result : goal.invariant_of-result
 invariant_of-result c =
-    let own = c.product.ensures in
-    record { few = few_places c.args.places c.in_ok-scale.ensures.0; below = rw (read c.product.result own.below) own.below }
+    let own = c.product-units.ensures in
+    record { few = few_places c.args.places c.in_ok-scale.ensures.0; below = rw (read c.product-units.result own.below) own.below }
 
 pub returns : goal.returns
 returns c =
@@ -25,6 +25,6 @@ returns c =
     let divisor = c.is_multiple_of.ensures.0 c.if-not-is_multiple_of.false in
     let own : Divides (den_of x) (pos (10 ^ c.args.places)) = search rules in
     let quotient : IsQuotient IsFloored (pos (10 ^ c.args.places)) (den_of x) c.div_floor.result = search rules in
-    let product : c.product.result ≡ num_of x *ℤ c.div_floor.result = search rules in
-    let units : to_z w128 (of_z w128 c.product.result) ≡ num_of x *ℤ c.div_floor.result = read c.product.result c.product.ensures.below ∙ product in
+    let product : c.product-units.result ≡ num_of x *ℤ c.div_floor.result = search rules in
+    let units : to_z w128 (of_z w128 c.product-units.result) ≡ num_of x *ℤ c.div_floor.result = read c.product-units.result c.product-units.ensures.below ∙ product in
     ((few_places c.args.places c.in_ok-scale.ensures.0, scale_divides (num_of x) own), (refl, rw units (units_exact (num_of x) x.reduced.positive quotient own)))
