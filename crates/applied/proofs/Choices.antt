@@ -1,5 +1,5 @@
 -- Choices, their ranks and order, the choice of a rank, and the choice of the next rank.
-use Rattle.applied.proofs.Common.{◌≡◌, ◌⊎◌, ◌↔◌, ◌<◌, ◌≤◌, ◌+◌, ◌-◌, ℕ, zero, suc, List, length, slice_index, slice_set, take, sum_by, IsStrictlyIncreasing, enumerate_from, arith, ap, inl, inr, refl, subst, sym, ◌∙◌, add-one, one-add, cases_lt, ext_get_or, get_or-set_other, get_or-set_same, length-set, take_all, All-from_get_or, get_or-enumerate_from, length-enumerate_from, sum_by-take-le, sum_by_more, coefficient, coefficient-zero, coefficient_grows, pascal, ChoiceOfRankIsOnly, RankIsBelow, IsBefore, IsChoice, IsChoiceOfRank, slice_index_or, get_or_default, get_or_past, none_above, IsFirstToRise, IsLastChoice}
+use Rattle.applied.proofs.Common.{◌≡◌, ◌⊎◌, ◌↔◌, ◌<◌, ◌≤◌, ◌+◌, ◌-◌, ℕ, zero, suc, List, length, slice_index, slice_set, take, sum_by, IsStrictlyIncreasing, enumerate_from, arith, ap, inl, inr, refl, subst, sym, ◌∙◌, add-one, one-add, cases_lt, ext_get_or, get_or-set_other, get_or-set_same, length-set, take_all, All-from_get_or, get_or-enumerate_from, length-enumerate_from, sum_by-take-le, sum_by_more, coefficient, coefficient_zero, coefficient_grows, pascal, ChoiceOfRankIsOnly, RankIsBelow, IsBefore, IsChoice, IsChoiceOfRank, slice_index_or, get_or_default, get_or_past, none_above, IsFirstToRise, IsLastChoice}
 use Rattle.applied.specs.Ranking.{rank_of}
 
 -- ---- the rank of the first i numbers
@@ -28,7 +28,7 @@ rank_of_all xs k end = ap (sum_by term_of) (take_all k (enumerate_from 1 xs) (om
 
 -- it is below the number of choices of i numbers below m, if the last of them is below m
 rank_of_first_below : (xs : List ℕ) (i m : ℕ) → IsStrictlyIncreasing xs → i ≤ length xs → ((j : ℕ) → suc j ≡ i → slice_index xs j < m) → rank_of_first i xs < coefficient m i
-rank_of_first_below xs zero m up within last = omega (arith, coefficient-zero m, rank_of_none xs)
+rank_of_first_below xs zero m up within last = omega (arith, coefficient_zero m, rank_of_none xs)
 rank_of_first_below xs (suc i) m up within last =
     let c = slice_index xs i in
     let before = rank_of_first_below xs i c up (omega arith) (λ j e. subst (λ (t : ℕ). slice_index xs j < slice_index xs t) (add-one j ∙ e) (up j (omega arith))) in
@@ -97,7 +97,7 @@ one_more_written {i = i} {j = j} {bound = bound} {rest = rest} {c = c} {ys = ys}
 
 pub all_written : {n k r bound rest : ℕ} {ys : List ℕ} → IsWrittenFrom n k r 0 bound rest ys → IsChoiceOfRank n k r ys
 all_written {bound = bound} {rest = rest} {ys = ys} h =
-    let none : rest ≡ 0 = omega (arith, h.below, coefficient-zero bound) in
+    let none : rest ≡ 0 = omega (arith, h.below, coefficient_zero bound) in
     h.completes ys (record { size = refl; same = λ j from within. refl }) (grind (arith, rank_of_none))
 
 -- ---- the order of choices
@@ -181,7 +181,7 @@ choice_by_neighbours {n} {xs} above = record {
 -- they have the largest rank below the number after them
 rank_of_run : (n : ℕ) (xs : List ℕ) (i : ℕ) → i ≤ length xs → ((j : ℕ) → j < i → slice_index xs j + 1 ≡ slice_index_or xs (j + 1) n)
     → rank_of_first i xs + 1 ≡ coefficient (slice_index_or xs i n) i
-rank_of_run n xs zero within run = omega (arith, rank_of_none xs, coefficient-zero (slice_index_or xs zero n))
+rank_of_run n xs zero within run = omega (arith, rank_of_none xs, coefficient_zero (slice_index_or xs zero n))
 rank_of_run n xs (suc i) within run =
     let before = rw (get_or_default xs i n 0 (omega arith)) at (rank_of_run n xs i (omega arith) (λ j h. run j (omega arith))) in
     let next : suc (slice_index xs i) ≡ slice_index_or xs (suc i) n = simp add-one at (run i (omega arith)) in

@@ -11,14 +11,14 @@ pub use Rattle.applied.specs.Rounding.{AnswersQuotient}
 pub use Rattle.applied.specs.Schedules.{HaveBegun, IsCountOfTimes, IsLeastTime, IsMeeting, IsMeetingOfEach, IsTimeTo}
 pub use Rattle.applied.specs.Shares.{AreShares, AreSharesByRemainder, AreSignedShares, AreSignedSharesByRemainder, IsNearShare, RoundsShare, count_from, remainder_of, rounded_down, signed_sum}
 pub use Rattle.applied.specs.Totals.{wrapped}
-pub use Rattle.modular.proofs.ForCallers.{congruent-difference, congruent-product, congruent-refl, congruent-sum, congruent-trans, congruent-equal}
+pub use Rattle.modular.proofs.ForCallers.{congruent_difference, congruent_product, congruent_refl, congruent_sum, congruent_trans, congruent_equal}
 pub use Rattle.modular.proofs.Laws.{count_is_only}
 pub use Rattle.modular.specs.Congruences.{AreCongruent, IsCongruentUpTo, IsCountOfCongruent, IsResidue, SolvesBothCongruences, SolvesEach}
 pub use Rattle.modular.specs.Counts.{AreAllFrom}
 pub use Rattle.modular.specs.declared.common_solutions.CommonSolution.{CommonSolution}
 pub use Rattle.modular.specs.declared.common_solutions.CommonSolution.TheVariants.{At, Beyond, Never}
 pub use Rattle.num_integer.proofs.FittingAnswers.{few_bits}
-pub use Rattle.num_integer.proofs.ForCallers.{Divides-antisym, Divides-difference, Divides-refl, Divides-trans, Divides-zero, answer_only, answers_as, answers_only, cancel, ceiled_by_range, ceiled_quotient_least, coefficient-zero, coefficient_grows, comm, coprime_divides, divided_by_gcd, divides_magnitude, divisor_at_most, divisor_size, even_power, exact_power_root, exact_quotient, expand, factor_positive, factorial-pos, fits_below, floored_by_range, floored_range, from_test, gcd-divisor, gcd-swap, gcd-zero, gcd_fits_is, int_pow-suc, int_pow-zero, lcm-positive, least_is_only, least_multiple_beyond, linear, magnitude_divides, mul-neg, multiples_apart, natural_exact_quotient, natural_gcd_positive, natural_quotients_coprime, next_multiple_least, no_minus_one, none_above, odd_power, one_divides, one_fits, only_ceiled, only_gcd, only_lcm, only_pair_by_range, other_quotient_fits, part_fits, pascal, positive_quotient_fits, power_of_one, power_of_zero, power_size, product_at_most, product_from_zero, product_positive, products, root_by_squares, sizes, some_in_domain, square_root_of_square, truncated_is, within_fits, zero_divides, zero_fits, zero_or_not}
+pub use Rattle.num_integer.proofs.ForCallers.{Divides_antisym, Divides_difference, Divides_refl, Divides_trans, Divides_zero, answer_only, answers_as, answers_only, cancel, ceiled_by_range, ceiled_quotient_least, coefficient_zero, coefficient_grows, comm, coprime_divides, divided_by_gcd, divides_magnitude, divisor_at_most, divisor_size, even_power, exact_power_root, exact_quotient, expand, factor_positive, factorial_pos, fits_below, floored_by_range, floored_range, from_test, gcd_divisor, gcd_swap, gcd_zero, gcd_fits_is, int_pow_suc, int_pow_zero, lcm_positive, least_is_only, least_multiple_beyond, linear, magnitude_divides, mul_neg, multiples_apart, natural_exact_quotient, natural_gcd_positive, natural_quotients_coprime, next_multiple_least, no_minus_one, none_above, odd_power, one_divides, one_fits, only_ceiled, only_gcd, only_lcm, only_pair_by_range, other_quotient_fits, part_fits, pascal, positive_quotient_fits, power_of_one, power_of_zero, power_size, product_at_most, product_from_zero, product_positive, products, root_by_squares, sizes, some_in_domain, square_root_of_square, truncated_is, within_fits, zero_divides, zero_fits, zero_or_not}
 pub use Rattle.num_integer.proofs.Laws.{division_exists, factorial_formula, gcd_exists, lcm_exists}
 pub use Rattle.num_integer.specs.Checked.{AnswersWhere, FitsWith}
 pub use Rattle.num_integer.specs.Coefficient.{coefficient}

@@ -1,5 +1,5 @@
 -- Falling factorials as products of the numbers above one number up to another.
-use Rattle.applied.proofs.Common.{◌≡◌, ◌<◌, ◌≤◌, ◌+◌, ◌-◌, ◌*◌, ◌≤ℤ◌, ◌<ℤ◌, ◌+ℤ◌, ◌-ℤ◌, ◌*ℤ◌, fits_below, ℕ, ℤ, zero, suc, pos, unsigned_abs, arith, ap, inl, inr, refl, eq_of_mul-eq-mul_left, cases_lt, ints, IsRange, factorial-pos, linear, none_above, sizes, factorial_formula, factorial_of, falling_of, FallingByCoefficient, FallingFormula, ◌∙◌}
+use Rattle.applied.proofs.Common.{◌≡◌, ◌<◌, ◌≤◌, ◌+◌, ◌-◌, ◌*◌, ◌≤ℤ◌, ◌<ℤ◌, ◌+ℤ◌, ◌-ℤ◌, ◌*ℤ◌, fits_below, ℕ, ℤ, zero, suc, pos, unsigned_abs, arith, ap, inl, inr, refl, eq_of_mul-eq-mul_left, cases_lt, ints, IsRange, factorial_pos, linear, none_above, sizes, factorial_formula, factorial_of, falling_of, FallingByCoefficient, FallingFormula, ◌∙◌}
 use Rattle.num_integer.specs.Coefficient.{factorial}
 use Rattle.applied.specs.Counting.{falling}
 
@@ -39,7 +39,7 @@ pub falling_by_coefficient : FallingByCoefficient
 falling_by_coefficient n k = elim (cases_lt n k) [
   | inl above ↦ rw (falling_none n k above, none_above n k above) (omega arith)
   | inr within ↦
-      eq_of_mul-eq-mul_left (factorial (n - k)) (factorial-pos (n - k)) _ _ (omega (arith, falling_formula n k within, factorial_formula n k within))
+      eq_of_mul-eq-mul_left (factorial (n - k)) (factorial_pos (n - k)) _ _ (omega (arith, falling_formula n k within, factorial_formula n k within))
 ]
 
 -- ---- over integers

@@ -14,7 +14,7 @@ pub use Rattle.applied.proofs.FirstMultiples.{lcm_of_is_first, first_multiple_of
 pub use Rattle.applied.proofs.ReducedPairs.{reduced_pair}
 -- The sum of no numbers is 0, that of a list with a first number is that number and the sum of the others, and that of two lists after each other
 -- is the sum of both.
-pub use Rattle.applied.proofs.SignedSums.{signed_sum-nil, signed_sum-cons, signed_sum-append}
+pub use Rattle.applied.proofs.SignedSums.{signed_sum_nil, signed_sum_cons, signed_sum_append}
 -- ---- natural numbers
 
 -- What the calls say of unsigned numbers, by `/`, `%`, `*` and `min`. `using` finds each but `range_of_part_is_natural` and `meeting_is_natural`, which

@@ -1,5 +1,5 @@
 -- The laws of specs/Laws.antt, a lemma each.
-use Rattle.applied.proofs.Common.{◌≡◌, ◌<◌, ◌≤◌, ◌≤ℤ◌, ◌<ℤ◌, ◌+ℤ◌, ◌-ℤ◌, ◌*ℤ◌, ◌∷◌, count_is_only, ℕ, ℤ, pos, List, [], length, AllWithin, arith, ap, refl, AreCongruent, CommonSolution, Never, Beyond, At, congruent-equal, Divides-difference, ceiled_quotient_least, expand, floored_by_range, floored_range, least_is_only, linear, only_pair_by_range, products, division_exists, next_multiple_least, AlignedUpExists, AlignedUpIsOnly, CountOfTimesIsOnly, GcdOfIsOnly, LcmOfIsOnly, LeastTimeIsOnly, LowerBoundIsOnly, MidpointIsOnly, PaddingIsOnly, PagesAreOnly, PartsDifferByOne, PlaceExists, PlaceIsOnly, IsLeastTime}
+use Rattle.applied.proofs.Common.{◌≡◌, ◌<◌, ◌≤◌, ◌≤ℤ◌, ◌<ℤ◌, ◌+ℤ◌, ◌-ℤ◌, ◌*ℤ◌, ◌∷◌, count_is_only, ℕ, ℤ, pos, List, [], length, AllWithin, arith, ap, refl, AreCongruent, CommonSolution, Never, Beyond, At, congruent_equal, Divides_difference, ceiled_quotient_least, expand, floored_by_range, floored_range, least_is_only, linear, only_pair_by_range, products, division_exists, next_multiple_least, AlignedUpExists, AlignedUpIsOnly, CountOfTimesIsOnly, GcdOfIsOnly, LcmOfIsOnly, LeastTimeIsOnly, LowerBoundIsOnly, MidpointIsOnly, PaddingIsOnly, PagesAreOnly, PartsDifferByOne, PlaceExists, PlaceIsOnly, IsLeastTime}
 use Rattle.applied.proofs.ListDivisors.{only_gcd_of, only_lcm_of}
 pub use Rattle.applied.proofs.LargestRemainders.{shares_by_remainder_are_only}
 pub use Rattle.applied.proofs.Choices.{choice_of_rank_is_only, rank_is_below}
@@ -50,8 +50,8 @@ aligned_up_is_only = λ offset alignment aligned h other k. omega (arith, linear
 pub padding_is_only : PaddingIsOnly
 padding_is_only = λ offset alignment bytes other from_zero below multiple other_from_zero other_below other_multiple.
     let apart : (offset +ℤ other) -ℤ (offset +ℤ bytes) ≡ other -ℤ bytes = omega (arith, linear) in
-    let congruent : AreCongruent alignment other bytes = record { divides = rw apart at (Divides-difference other_multiple multiple) } in
-    congruent-equal congruent other_from_zero other_below from_zero below
+    let congruent : AreCongruent alignment other bytes = record { divides = rw apart at (Divides_difference other_multiple multiple) } in
+    congruent_equal congruent other_from_zero other_below from_zero below
 
 -- ---- schedules
 

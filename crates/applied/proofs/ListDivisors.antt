@@ -1,19 +1,19 @@
 -- Greatest common divisors and least common multiples of lists.
-use Rattle.applied.proofs.Common.{◌≡◌, ◌<◌, ◌+◌, ◌≤ℤ◌, ◌<ℤ◌, ◌∷◌, ◌++◌, ◌≢◌, append-nil, append_assoc, GcdOfFitsExactly, ℕ, ℤ, pos, negsuc, neg_ℤ, unsigned_abs, List, [], length, get_or, map, take, Option, Some, All, arith, inl, inr, refl, subst, sym, ints, map_more, All-head, All-nil, All-pop, All-push, All-tail, All-weaker, AnswersWhere, Divides, IsGreatestCommonDivisor, IsRange, Divides-antisym, Divides-refl, Divides-trans, Divides-zero, answers_as, gcd_fits_is, linear, no_minus_one, sizes, within_fits, zero_fits, zero_or_not, gcd_exists, GcdOfFits, IsGreatestCommonDivisorOf, take-map, HoldsAt, ◌∙◌, get_or-map, length-map, take_at, All-map, All-take, IsLeastCommonMultiple, EachFits, answer_only, divisor_at_most, fits_below, lcm-positive, one_divides, zero_divides, lcm_exists, IsLeastCommonMultipleOf, gcd-swap, only_lcm, gcd-divisor}
+use Rattle.applied.proofs.Common.{◌≡◌, ◌<◌, ◌+◌, ◌≤ℤ◌, ◌<ℤ◌, ◌∷◌, ◌++◌, ◌≢◌, append-nil, append_assoc, GcdOfFitsExactly, ℕ, ℤ, pos, negsuc, neg_ℤ, unsigned_abs, List, [], length, get_or, map, take, Option, Some, All, arith, inl, inr, refl, subst, sym, ints, map_more, All-head, All-nil, All-pop, All-push, All-tail, All-weaker, AnswersWhere, Divides, IsGreatestCommonDivisor, IsRange, Divides_antisym, Divides_refl, Divides_trans, Divides_zero, answers_as, gcd_fits_is, linear, no_minus_one, sizes, within_fits, zero_fits, zero_or_not, gcd_exists, GcdOfFits, IsGreatestCommonDivisorOf, take-map, HoldsAt, ◌∙◌, get_or-map, length-map, take_at, All-map, All-take, IsLeastCommonMultiple, EachFits, answer_only, divisor_at_most, fits_below, lcm_positive, one_divides, zero_divides, lcm_exists, IsLeastCommonMultipleOf, gcd_swap, only_lcm, gcd_divisor}
 use Rattle.applied.proofs.ReducedPairs.{gcd_with_magnitude}
 
 -- ---- the gcd of one number more
 
 -- the greatest common divisor of no numbers is 0
 pub gcd_of_none : IsGreatestCommonDivisorOf [] (pos 0)
-gcd_of_none = record { from_zero = omega (arith, ints); divides_each = All-nil (λ x. Divides (pos 0) x); greatest = λ d _. Divides-zero d }
+gcd_of_none = record { from_zero = omega (arith, ints); divides_each = All-nil (λ x. Divides (pos 0) x); greatest = λ d _. Divides_zero d }
 
 -- the gcd of a list with one number more at its end is the gcd of the list's gcd and this number
 pub gcd_of_more : {numbers : List ℤ} {g x h : ℤ} → IsGreatestCommonDivisorOf numbers g → IsGreatestCommonDivisor g x h → IsGreatestCommonDivisorOf (numbers ++ x ∷ []) h
 gcd_of_more {numbers} {g} {x} {h} before both = record {
   from_zero = both.from_zero;
   divides_each = All-push (λ y. Divides h y) numbers x
-      (All-weaker (λ y. Divides g y) (λ y. Divides h y) (λ y divides. Divides-trans both.divides_left divides) numbers before.divides_each)
+      (All-weaker (λ y. Divides g y) (λ y. Divides h y) (λ y divides. Divides_trans both.divides_left divides) numbers before.divides_each)
       both.divides_right;
   greatest = λ d each.
       let split = All-pop (λ y. Divides d y) (numbers ++ x ∷ []) numbers (Some x) refl each in both.greatest d (before.greatest d split.0) split.1;
@@ -31,7 +31,7 @@ each_list Fit Is more first (x ∷ rest) g own each =
 
 -- two greatest common divisors of one list are equal
 pub only_gcd_of : {numbers : List ℤ} {g h : ℤ} → IsGreatestCommonDivisorOf numbers g → IsGreatestCommonDivisorOf numbers h → g ≡ h
-only_gcd_of x y = Divides-antisym x.from_zero y.from_zero (y.greatest _ x.divides_each) (x.greatest _ y.divides_each)
+only_gcd_of x y = Divides_antisym x.from_zero y.from_zero (y.greatest _ x.divides_each) (x.greatest _ y.divides_each)
 
 pub gcd_of_exists : (numbers : List ℤ) → (g : ℤ) × IsGreatestCommonDivisorOf numbers g
 gcd_of_exists numbers = each_list (λ x. x ≡ x) IsGreatestCommonDivisorOf (λ first x g _ own. let h = gcd_exists g x in (h.0, gcd_of_more own h.1))
@@ -77,7 +77,7 @@ gcd_of_next value numbers i d r {x = x} before within at both = rw (map_more val
 
 -- a divisor of the number is the gcd of both, up to its sign
 pub gcd_of_multiple : {d x : ℤ} → Divides d x → IsGreatestCommonDivisor d x (pos (unsigned_abs d))
-gcd_of_multiple divides = gcd-swap (gcd-divisor divides)
+gcd_of_multiple divides = gcd_swap (gcd_divisor divides)
 
 -- if the first numbers have the gcd 1, all of them do
 pub gcd_of_one : {X : Type 0} (value : X → ℤ) (numbers : List X) (i : ℕ) {d : ℤ} → d ≡ pos 1 → IsGreatestCommonDivisorOf (map value (take i numbers)) (pos (unsigned_abs d))
@@ -101,7 +101,7 @@ pub lcm_of_more : {numbers : List ℤ} {l x m : ℤ} → IsLeastCommonMultipleOf
 lcm_of_more {numbers} {l} {x} {m} before both = record {
   from_zero = both.from_zero;
   each_divides = All-push (λ y. Divides y m) numbers x
-      (All-weaker (λ y. Divides y l) (λ y. Divides y m) (λ y divides. Divides-trans divides both.left_divides) numbers before.each_divides)
+      (All-weaker (λ y. Divides y l) (λ y. Divides y m) (λ y divides. Divides_trans divides both.left_divides) numbers before.each_divides)
       both.right_divides;
   least = λ n each.
       let split = All-pop (λ y. Divides y n) (numbers ++ x ∷ []) numbers (Some x) refl each in both.least n (before.least n split.0) split.1;
@@ -115,7 +115,7 @@ prefix_divides {first} rest {m} {l} h k = h.least l (subst (All (λ x. Divides x
 
 -- two least common multiples of one list are equal
 pub only_lcm_of : {numbers : List ℤ} {l m : ℤ} → IsLeastCommonMultipleOf numbers l → IsLeastCommonMultipleOf numbers m → l ≡ m
-only_lcm_of x y = Divides-antisym x.from_zero y.from_zero (x.least _ y.each_divides) (y.least _ x.each_divides)
+only_lcm_of x y = Divides_antisym x.from_zero y.from_zero (x.least _ y.each_divides) (y.least _ x.each_divides)
 
 pub lcm_of_exists : (numbers : List ℤ) → (l : ℤ) × IsLeastCommonMultipleOf numbers l
 lcm_of_exists numbers = each_list (λ x. x ≡ x) IsLeastCommonMultipleOf (λ first x l _ own. let m = lcm_exists l x in (m.0, lcm_of_more own m.1))
@@ -126,17 +126,17 @@ pub positive_lcm_of : (numbers : List ℤ) → All (λ x. x ≢ pos 0) numbers �
 positive_lcm_of numbers nonzero = each_list (λ x. x ≢ pos 0) (λ first l. IsLeastCommonMultipleOf first l × (pos 0 <ℤ l))
     (λ first x l some own.
     let both = lcm_exists l x in
-    (both.0, (lcm_of_more own.0 both.1, lcm-positive both.1 (λ none. omega (arith, linear, own.1)) some)))
+    (both.0, (lcm_of_more own.0 both.1, lcm_positive both.1 (λ none. omega (arith, linear, own.1)) some)))
     [] numbers (pos 1) (lcm_of_none, omega (arith, ints)) nonzero
 
 -- a list with a 0 has the least common multiple 0
 pub lcm_of_zero : {numbers : List ℤ} (k : ℕ) → k < length numbers → HoldsAt (λ x. x ≡ pos 0) numbers k → IsLeastCommonMultipleOf numbers (pos 0)
 lcm_of_zero {numbers} k within zero = record {
   from_zero = omega (arith, ints);
-  each_divides = λ i d inside. Divides-zero _;
+  each_divides = λ i d inside. Divides_zero _;
   least = λ m each.
       let none : m ≡ pos 0 = zero_divides (rw (zero (pos 0)) at (each k (pos 0) within)) in
-      rw none (Divides-zero (pos 0));
+      rw none (Divides_zero (pos 0));
 }
 
 pub lcm_of_with_zero : {X : Type 0} (value : X → ℤ) (numbers : List X) (k : ℕ) → k < length numbers → HoldsAt (λ x. value x ≡ pos 0) numbers k
@@ -153,7 +153,7 @@ lcm_of_result fits {numbers} l_fits own = answer_only {P = IsLeastCommonMultiple
 -- a multiple of the number is the lcm of both
 pub lcm_of_divisor_fits : (fits : ℤ → Type 0) {l x : ℤ} → fits l → pos 0 ≤ℤ l → Divides x l → EachFits fits (IsLeastCommonMultiple l x) × (fits l × IsLeastCommonMultiple l x l)
 lcm_of_divisor_fits fits {l} {x} l_fits up divides =
-    let own : IsLeastCommonMultiple l x l = record { from_zero = up; left_divides = Divides-refl l; right_divides = divides; least = λ m h _. h } in
+    let own : IsLeastCommonMultiple l x l = record { from_zero = up; left_divides = Divides_refl l; right_divides = divides; least = λ m h _. h } in
     answer_only {P = IsLeastCommonMultiple l x} own (λ y. only_lcm own) l_fits refl
 
 -- ---- the loop of `lcm_of`

@@ -1,13 +1,13 @@
 -- Greatest common divisors up to their sign, and pairs of numbers divided by their greatest common divisor.
-use Rattle.applied.proofs.Common.{◌≡◌, ◌≢◌, ◌≤ℤ◌, ◌<ℤ◌, ◌-ℤ◌, ◌*ℤ◌, ◌<◌, ◌*◌, ◌/◌, ℤ, pos, negsuc, neg_ℤ, unsigned_abs, int_div, ◌∙◌, arith, inl, inr, refl, subst, sym, cases_lt, by_lt_z, Divides, IsGreatestCommonDivisor, EachFits, IsRange, Divides-trans, divides_magnitude, divisor_size, exact_quotient, expand, gcd-swap, linear, magnitude_divides, one_fits, only_gcd, other_quotient_fits, product_from_zero, products, sizes, truncated_is, within_fits, gcd_exists, ℕ, ap, Divides-antisym, cancel, comm, coprime_divides, divided_by_gcd, factor_positive, mul-neg, natural_exact_quotient, natural_gcd_positive, natural_quotients_coprime, product_positive, zero_divides, zero_or_not, ReducedPairIsOnly, HasSignOf, IsReducedPair}
+use Rattle.applied.proofs.Common.{◌≡◌, ◌≢◌, ◌≤ℤ◌, ◌<ℤ◌, ◌-ℤ◌, ◌*ℤ◌, ◌<◌, ◌*◌, ◌/◌, ℤ, pos, negsuc, neg_ℤ, unsigned_abs, int_div, ◌∙◌, arith, inl, inr, refl, subst, sym, cases_lt, by_lt_z, Divides, IsGreatestCommonDivisor, EachFits, IsRange, Divides_trans, divides_magnitude, divisor_size, exact_quotient, expand, gcd_swap, linear, magnitude_divides, one_fits, only_gcd, other_quotient_fits, product_from_zero, products, sizes, truncated_is, within_fits, gcd_exists, ℕ, ap, Divides_antisym, cancel, comm, coprime_divides, divided_by_gcd, factor_positive, mul_neg, natural_exact_quotient, natural_gcd_positive, natural_quotients_coprime, product_positive, zero_divides, zero_or_not, ReducedPairIsOnly, HasSignOf, IsReducedPair}
 
 -- the first number may be its magnitude
 pub gcd_with_magnitude : {a b g : ℤ} → IsGreatestCommonDivisor a b g → IsGreatestCommonDivisor (pos (unsigned_abs a)) b g
 gcd_with_magnitude {a} h = record {
   from_zero = h.from_zero;
-  divides_left = Divides-trans h.divides_left (divides_magnitude a);
+  divides_left = Divides_trans h.divides_left (divides_magnitude a);
   divides_right = h.divides_right;
-  greatest = λ d left right. h.greatest d (Divides-trans left (magnitude_divides a)) right;
+  greatest = λ d left right. h.greatest d (Divides_trans left (magnitude_divides a)) right;
 }
 
 -- ---- the divisor that `signed_gcd` returns
@@ -42,7 +42,7 @@ part_fits {g = g} {part = part} range n_fits up is = by_lt_z part (pos 0)
 module _ {n d : ℤ} (nonzero : d ≢ pos 0) (divides : Divides (pos (unsigned_abs d)) n) where
   -- the quotient is exact
   exact : n ≡ d *ℤ int_div n d
-  exact = exact_quotient nonzero (Divides-trans (divides_magnitude d) divides)
+  exact = exact_quotient nonzero (Divides_trans (divides_magnitude d) divides)
 
   pub part_by_positive : pos 0 ≤ℤ d → n ≡ pos (unsigned_abs d) *ℤ int_div n d
   part_by_positive up = grind (arith, sizes, exact)
@@ -64,7 +64,7 @@ reduced_zeros {a} {b} a_zero b_zero = grind arith
 
 -- a positive factor keeps the sign
 sign_of_part : {a g x : ℤ} → pos 0 <ℤ g → a ≡ g *ℤ x → HasSignOf a x
-sign_of_part {a} {g} {x} up is = grind (arith, neg_ℤ, mul-neg, product_positive, factor_positive, linear)
+sign_of_part {a} {g} {x} up is = grind (arith, neg_ℤ, mul_neg, product_positive, factor_positive, linear)
 
 -- the parts of two numbers by their positive gcd
 pub reduced_by_gcd : {a b g x y : ℤ} → pos 0 <ℤ g → IsGreatestCommonDivisor a b g → a ≡ g *ℤ x → b ≡ g *ℤ y → IsReducedPair a b x y
@@ -97,9 +97,9 @@ zero_of_zero {a} {x} h none = grind (arith, linear, h.positive.0, h.negative.0)
 -- numbers of one sign that divide each other are equal
 same_of_sign : {a x u : ℤ} → HasSignOf a x → HasSignOf a u → Divides x u → Divides u x → u ≡ x
 same_of_sign {a} {x} {u} h k there back =
-    let on = Divides-trans (magnitude_divides x) (Divides-trans there (divides_magnitude u)) in
-    let off = Divides-trans (magnitude_divides u) (Divides-trans back (divides_magnitude x)) in
-    let size = Divides-antisym (omega (arith, linear)) (omega (arith, linear)) on off in
+    let on = Divides_trans (magnitude_divides x) (Divides_trans there (divides_magnitude u)) in
+    let off = Divides_trans (magnitude_divides u) (Divides_trans back (divides_magnitude x)) in
+    let size = Divides_antisym (omega (arith, linear)) (omega (arith, linear)) on off in
     by_lt_z (pos 0) x
     (λ up. omega (arith, sizes, k.positive.1 (h.positive.0 up)))
     (λ not_up. by_lt_z x (pos 0) (λ down. omega (arith, sizes, k.negative.1 (h.negative.0 down))) (λ not_down. omega (arith, sizes)))
@@ -110,8 +110,8 @@ first_is_only {a} {b} {x} {y} {u} {v} h k = elim (zero_or_not a) [
   | inr some ↦
       let first = simp expand at (ap (λ (t : ℤ). t *ℤ u) h.ratio) in
       let cross : x *ℤ v ≡ y *ℤ u = cancel a (x *ℤ v) (y *ℤ u) some (omega (arith, linear, simp expand at (ap (λ (t : ℤ). x *ℤ t) k.ratio))) in
-      same_of_sign h.first_sign k.first_sign (coprime_divides (gcd-swap (h.coprime (inl some))) (record { factor = v; product = sym cross }))
-      (coprime_divides (gcd-swap (k.coprime (inl some))) (record { factor = y; product = comm v x ∙ cross ∙ comm y u }))
+      same_of_sign h.first_sign k.first_sign (coprime_divides (gcd_swap (h.coprime (inl some))) (record { factor = v; product = sym cross }))
+      (coprime_divides (gcd_swap (k.coprime (inl some))) (record { factor = y; product = comm v x ∙ cross ∙ comm y u }))
 ]
 
 swapped : {a b x y : ℤ} → IsReducedPair a b x y → IsReducedPair b a y x
@@ -119,7 +119,7 @@ swapped h = record {
   ratio = sym h.ratio;
   first_sign = h.second_sign;
   second_sign = h.first_sign;
-  coprime = λ other. gcd-swap (h.coprime (elim other [ inl b_other ↦ inr b_other | inr a_other ↦ inl a_other ]));
+  coprime = λ other. gcd_swap (h.coprime (elim other [ inl b_other ↦ inr b_other | inr a_other ↦ inl a_other ]));
 }
 
 pub reduced_pair_is_only : ReducedPairIsOnly

@@ -2,19 +2,19 @@
 use Rattle.std.specs.Prelude.{◌%◌}
 use Rattle.modular.proofs.ForCallers.{natural_residue}
 use Rattle.num_integer.proofs.ForCallers.{natural_power}
-use Rattle.applied.proofs.Common.{◌≡◌, ◌<◌, ◌+◌, ◌^◌, ◌+ℤ◌, ◌-ℤ◌, ◌*ℤ◌, ◌∷◌, ◌++◌, ℕ, ℤ, pos, List, [], length, slice_index, take, int_pow, arith, ap, ◌∙◌, add-one, subst, sym, length_push, take-suc, expand, int_pow-suc, int_pow-zero, linear, products, congruent-difference, congruent-product, congruent-refl, congruent-sum, congruent-trans, AreCongruent, IsResidue, weighted_sum}
+use Rattle.applied.proofs.Common.{◌≡◌, ◌<◌, ◌+◌, ◌^◌, ◌+ℤ◌, ◌-ℤ◌, ◌*ℤ◌, ◌∷◌, ◌++◌, ℕ, ℤ, pos, List, [], length, slice_index, take, int_pow, arith, ap, ◌∙◌, add-one, subst, sym, length_push, take-suc, expand, int_pow_suc, int_pow_zero, linear, products, congruent_difference, congruent_product, congruent_refl, congruent_sum, congruent_trans, AreCongruent, IsResidue, weighted_sum}
 
 -- one more byte at the end moves each before it up by one power
 sum_with_last : (base : ℤ) (bytes : List ℕ) (last : ℕ) → weighted_sum base (bytes ++ last ∷ []) ≡ weighted_sum base bytes *ℤ base +ℤ pos last
-sum_with_last base [] last = grind (arith, int_pow, int_pow-zero, products)
+sum_with_last base [] last = grind (arith, int_pow, int_pow_zero, products)
 sum_with_last base (byte ∷ bytes) last =
-    let power : int_pow base (length (bytes ++ last ∷ [])) ≡ base *ℤ int_pow base (length bytes) = ap (λ (k : ℕ). int_pow base k) (length_push bytes last ∙ add-one (length bytes)) ∙ int_pow-suc base (length bytes) in
+    let power : int_pow base (length (bytes ++ last ∷ [])) ≡ base *ℤ int_pow base (length bytes) = ap (λ (k : ℕ). int_pow base k) (length_push bytes last ∙ add-one (length bytes)) ∙ int_pow_suc base (length bytes) in
     rw (power, sum_with_last base bytes last) (simp expand (omega (arith, linear)))
 
 hash_shifted : {m sum hash shifted r : ℤ} (base byte : ℤ) → AreCongruent m sum hash → IsResidue m (hash *ℤ base) shifted → IsResidue m (shifted +ℤ byte) r → IsResidue m (sum *ℤ base +ℤ byte) r
 hash_shifted base byte h shift last = record {
   below = last.below;
-  congruent = congruent-trans (congruent-sum (congruent-trans (congruent-product h (congruent-refl base)) shift.congruent) (congruent-refl byte)) last.congruent;
+  congruent = congruent_trans (congruent_sum (congruent_trans (congruent_product h (congruent_refl base)) shift.congruent) (congruent_refl byte)) last.congruent;
 }
 
 pub hash_more : {m hash shifted r : ℤ} (base : ℤ) (bytes : List ℕ) (i : ℕ) → i < length bytes → IsResidue m (weighted_sum base (take i bytes)) hash → IsResidue m (hash *ℤ base) shifted
@@ -32,7 +32,7 @@ pub next_window : {m hash weight first rest shifted r : ℤ} {count : ℕ} (base
 next_window {m} {weight = weight} {rest = rest} base leaving entering kept size h at_weight at_first at_rest shift last =
     let top : ℤ = pos leaving *ℤ int_pow base (length kept) in
     let near : AreCongruent m (int_pow base (length kept)) weight = subst (λ (k : ℕ). AreCongruent m (int_pow base k) weight) (sym size) at_weight.congruent in
-    let gone = congruent-trans (congruent-product (congruent-refl (pos leaving)) near) at_first.congruent in
+    let gone = congruent_trans (congruent_product (congruent_refl (pos leaving)) near) at_first.congruent in
     let same : (top +ℤ weighted_sum base kept) -ℤ top ≡ weighted_sum base kept = omega (arith, linear) in
-    let stays = rw same at (congruent-trans (congruent-difference h.congruent gone) at_rest.congruent) in
+    let stays = rw same at (congruent_trans (congruent_difference h.congruent gone) at_rest.congruent) in
     rw (sum_with_last base kept entering) (hash_shifted base (pos entering) stays shift last)

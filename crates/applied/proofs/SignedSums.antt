@@ -3,15 +3,15 @@ use Rattle.applied.proofs.Common.{◌≡◌, ◌<◌, ◌≤◌, ◌^◌, ◌+�
 
 -- ---- sums of lists
 
-pub signed_sum-nil : signed_sum [] ≡ pos 0
-signed_sum-nil = refl
+pub signed_sum_nil : signed_sum [] ≡ pos 0
+signed_sum_nil = refl
 
-pub signed_sum-cons : (x : ℤ) (xs : List ℤ) → signed_sum (x ∷ xs) ≡ x +ℤ signed_sum xs
-signed_sum-cons x xs = refl
+pub signed_sum_cons : (x : ℤ) (xs : List ℤ) → signed_sum (x ∷ xs) ≡ x +ℤ signed_sum xs
+signed_sum_cons x xs = refl
 
-pub signed_sum-append : (xs ys : List ℤ) → signed_sum (xs ++ ys) ≡ signed_sum xs +ℤ signed_sum ys
-signed_sum-append [] ys = omega (arith, linear)
-signed_sum-append (x ∷ xs) ys = omega (arith, linear, signed_sum-append xs ys)
+pub signed_sum_append : (xs ys : List ℤ) → signed_sum (xs ++ ys) ≡ signed_sum xs +ℤ signed_sum ys
+signed_sum_append [] ys = omega (arith, linear)
+signed_sum_append (x ∷ xs) ys = omega (arith, linear, signed_sum_append xs ys)
 
 -- ---- totals
 
@@ -26,7 +26,7 @@ module _ {X : Type 0} {value : X → ℤ} {items : List X} {i low over under : �
   pub total_more : {x : X} {v : ℤ} {next_low next_over next_under : ℕ} → i < length items → x ≡ get_or items i x → v ≡ value x → wrapped next_low next_over next_under ≡ wrapped low over under +ℤ v
       → next_over ≤ over + 1 → next_under ≤ under + 1 → IsTotalOf value items (i + 1) next_low next_over next_under
   total_more {x} within at is sum over_more under_more = record {
-    so_far = rw (map_more value items i x within, ← at, signed_sum-append (map value (take i items)) (value x ∷ []))
+    so_far = rw (map_more value items i x within, ← at, signed_sum_append (map value (take i items)) (value x ∷ []))
         (omega (arith, linear, total.so_far, is, sum));
     over_times = omega (arith, total.over_times);
     under_times = omega (arith, total.under_times);

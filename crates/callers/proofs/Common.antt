@@ -10,7 +10,7 @@ pub use Rattle.std.specs.Prelude.{FitsSigned, IfSome, List, MatchOption, None, O
 pub use Rattle.num_integer.proofs.ForCallers.{floored_remainder_range, lcm_at_most_product, literal_lcm_fits, literal_lcm_fits_signed, narrowed, none_narrower, product_at_most, product_positive, sizes}
 pub use Rattle.num_integer.specs.DivisorSums.{IsSumOfDivisorsTo}
 pub use Rattle.num_integer.specs.Row.{row_of}
-pub use Rattle.modular.proofs.ForCallers.{congruent-difference, congruent-refl, congruent-sum, congruent-sym, congruent-trans, congruent_is_natural, odd_coprime}
+pub use Rattle.modular.proofs.ForCallers.{congruent_difference, congruent_refl, congruent_sum, congruent_sym, congruent_trans, congruent_is_natural, odd_coprime}
 pub use Rattle.modular.proofs.Laws.{exponents_add}
 pub use Rattle.modular.specs.Congruences.{AreCongruent, IsResidue}
 pub use Rattle.applied.proofs.ForCallers.{lcm_of_more, lcm_of_none}

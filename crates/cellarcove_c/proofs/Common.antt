@@ -10,7 +10,7 @@ pub use Rattle.std.proofs.lemmas.Str.{IsAscii-append, IsUtf8-from_ascii}
 pub use Rattle.std.proofs.lemmas.Str.Ascii.{IsAscii-cons, IsAscii-from_all, IsAscii-push}
 pub use Rattle.std.specs.Int.{int_pow, w64}
 pub use Rattle.std.specs.Prelude.{Bool, Err, FitsSigned, IfSome, IsTrue, List, MatchOption, MatchResult, None, Ok, Option, Result, Some, [], length, map, min, negsuc, pos, replicate, suc, unsigned_abs, zero, ℕ, ℤ, ◌%◌, ◌*ℤ◌, ◌*◌, ◌++◌, ◌+ℤ◌, ◌+◌, ◌-ℤ◌, ◌-◌, ◌/◌, ◌<ℤ◌, ◌<◌, ◌^◌, ◌↔◌, ◌∷◌, ◌≡◌, ◌≢◌, ◌≤ℤ◌, ◌≤◌, ◌⊎◌}
-pub use Rattle.num_integer.proofs.ForCallers.{Divides-difference, answers_as, coefficient-zero, int_pow-zero, least_is_only, linear, none_above, pascal, sizes, small_multiple_is_zero}
+pub use Rattle.num_integer.proofs.ForCallers.{Divides_difference, answers_as, coefficient_zero, int_pow_zero, least_is_only, linear, none_above, pascal, sizes, small_multiple_is_zero}
 pub use Rattle.num_integer.proofs.Laws.{coefficient_mirror, quotient_is_only, remainder_is_only, root_is_only}
 pub use Rattle.num_integer.specs.Checked.{AnswersWhere}
 pub use Rattle.num_integer.specs.Coefficient.{coefficient}
@@ -18,7 +18,7 @@ pub use Rattle.num_integer.specs.Division.{IsRemainder, IsTruncated}
 pub use Rattle.num_integer.specs.Divisors.{Divides, IsLeastCommonMultiple}
 pub use Rattle.num_integer.specs.Least.{IsLeastFrom}
 pub use Rattle.num_integer.specs.Range.{EachFits}
-pub use Rattle.modular.proofs.ForCallers.{congruent-refl}
+pub use Rattle.modular.proofs.ForCallers.{congruent_refl}
 pub use Rattle.modular.proofs.Laws.{residue_class_is_only}
 pub use Rattle.modular.specs.CommonSolutions.{MatchCommonSolution}
 pub use Rattle.modular.specs.Congruences.{IsResidueClass, SolvesBothCongruences, SolvesEach}

@@ -1,5 +1,5 @@
 -- Two congruences, and whether a number solves both.
-use Rattle.cellarcove_c.proofs.Common.{◌≡◌, ℕ, ℤ, zero, suc, ◌∙◌, arith, inl, inr, subst, sym, MatchCommonSolution, IsResidueClass, CommonSolution, congruent-refl, IsLeastFrom, Refuses, IsBeyond, IsNever, StatusIsOneOf, common_solution_of, no_solution, not_fitting}
+use Rattle.cellarcove_c.proofs.Common.{◌≡◌, ℕ, ℤ, zero, suc, ◌∙◌, arith, inl, inr, subst, sym, MatchCommonSolution, IsResidueClass, CommonSolution, congruent_refl, IsLeastFrom, Refuses, IsBeyond, IsNever, StatusIsOneOf, common_solution_of, no_solution, not_fitting}
 
 -- a status that is one of two is no third
 pub no_third : {status one two three : ℕ} → StatusIsOneOf one two status → ¬ (one ≡ three) → ¬ (two ≡ three) → ¬ (status ≡ three)
@@ -8,7 +8,7 @@ no_third (inr same) first second third = second (sym same ∙ third)
 
 -- a class has its first number
 pub class_has : {Is : ℤ → Type 0} {first step : ℤ} → IsResidueClass Is first step → (x : ℤ) × Is x
-class_has {first = first} h = (first, h.no_other first (congruent-refl first))
+class_has {first = first} h = (first, h.no_other first (congruent_refl first))
 
 -- the value of a common solution is in range
 pub value_in_range : {X : Type 0} (value : X → ℤ) (fits : ℤ → Type 0) (from : ℤ) (Solves : ℤ → Type 0) (zero_value : X) (status : ℕ) (solution : X) (found : CommonSolution X)

@@ -9,7 +9,7 @@ use Rattle.std.proofs.lemmas.Bool.{false≢true}
 use Rattle.std.proofs.lemmas.Bool.Decides.{Decides-int_eq}
 use Rattle.std.specs.List.{All, IsAnyAnswer}
 use Rattle.std.specs.Prelude.{Bool, Decides, int_lt, false, true, suc, zero, ◌≢◌, ◌↔◌, ◌^◌, ◌≤ℤ◌, ◌<ℤ◌, ◌+ℤ◌, ◌-ℤ◌, ◌*ℤ◌, neg_ℤ, unsigned_abs}
-use Rattle.num_integer.proofs.ForCallers.{floored_by_range, linear, mul-neg, other_quotient_fits, products, sizes}
+use Rattle.num_integer.proofs.ForCallers.{floored_by_range, linear, mul_neg, other_quotient_fits, products, sizes}
 use Rattle.num_integer.specs.Division.{IsFloored, IsQuotient}
 use Rattle.num_integer.specs.Range.{EachFits, IsRange}
 use Rattle.cellarcove_c.specs.Quotients.{AreFloored, QuotientsFit}
@@ -28,14 +28,14 @@ floored_by_negative_range equation to_zero above = grind (arith, sizes)
 -- by minus d, of a number that is not positive
 quotient_to_zero : (n d : ℕ) → 0 < d → IsQuotient IsFloored (neg_ℤ (pos n)) (neg_ℤ (pos d)) (pos (n / d))
 quotient_to_zero n d up =
-    let equation : neg_ℤ (pos n) ≡ pos (n / d) *ℤ neg_ℤ (pos d) +ℤ neg_ℤ (pos (n % d)) = rw (mul-neg (pos (n / d)) (pos d)) (omega (arith, ints)) in
+    let equation : neg_ℤ (pos n) ≡ pos (n / d) *ℤ neg_ℤ (pos d) +ℤ neg_ℤ (pos (n % d)) = rw (mul_neg (pos (n / d)) (pos d)) (omega (arith, ints)) in
     record { remainder = neg_ℤ (pos (n % d)); division = floored_by_negative_range equation (omega (arith, ints)) (omega (arith, ints, mod_below n d up)) }
 
 -- by minus d, of a positive number
 quotient_of_positive : (n d : ℕ) → 0 < d → IsQuotient IsFloored (pos (suc n)) (neg_ℤ (pos d)) (negsuc (n / d))
 quotient_of_positive n d up =
     let rest = mod_below n d up in
-    let equation : pos (suc n) ≡ negsuc (n / d) *ℤ neg_ℤ (pos d) +ℤ (pos (suc (n % d)) -ℤ pos d) = rw (mul-neg (negsuc (n / d)) (pos d)) (omega (arith, ints)) in
+    let equation : pos (suc n) ≡ negsuc (n / d) *ℤ neg_ℤ (pos d) +ℤ (pos (suc (n % d)) -ℤ pos d) = rw (mul_neg (negsuc (n / d)) (pos d)) (omega (arith, ints)) in
     record { remainder = pos (suc (n % d)) -ℤ pos d; division = floored_by_negative_range equation (omega (arith, ints, rest)) (omega (arith, ints)) }
 
 -- the quotient of a number that is complemented before and after it if it is negative

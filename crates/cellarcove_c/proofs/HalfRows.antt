@@ -1,5 +1,5 @@
 -- Rows of Pascal's triangle one after the other, each up to its middle.
-use Rattle.cellarcove_c.proofs.Common.{◌≡◌, ◌+◌, ◌-◌, ◌*◌, ◌/◌, ◌<◌, ◌≤◌, ℕ, zero, suc, min, List, [], ◌∷◌, ◌++◌, length, take, get_or, ◌∙◌, ap, arith, inl, inr, mul-le-mul, refl, cases_lt, get_or-append_right, get_or-take, get_or_append_left, length-take-le, coefficient, coefficient-zero, none_above, pascal, coefficient_mirror}
+use Rattle.cellarcove_c.proofs.Common.{◌≡◌, ◌+◌, ◌-◌, ◌*◌, ◌/◌, ◌<◌, ◌≤◌, ℕ, zero, suc, min, List, [], ◌∷◌, ◌++◌, length, take, get_or, ◌∙◌, ap, arith, inl, inr, mul-le-mul, refl, cases_lt, get_or-append_right, get_or-take, get_or_append_left, length-take-le, coefficient, coefficient_zero, none_above, pascal, coefficient_mirror}
 
 -- the sums of each two neighbours of a row, whose first number follows `before`
 unfoldable pub sums : ℕ → List ℕ → List ℕ
@@ -19,7 +19,7 @@ record IsRow (n : ℕ) (row : List ℕ) : Type 0 where
   items : (k : ℕ) → get_or row k 0 ≡ coefficient n k
 
 first_row : IsRow 0 (1 ∷ [])
-first_row = grind (arith, coefficient-zero, none_above)
+first_row = grind (arith, coefficient_zero, none_above)
 
 length-sums : (before : ℕ) (row : List ℕ) → length (sums before row) ≡ suc (length row)
 unfolding sums
@@ -38,7 +38,7 @@ sums-next before (c ∷ cs) zero = sums-first c cs
 sums-next before (c ∷ cs) (suc k) = sums-next c cs k
 
 next_items : (n : ℕ) (row : List ℕ) → IsRow n row → (k : ℕ) → get_or (sums 0 row) k 0 ≡ coefficient (suc n) k
-next_items n row is zero = omega (arith, sums-first 0 row, is.items 0, coefficient-zero n, coefficient-zero (suc n))
+next_items n row is zero = omega (arith, sums-first 0 row, is.items 0, coefficient_zero n, coefficient_zero (suc n))
 next_items n row is (suc k) = omega (arith, sums-next 0 row k, is.items k, is.items (suc k), pascal n k)
 
 -- ---- where it begins

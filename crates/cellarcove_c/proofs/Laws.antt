@@ -1,5 +1,5 @@
 -- The laws of specs/Laws.antt, a lemma each.
-use Rattle.cellarcove_c.proofs.Common.{◌≡◌, ◌≢◌, ◌⊎◌, ◌↔◌, ◌<◌, ◌≤◌, ◌+◌, ◌*◌, ◌<ℤ◌, ◌≤ℤ◌, ◌+ℤ◌, ◌-ℤ◌, ℕ, ℤ, zero, suc, pos, Bool, List, FitsSigned, IfSome, IsTrue, MatchOption, MatchResult, Option, Some, None, Ok, Err, Result, w64, ◌∙◌, ap, arith, inl, inr, mul-le-mul_right, refl, subst, sym, by_lt_z, ext_get_or, get_or, ints, Divides-difference, least_is_only, linear, sizes, small_multiple_is_zero, quotient_is_only, remainder_is_only, root_is_only, IsRemainder, IsTruncated, Divides, IsLeastCommonMultiple, IsLeastFrom, residue_class_is_only, MatchCommonSolution, IsResidueClass, SolvesBothCongruences, SolvesEach, HasParts, IsMonthsBetween, IsYearsBetween, Date, Weekday, same_month, date_of_parts_is_only, iso_number_is_only, text_is_only, IsBeyond, IsClassOfBoth, IsNever, IsNextOfSeveral, IsReasonOfCongruences, IsReasonOfSeveral, HasText, ReadsDate, HasDigits, bad_modulus, common_solution_of, no_solution, not_fitting, outside, FractionAnswer, answer_is_only, rounded_even_is_only, den_of, num_of, RatioError, Ratio}
+use Rattle.cellarcove_c.proofs.Common.{◌≡◌, ◌≢◌, ◌⊎◌, ◌↔◌, ◌<◌, ◌≤◌, ◌+◌, ◌*◌, ◌<ℤ◌, ◌≤ℤ◌, ◌+ℤ◌, ◌-ℤ◌, ℕ, ℤ, zero, suc, pos, Bool, List, FitsSigned, IfSome, IsTrue, MatchOption, MatchResult, Option, Some, None, Ok, Err, Result, w64, ◌∙◌, ap, arith, inl, inr, mul-le-mul_right, refl, subst, sym, by_lt_z, ext_get_or, get_or, ints, Divides_difference, least_is_only, linear, sizes, small_multiple_is_zero, quotient_is_only, remainder_is_only, root_is_only, IsRemainder, IsTruncated, Divides, IsLeastCommonMultiple, IsLeastFrom, residue_class_is_only, MatchCommonSolution, IsResidueClass, SolvesBothCongruences, SolvesEach, HasParts, IsMonthsBetween, IsYearsBetween, Date, Weekday, same_month, date_of_parts_is_only, iso_number_is_only, text_is_only, IsBeyond, IsClassOfBoth, IsNever, IsNextOfSeveral, IsReasonOfCongruences, IsReasonOfSeveral, HasText, ReadsDate, HasDigits, bad_modulus, common_solution_of, no_solution, not_fitting, outside, FractionAnswer, answer_is_only, rounded_even_is_only, den_of, num_of, RatioError, Ratio}
 use Rattle.cellarcove_c.specs.Laws as law
 use Rattle.calendar.proofs.Laws.{months_between_is_only as whole_months_are_only, years_between_is_only as whole_years_are_only}
 use Rattle.cellarcove_c.specs.declared.dates.Date.{Date as Parts}
@@ -102,7 +102,7 @@ fewest_pages_is_only items page_size a b h k = let most = h.fewest b k.enough in
 
 pub padding_is_only : law.PaddingIsOnly
 padding_is_only offset alignment a b h k =
-    let difference : Divides alignment ((offset +ℤ a) -ℤ (offset +ℤ b)) = Divides-difference h.aligned k.aligned in
+    let difference : Divides alignment ((offset +ℤ a) -ℤ (offset +ℤ b)) = Divides_difference h.aligned k.aligned in
     let none = small_multiple_is_zero difference (omega (arith, sizes, h.from_zero, h.below, k.from_zero, k.below)) in
     grind (arith, linear)
 

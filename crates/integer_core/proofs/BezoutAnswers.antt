@@ -1,6 +1,6 @@
 -- Bezout's coefficients: one pair alone is small, a row of the loop gives the answer, and each pair of numbers has one answer.
 use Rattle.integer_core.proofs.Common.{◌≡◌, ◌≢◌, ◌<◌, ◌*ℤ◌, ◌⊎◌, ◌≤◌, ◌+◌, ◌*◌, ◌-ℤ◌, IsBezoutAnswer, IsSmallPair, NeedsBoth, SecondDividesFirst, sign, FirstDividesSecond, ℤ, pos, unsigned_abs, arith, inl, inr, sym, ◌∙◌, ap, zero-*ℤ, *ℤ-zero, +ℤ_idl, +ℤ_idr, ints, unsigned_abs-mul, abs_is, linear, products, expand, comm, Divides, IsGreatestCommonDivisor, IsOnly, refl, mul-le-mul_left, eq_of_mul-eq-mul_left, lt_of_mul-lt-mul_right, cases_lt}
-use Rattle.integer_core.proofs.Divisibility.{Divides-zero, cancel, divides_decided, divides_or_not, only_gcd, gcd-divisor, gcd-swap, gcd-nonzero, gcd-zero, small_multiple, zero_or_not, mul-one}
+use Rattle.integer_core.proofs.Divisibility.{Divides_zero, cancel, divides_decided, divides_or_not, only_gcd, gcd_divisor, gcd_swap, gcd_nonzero, gcd_zero, small_multiple, zero_or_not, mul-one}
 use Rattle.integer_core.proofs.Rows.{rows_first, last_rows, last_gcd, last_at_once, last_after_iterations}
 
 small_pair_swapped : {a b g x y : ℤ} → IsSmallPair a b g x y → IsSmallPair b a g y x
@@ -65,7 +65,7 @@ small_signed {r = r} {x = x} {y = y} h = grind (arith, expand, linear, sign_keep
 -- a small pair leaves out the operand that the other divides
 small_alone : {a b g x y : ℤ} → IsGreatestCommonDivisor a b g → Divides a b → a ≢ pos 0 → IsSmallPair a b g x y → (x ≡ sign a) × (y ≡ pos 0)
 small_alone {a} {b} {g} {x} {y} greatest divides nonzero h =
-    let is : g ≡ pos (unsigned_abs a) = only_gcd greatest (gcd-swap (gcd-divisor divides)) in
+    let is : g ≡ pos (unsigned_abs a) = only_gcd greatest (gcd_swap (gcd_divisor divides)) in
     let none = small_multiple y a (omega (arith, linear, abs_is, unsigned_abs-mul y a, rw is at h.y_small)) in
     let size : x *ℤ a ≡ pos (unsigned_abs a) = omega (arith, products, rw (none, is) at h.equation) in
     (cancel a x (sign a) nonzero (comm a x ∙ size ∙ sym (sign_size a) ∙ comm (sign a) a), none)
@@ -75,7 +75,7 @@ small_alone {a} {b} {g} {x} {y} greatest divides nonzero h =
 -- if b is 0
 pub answer_for_zero : {a b : ℤ} → b ≡ pos 0 → IsBezoutAnswer a b (sign a *ℤ a) (sign a *ℤ pos 1) (sign a *ℤ pos 0)
 answer_for_zero {a} {b} none = record {
-  greatest = rw (sign_size a, none) (gcd-zero a);
+  greatest = rw (sign_size a, none) (gcd_zero a);
   equation = simp (mul-one, *ℤ-zero, zero-*ℤ, +ℤ_idr);
   second_divides = λ second. absurd (second.nonzero none);
   first_divides = λ _. λ _. (mul-one (sign a), *ℤ-zero (sign a));
@@ -100,7 +100,7 @@ answer_of_loop {a} {b} {r} nonzero greatest at_once after_iterations =
       first_divides = λ not_second. elim [
         | inl none ↦ absurd (nonzero none)
         | inr divides ↦
-            let of_zero = λ (none : a ≡ pos 0). not_second (record { nonzero = nonzero; divides = rw none (Divides-zero b) }) in
+            let of_zero = λ (none : a ≡ pos 0). not_second (record { nonzero = nonzero; divides = rw none (Divides_zero b) }) in
             small_alone is divides of_zero (small not_second)
       ];
       both = λ needs. small needs.not_second;
@@ -110,7 +110,7 @@ answer_of_loop {a} {b} {r} nonzero greatest at_once after_iterations =
 pub only_answer : {a b g x y : ℤ} → IsBezoutAnswer a b g x y → NeedsBoth a b → IsOnly (λ (z, w). IsSmallPair a b g z w) (x, y)
 only_answer {b = b} h needs =
     let nonzero : b ≢ pos 0 = λ none. needs.not_first (inl none) in
-    only_small nonzero (gcd-nonzero h.greatest nonzero) (h.both needs)
+    only_small nonzero (gcd_nonzero h.greatest nonzero) (h.both needs)
 
 -- ---- a pair of numbers has exactly one Bezout answer
 

@@ -1,6 +1,6 @@
 -- The names of the libraries that the proofs cite, passed on from one place. Declares nothing.
 pub use Rattle.std.proofs.Common.{◌%◌, ◌*ℤ◌, ◌*◌, ◌+ℤ◌, ◌+◌, ◌-ℤ◌, ◌-◌, ◌/◌, ◌<ℤ◌, ◌<◌, ◌^◌, ◌∷◌, ◌↔◌, ◌≡◌, ◌≢◌, ◌≤ℤ◌, ◌≤◌, ◌⊎◌, ◌∙◌, Bool, FitsSigned, IsTrue, List, None, Option, Some, [], add-one, ap, arith, bit_and, bit_or, bit_xor, div-add-mod', div-le_self, div-lt_iff_lt-mul, div-mul-le_self, div-one, drop, false, get_or, inl, inr, int_div, int_rem, le-div_iff_mul-le, le-leb, le-mul_of_pos_right, le_of_mul-le-mul_right, le_refl, le_trans, leb-true, length, lt_of_le_of_lt, lt_of_mul-lt-mul_right, lt_of_not-le, map, max, min, mod-eq_of_lt, mul-div_cancel, mul-le-mul, mul-le-mul_left, mul-le-mul_right, mul-one, mul-pos, mul_assoc, mul_comm, nat_le, nat_lt, neg_ℤ, negsuc, not, one-mul, pos, pow-add, pow-suc, pow_mono, pow_pos, refl, reverse, rules, set, subst, suc, sum, sym, true, unsigned_abs, zero, zero-add, ℕ, ℤ}
-pub use Rattle.integer_core.proofs.Whole.{assoc, comm, dist, dist-left, expand, from_not_less, is_less, left_comm, linear, natural, neg-mul, products, sizes}
+pub use Rattle.integer_core.proofs.Whole.{assoc, comm, dist, dist_left, expand, from_not_less, is_less, left_comm, linear, natural, neg_mul, products, sizes}
 pub use Rattle.integer_core.specs.Bezout.{AreEuclidIterations, EuclidEnds, FirstDividesSecond, HasPair, IsBezoutAnswer, IsEuclidIteration, IsSmallPair, NeedsBoth, Remainders, SecondDividesFirst, sign}
 pub use Rattle.integer_core.specs.Division.{EachKind, HaveOppositeSigns, HaveSameSign, IsCeiled, IsDivision, IsFloored, IsMultiple, IsQuotient, IsRemainder, IsTruncated}
 pub use Rattle.integer_core.specs.Divisors.{Divides, GcdFits, IsGreatestCommonDivisor, IsLeastCommonMultiple}

@@ -1,7 +1,7 @@
 -- Greatest common divisors and least common multiples.
 use Rattle.std.specs.Prelude.{IfSome, IsSome, MatchOption}
-use Rattle.integer_core.proofs.Common.{None, Option, Some, Width, ℕ, rules, ◌≡◌, ◌≢◌, ◌⊎◌, ◌<◌, ◌≤ℤ◌, ◌*ℤ◌, ◌↔◌, ℤ, pos, unsigned_abs, int_div, arith, inl, inr, subst, sym, ints, unsigned_abs-mul, linear, sizes, products, comm, left_comm, dist-left, Divides, IsGreatestCommonDivisor, IsLeastCommonMultiple, GcdFits, IsRange, EachFits}
-pub use Rattle.integer_core.proofs.Divisibility.{Divides-trans, Divides-zero, Divides-antisym, magnitude_divides, divides_magnitude, Divides-sum, Divides-times, Divides-cancel, exact_quotient, divisor_size, only_gcd, gcd-swap, gcd-nonzero, gcd-positive, gcd-divisor, gcd-zero, gcd-remainder, zero_or_not, cancel, zero_divides, from_natural, to_natural, Divides-minus_one, divides_from_exact, exact_from_divides, mul-one}
+use Rattle.integer_core.proofs.Common.{None, Option, Some, Width, ℕ, rules, ◌≡◌, ◌≢◌, ◌⊎◌, ◌<◌, ◌≤ℤ◌, ◌*ℤ◌, ◌↔◌, ℤ, pos, unsigned_abs, int_div, arith, inl, inr, subst, sym, ints, unsigned_abs-mul, linear, sizes, products, comm, left_comm, dist_left, Divides, IsGreatestCommonDivisor, IsLeastCommonMultiple, GcdFits, IsRange, EachFits}
+pub use Rattle.integer_core.proofs.Divisibility.{Divides_trans, Divides_zero, Divides_antisym, magnitude_divides, divides_magnitude, Divides_sum, Divides_times, Divides_cancel, exact_quotient, divisor_size, only_gcd, gcd_swap, gcd_nonzero, gcd_positive, gcd_divisor, gcd_zero, gcd-remainder, zero_or_not, cancel, zero_divides, from_natural, to_natural, Divides-minus_one, divides_from_exact, exact_from_divides, mul-one}
 pub use Rattle.integer_core.proofs.Ranges.{within_fits, lcm_is_magnitude, magnitude_by_distance}
 use Rattle.integer_core.proofs.BezoutAnswers.{bezout_answer_exists}
 use Rattle.integer_core.specs.NativeRanges.{IsNative}
@@ -10,7 +10,7 @@ use Rattle.integer_core.specs.NativeRanges.{IsNative}
 
 -- two numbers have that of their magnitudes
 pub gcd-magnitudes : {a b m n g : ℤ} → m ≡ pos (unsigned_abs a) → n ≡ pos (unsigned_abs b) → IsGreatestCommonDivisor m n g → IsGreatestCommonDivisor a b g
-gcd-magnitudes e f x = let y = rw (e, f) at x in search (rules, Divides-trans, magnitude_divides, divides_magnitude, y.greatest)
+gcd-magnitudes e f x = let y = rw (e, f) at x in search (rules, Divides_trans, magnitude_divides, divides_magnitude, y.greatest)
 
 pub gcd_exists : (a b : ℤ) → (g : ℤ) × IsGreatestCommonDivisor a b g
 gcd_exists a b = let h = bezout_answer_exists a b in (h.0, h.3.greatest)
@@ -19,43 +19,43 @@ gcd_exists a b = let h = bezout_answer_exists a b in (h.0, h.3.greatest)
 pub divides_multiple : {d a b g : ℤ} (k : ℤ) → IsGreatestCommonDivisor a b g → Divides d (k *ℤ a) → Divides d (k *ℤ b) → Divides d (k *ℤ g)
 divides_multiple {a = a} {b = b} k x h m =
     let sum = bezout_answer_exists a b in
-    rw (only_gcd x sum.3.greatest, ← sum.3.equation, dist-left, left_comm k sum.1 a, left_comm k sum.2 b) (Divides-sum sum.1 sum.2 h m)
+    rw (only_gcd x sum.3.greatest, ← sum.3.equation, dist_left, left_comm k sum.1 a, left_comm k sum.2 b) (Divides_sum sum.1 sum.2 h m)
 
 -- a common factor comes out
-pub gcd-times : {a b g : ℤ} (k : ℤ) → pos 0 ≤ℤ k → IsGreatestCommonDivisor a b g → IsGreatestCommonDivisor (k *ℤ a) (k *ℤ b) (k *ℤ g)
-gcd-times {g = g} k up x = let from_zero : pos 0 ≤ℤ (k *ℤ g) = grind (arith, products) in search (rules, Divides-times, divides_multiple)
+pub gcd_times : {a b g : ℤ} (k : ℤ) → pos 0 ≤ℤ k → IsGreatestCommonDivisor a b g → IsGreatestCommonDivisor (k *ℤ a) (k *ℤ b) (k *ℤ g)
+gcd_times {g = g} k up x = let from_zero : pos 0 ≤ℤ (k *ℤ g) = grind (arith, products) in search (rules, Divides_times, divides_multiple)
 
 -- ---- least common multiples
 
 -- the only one
 pub only_lcm : {a b l m : ℤ} → IsLeastCommonMultiple a b l → IsLeastCommonMultiple a b m → l ≡ m
-only_lcm x y = Divides-antisym x.from_zero y.from_zero (x.least _ y.left_divides y.right_divides) (y.least _ x.left_divides x.right_divides)
+only_lcm x y = Divides_antisym x.from_zero y.from_zero (x.least _ y.left_divides y.right_divides) (y.least _ x.left_divides x.right_divides)
 
 pub lcm_is_symmetric : (a b l : ℤ) → IsLeastCommonMultiple a b l → IsLeastCommonMultiple b a l
 lcm_is_symmetric a b l x = record { from_zero = x.from_zero; left_divides = x.right_divides; right_divides = x.left_divides; least = λ m h k. x.least m k h }
 
 -- the lcm with 0 is 0
-pub lcm-zero : {a b : ℤ} → (a ≡ pos 0) ⊎ (b ≡ pos 0) → IsLeastCommonMultiple a b (pos 0)
-lcm-zero with_zero = grind (arith, ints, Divides-zero)
+pub lcm_zero : {a b : ℤ} → (a ≡ pos 0) ⊎ (b ≡ pos 0) → IsLeastCommonMultiple a b (pos 0)
+lcm_zero with_zero = grind (arith, ints, Divides_zero)
 
 -- a number that times the gcd is the magnitude of the product is the lcm
 pub lcm-product : {a b g l : ℤ} → IsGreatestCommonDivisor a b g → b ≢ pos 0 → pos (unsigned_abs (a *ℤ b)) ≡ g *ℤ l → IsLeastCommonMultiple a b l
 lcm-product {a} {b} {g} {l} x b_nonzero e =
-    let nonzero = gcd-nonzero x b_nonzero in
+    let nonzero = gcd_nonzero x b_nonzero in
     record {
       from_zero = grind (arith, products);
-      left_divides = Divides-cancel g nonzero (rw (← e, comm g a) (Divides-trans (Divides-times a x.divides_right) (divides_magnitude _)));
-      right_divides = Divides-cancel g nonzero (rw (← e, comm g b, comm a b) (Divides-trans (Divides-times b x.divides_left) (divides_magnitude _)));
+      left_divides = Divides_cancel g nonzero (rw (← e, comm g a) (Divides_trans (Divides_times a x.divides_right) (divides_magnitude _)));
+      right_divides = Divides_cancel g nonzero (rw (← e, comm g b, comm a b) (Divides_trans (Divides_times b x.divides_left) (divides_magnitude _)));
       least = λ u h k.
-          let multiple = divides_multiple {d = a *ℤ b} u x (rw (comm u a) (Divides-times a k)) (rw (comm u b, comm a b) (Divides-times b h)) in
-          Divides-cancel g nonzero (rw (← e, comm g u) (Divides-trans (magnitude_divides _) multiple));
+          let multiple = divides_multiple {d = a *ℤ b} u x (rw (comm u a) (Divides_times a k)) (rw (comm u b, comm a b) (Divides_times b h)) in
+          Divides_cancel g nonzero (rw (← e, comm g u) (Divides_trans (magnitude_divides _) multiple));
     }
 
 -- computed on the magnitudes by a quotient
 pub lcm-computed : {a b m n g q l : ℤ} → m ≡ pos (unsigned_abs a) → n ≡ pos (unsigned_abs b) → b ≢ pos 0 → IsGreatestCommonDivisor m n g
     → q ≡ int_div n g → l ≡ m *ℤ q → IsLeastCommonMultiple a b l
 lcm-computed {a} {b} {m} {n} {g} {q} e f nonzero x u v =
-    let exact : n ≡ g *ℤ q = rw u (exact_quotient (gcd-nonzero x (omega (arith, sizes))) x.divides_right) in
+    let exact : n ≡ g *ℤ q = rw u (exact_quotient (gcd_nonzero x (omega (arith, sizes))) x.divides_right) in
     lcm-product (gcd-magnitudes e f x) nonzero (rw (unsigned_abs-mul a b, v, left_comm g m q, ← exact, e, f))
 
 -- of two numbers from 0 up
@@ -64,7 +64,7 @@ lcm-of-sizes a_up b_up b_positive x u v = lcm-computed (omega (arith, sizes, a_u
 
 -- two numbers have that of their magnitudes
 pub lcm-magnitudes : {a b m n l : ℤ} → m ≡ pos (unsigned_abs a) → n ≡ pos (unsigned_abs b) → IsLeastCommonMultiple m n l → IsLeastCommonMultiple a b l
-lcm-magnitudes e f x = let y = rw (e, f) at x in search (rules, Divides-trans, magnitude_divides, divides_magnitude, y.least)
+lcm-magnitudes e f x = let y = rw (e, f) at x in search (rules, Divides_trans, magnitude_divides, divides_magnitude, y.least)
 
 -- a product that fits or not, and is the lcm, says whether the lcm fits
 pub lcm_told : {A : Type 0} (value : A → ℤ) (fits : ℤ → Type 0) {a b l : ℤ} (r : Option A) → IsLeastCommonMultiple a b l
@@ -91,18 +91,18 @@ module _ {A : Type 0} (value : A → ℤ) {w : Width} {number : ℕ → ℤ} {fi
 -- every pair has one, and times the gcd it is the magnitude of the product
 lcm_of_gcd : {a b g : ℤ} → IsGreatestCommonDivisor a b g → (l : ℤ) × IsLeastCommonMultiple a b l × (g *ℤ l ≡ pos (unsigned_abs (a *ℤ b)))
 lcm_of_gcd {a} {b} {g} x = elim (zero_or_not b) [
-  | inl none ↦ (pos 0, lcm-zero (inr none), rw none (omega (arith, products, sizes)))
+  | inl none ↦ (pos 0, lcm_zero (inr none), rw none (omega (arith, products, sizes)))
   | inr nonzero ↦
-      let multiple = Divides-trans (record { factor = a; product = comm a b }) (divides_magnitude (a *ℤ b)) in
-      let exact = Divides-trans x.divides_right multiple in
+      let multiple = Divides_trans (record { factor = a; product = comm a b }) (divides_magnitude (a *ℤ b)) in
+      let exact = Divides_trans x.divides_right multiple in
       (exact.factor, lcm-product x nonzero exact.product, sym exact.product)
 ]
 
 pub lcm_exists : (a b : ℤ) → (l : ℤ) × IsLeastCommonMultiple a b l
 lcm_exists a b = let h = lcm_of_gcd (gcd_exists a b).1 in (h.0, h.1)
 
-pub gcd-mul-lcm : {a b g l : ℤ} → IsGreatestCommonDivisor a b g → IsLeastCommonMultiple a b l → g *ℤ l ≡ pos (unsigned_abs (a *ℤ b))
-gcd-mul-lcm x y = let lcm = lcm_of_gcd x in rw (only_lcm y lcm.1) lcm.2
+pub gcd_mul_lcm : {a b g l : ℤ} → IsGreatestCommonDivisor a b g → IsLeastCommonMultiple a b l → g *ℤ l ≡ pos (unsigned_abs (a *ℤ b))
+gcd_mul_lcm x y = let lcm = lcm_of_gcd x in rw (only_lcm y lcm.1) lcm.2
 
 -- ---- when a greatest common divisor fits
 
@@ -110,7 +110,7 @@ module _ {fits : ℤ → Type 0} {low high : ℤ} (range : IsRange fits low high
   -- in a type without negative numbers each gcd fits
   unsigned_gcd_fits : {a b : ℤ} → low ≡ pos 0 → fits a → fits b → EachFits fits (IsGreatestCommonDivisor a b)
   unsigned_gcd_fits {a} {b} none a_fits b_fits g h = elim (zero_or_not b) [
-    | inl b_zero ↦ within_fits range a_fits (grind (arith, sizes, only_gcd (rw b_zero at h) (gcd-zero a), (range.between a).0 a_fits))
+    | inl b_zero ↦ within_fits range a_fits (grind (arith, sizes, only_gcd (rw b_zero at h) (gcd_zero a), (range.between a).0 a_fits))
     | inr nonzero ↦ within_fits range b_fits (grind (arith, sizes, divisor_size h.divides_right nonzero, (range.between b).0 b_fits))
   ]
 

@@ -1,6 +1,6 @@
 -- Iterations of Euclid's loop: what a division says of magnitudes, that each state has one iteration at most, and that the iterations are few.
 use Rattle.integer_core.proofs.Common.{◌≡◌, ◌≢◌, ◌⊎◌, ◌<◌, ◌≤◌, ◌+◌, ◌*◌, ◌^◌, ◌∷◌, AreEuclidIterations, IsEuclidIteration, Remainders, EuclidEnds, ℤ, ℕ, pos, zero, suc, unsigned_abs, arith, inl, inr, sym, ◌∙◌, ap, lt_of_not-le, unsigned_abs-mul, abs_is, linear, IsTruncated, Divides, IsOnly, List, [], length, subst, pow-succ', IsRun, RunHasIterations}
-use Rattle.integer_core.proofs.Divisibility.{Divides-trans, divides_magnitude, divides_from_exact, divides_remainder, divisor_size, one_divides, zero_or_not, only_truncated}
+use Rattle.integer_core.proofs.Divisibility.{Divides_trans, divides_magnitude, divides_from_exact, divides_remainder, divisor_size, one_divides, zero_or_not, only_truncated}
 use Rattle.integer_core.proofs.Runs.{only_iterations}
 use Rattle.integer_core.specs.Fibonacci.{fibonacci}
 
@@ -23,7 +23,7 @@ inexact h goes_on exact = goes_on (divides_from_exact h.division exact)
 pub not_one : {n d : ℤ} → ¬ (Divides d n) → d ≢ pos 0 → 2 ≤ unsigned_abs d
 not_one {n} {d} goes_on nonzero = lt_of_not-le (λ less.
     let one : unsigned_abs d ≡ 1 = omega (arith, linear, abs_is) in
-    goes_on (Divides-trans (rw one at (divides_magnitude d)) (one_divides n)))
+    goes_on (Divides_trans (rw one at (divides_magnitude d)) (one_divides n)))
 
 -- a larger multiple is at least twice as large
 pub twice : {d n : ℤ} → Divides d n → unsigned_abs d < unsigned_abs n → 2 * unsigned_abs d ≤ unsigned_abs n

@@ -2,7 +2,7 @@
 use Rattle.integer_core.proofs.Common.{◌≡◌, ◌≢◌, ◌≤ℤ◌, ◌<ℤ◌, ◌+ℤ◌, ◌-ℤ◌, ◌*ℤ◌, ℤ, pos, int_div, arith, subst, from_not_less, IsCeiled, IsDivision, IsFloored, IsMultiple, IsQuotient, IsRemainder, EachFits, IsRange, Divides, comm, expand, linear, products, sizes}
 use Rattle.integer_core.proofs.OrderedProducts.{multiples_apart}
 pub use Rattle.integer_core.proofs.Quotients.{only_floored, other_quotient_fits, truncated_is}
-use Rattle.integer_core.proofs.Coprimes.{Divides-difference, divisor_at_most}
+use Rattle.integer_core.proofs.Coprimes.{Divides_difference, divisor_at_most}
 
 -- the remainder of a floored division lies from 0 to below the divisor
 pub floored_range : {n d q r : ℤ} → pos 0 <ℤ d → IsFloored n d q r → (pos 0 ≤ℤ r) × (r <ℤ d)
@@ -47,7 +47,7 @@ next_multiple_least {n} {d} {m} up h =
       near.1,
       near.2,
       λ u above x. from_not_less (λ less.
-          omega (arith, linear, divisor_at_most {v = m -ℤ u} (omega (arith, linear)) (Divides-difference near.2 x))),
+          omega (arith, linear, divisor_at_most {v = m -ℤ u} (omega (arith, linear)) (Divides_difference near.2 x))),
     )
 
 -- if that multiple does not fit, no smallest multiple that is at least the number does

@@ -23,16 +23,16 @@ pub power_size : (k : ℤ) (n : ℕ) → unsigned_abs (int_pow k n) ≡ unsigned
 power_size (pos a) n = refl
 power_size (negsuc a) n = grind arith
 
-pub int_pow-zero : (x : ℤ) → int_pow x 0 ≡ pos 1
-int_pow-zero x = grind (arith, ints, int_pow, pow-zero)
+pub int_pow_zero : (x : ℤ) → int_pow x 0 ≡ pos 1
+int_pow_zero x = grind (arith, ints, int_pow, pow-zero)
 
-pub int_pow-suc : (x : ℤ) (n : ℕ) → int_pow x (suc n) ≡ x *ℤ int_pow x n
-int_pow-suc (pos a) n = ap pos (pow-succ' a n)
-int_pow-suc (negsuc a) n = grind (arith, pow-succ')
+pub int_pow_suc : (x : ℤ) (n : ℕ) → int_pow x (suc n) ≡ x *ℤ int_pow x n
+int_pow_suc (pos a) n = ap pos (pow-succ' a n)
+int_pow_suc (negsuc a) n = grind (arith, pow-succ')
 
 -- the power of degree 2h is that of the square
 pub power_of_square : (x : ℤ) (h : ℕ) → int_pow x (h + h) ≡ int_pow (x *ℤ x) h
-power_of_square x zero = int_pow-zero x ∙ sym (int_pow-zero (x *ℤ x))
+power_of_square x zero = int_pow_zero x ∙ sym (int_pow_zero (x *ℤ x))
 power_of_square x (suc h) =
     let e : suc h + suc h ≡ suc (suc (h + h)) = omega arith in
-    rw (e, int_pow-suc x (suc (h + h)), int_pow-suc x (h + h), power_of_square x h, int_pow-suc (x *ℤ x) h) (simp expand)
+    rw (e, int_pow_suc x (suc (h + h)), int_pow_suc x (h + h), power_of_square x h, int_pow_suc (x *ℤ x) h) (simp expand)

@@ -2,7 +2,7 @@
 use Rattle.integer_core.proofs.Common.{◌≡◌, ◌↔◌, ◌<◌, ◌≤◌, ◌+◌, ◌-◌, ◌*◌, ◌/◌, ◌%◌, ◌^◌, ◌≤ℤ◌, ◌<ℤ◌, ◌+ℤ◌, ◌*ℤ◌, ℤ, ℕ, pos, unsigned_abs, FitsUnsignedBits, arith, ap, ints, div-add-mod', div_below, le-div, mul-lt, mul-sub, mul-le-mul_left, div-le_self, dvd_of_mod-eq-zero, mod-eq-zero_of_dvd, IsFloored, IsQuotient, IsRemainder, EachFits, Divides, IsLeastCommonMultiple, suc, IsCeiled, linear}
 use Rattle.integer_core.proofs.Divisibility.{from_natural, to_natural}
 use Rattle.integer_core.proofs.FlooredByPositive.{floored_by_range, ceiled_remainder_range, floored_range, only_floored}
-use Rattle.integer_core.proofs.DivisorSizes.{divisor_at_most, lcm-positive}
+use Rattle.integer_core.proofs.DivisorSizes.{divisor_at_most, lcm_positive}
 
 -- the quotient and the remainder of natural numbers are floored
 pub natural_division : (n d : ℕ) → 0 < d → IsFloored (pos n) (pos d) (pos (n / d)) (pos (n % d))
@@ -32,7 +32,7 @@ divides_is_natural up = (λ h. mod-eq-zero_of_dvd _ (to_natural h), λ e. from_n
 pub least_turns : {a b l : ℕ} → 0 < a → 0 < b → IsLeastCommonMultiple (pos a) (pos b) (pos l)
     → (0 < l / a) × (l / a * a ≡ l / b * b) × ((x y : ℕ) → 0 < x → x * a ≡ y * b → (l / a ≤ x) × (l / b ≤ y))
 least_turns {a} {b} {l} a_up b_up h =
-    let most : pos a ≤ℤ pos l = divisor_at_most (lcm-positive h (λ e. omega (arith, ints)) (λ e. omega (arith, ints))) h.left_divides in (
+    let most : pos a ≤ℤ pos l = divisor_at_most (lcm_positive h (λ e. omega (arith, ints)) (λ e. omega (arith, ints))) h.left_divides in (
       le-div 1 l a a_up (omega (arith, ints)),
       omega (arith, (divides_is_natural a_up).0 h.left_divides, (divides_is_natural b_up).0 h.right_divides),
       λ x y x_up e.

@@ -1,6 +1,6 @@
 -- The greatest common divisor of natural numbers, and of their odd parts.
 use Rattle.integer_core.proofs.Common.{dvd-add_iff_right, dvd-mul_left, ◌≡◌, ◌+◌, ◌-◌, ◌*◌, ◌/◌, ◌%◌, ◌^◌, ◌≤◌, ℤ, pos, unsigned_abs, ℕ, zero, suc, inl, inr, sym, ◌∙◌, ap, subst, arith, mul-one, mul_comm, mul_assoc, pow-suc, pow-add, min, div-add-mod', dvd-mul_right_of_dvd, cases_lt, ints, IsGcd-swap, dvd_of_mod-eq-zero, dvd_trans, mod-eq-zero_of_dvd, IsGcd, ◌∣◌, IsGreatestCommonDivisor}
-use Rattle.integer_core.proofs.CommonDivisors.{gcd-times, from_natural, to_natural}
+use Rattle.integer_core.proofs.CommonDivisors.{gcd_times, from_natural, to_natural}
 
 -- the gcd of integers is that of their magnitudes
 pub gcd_of_sizes : (a b : ℤ) {g : ℕ} → IsGcd (unsigned_abs a) (unsigned_abs b) g → IsGreatestCommonDivisor a b (pos g)
@@ -9,7 +9,7 @@ gcd_of_sizes a b h = grind (arith, ints, from_natural, unsigned_abs, to_natural)
 -- a common factor comes out
 natural_gcd_times : {a b g : ℕ} (k : ℕ) → IsGcd a b g → IsGcd (k * a) (k * b) (k * g)
 natural_gcd_times {a} {b} k h =
-    let x = gcd-times (pos k) (omega (arith, ints)) (gcd_of_sizes (pos a) (pos b) h) in
+    let x = gcd_times (pos k) (omega (arith, ints)) (gcd_of_sizes (pos a) (pos b) h) in
     (to_natural x.divides_left, to_natural x.divides_right, λ d p q. to_natural (x.greatest (pos d) (from_natural p) (from_natural q)))
 
 -- an odd number that divides twice a number divides the number

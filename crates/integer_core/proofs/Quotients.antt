@@ -1,5 +1,5 @@
 -- Quotients, remainders and multiples by their definition: they exist, they are the only ones, and when they fit.
-use Rattle.integer_core.proofs.Common.{◌≡◌, ◌≢◌, ◌⊎◌, ◌<◌, ◌≤◌, ◌+ℤ◌, ◌-ℤ◌, ◌*ℤ◌, ◌↔◌, quot-rem, rem_below, ℤ, pos, negsuc, neg_ℤ, unsigned_abs, int_div, int_rem, arith, ◌∙◌, inl, inr, subst, ints, unsigned_abs-mul, mul-le, mod-le, le-mul_of_pos_right, linear, sizes, products, expand, dist, neg-mul, IsDivision, IsTruncated, IsFloored, IsCeiled, IsQuotient, IsRemainder, EachKind, HaveSameSign, HaveOppositeSigns, IsRange, EachFits, IsMultiple, IsOnly}
+use Rattle.integer_core.proofs.Common.{◌≡◌, ◌≢◌, ◌⊎◌, ◌<◌, ◌≤◌, ◌+ℤ◌, ◌-ℤ◌, ◌*ℤ◌, ◌↔◌, quot-rem, rem_below, ℤ, pos, negsuc, neg_ℤ, unsigned_abs, int_div, int_rem, arith, ◌∙◌, inl, inr, subst, ints, unsigned_abs-mul, mul-le, mod-le, le-mul_of_pos_right, linear, sizes, products, expand, dist, neg_mul, IsDivision, IsTruncated, IsFloored, IsCeiled, IsQuotient, IsRemainder, EachKind, HaveSameSign, HaveOppositeSigns, IsRange, EachFits, IsMultiple, IsOnly}
 use Rattle.integer_core.proofs.Ranges.{LiesWithin, within_fits}
 
 pub zero_or_not : (z : ℤ) → (z ≡ pos 0) ⊎ (z ≢ pos 0)
@@ -13,7 +13,7 @@ small_multiple k d h = grind (arith, ints, unsigned_abs-mul k d, le-mul_of_pos_r
 
 only_one : {n d q r p s : ℤ} → IsDivision n d q r → IsDivision n d p s → unsigned_abs (s -ℤ r) < unsigned_abs d → (q ≡ p) × (r ≡ s)
 only_one {n} {d} {q} {r} {p} {s} h k near =
-    let gap : (q -ℤ p) *ℤ d ≡ s -ℤ r = simp (dist, neg-mul) (omega (arith, linear)) in
+    let gap : (q -ℤ p) *ℤ d ≡ s -ℤ r = simp (dist, neg_mul) (omega (arith, linear)) in
     let none = small_multiple (q -ℤ p) d (rw gap near) in
     omega (arith, products, rw none at gap)
 

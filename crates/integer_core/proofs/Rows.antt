@@ -1,6 +1,6 @@
 -- The rows of the extended Euclidean algorithm after some iterations of its loop, how large their coefficients grow, and that they fit.
 use Rattle.integer_core.proofs.Common.{◌≡◌, ◌≢◌, ◌⊎◌, ◌<◌, ◌≤◌, ◌+◌, ◌+ℤ◌, ◌-ℤ◌, ◌*ℤ◌, ◌*◌, ◌^◌, ◌≤ℤ◌, EuclidEnds, IsEuclidIteration, IsSmallPair, HasPair, sign, ℤ, ℕ, pos, zero, suc, unsigned_abs, arith, refl, inl, inr, ints, abs_is, linear, expand, IsTruncated, Divides, IsGreatestCommonDivisor, ap, mul-le-mul_left, unsigned_abs-mul, products, negsuc, ◌∙◌, zero-*ℤ, +ℤ_idr, IsRange}
-use Rattle.integer_core.proofs.Divisibility.{rest_is, divides_or_not, divisor_size, gcd-divisor, gcd-remainder, truncated_is, zero_or_not, small_multiple}
+use Rattle.integer_core.proofs.Divisibility.{rest_is, divides_or_not, divisor_size, gcd_divisor, gcd-remainder, truncated_is, zero_or_not, small_multiple}
 use Rattle.integer_core.proofs.EuclidIterations.{inexact, truncated_size, twice, not_one, few_iterations}
 use Rattle.integer_core.proofs.Ranges.{no_minus_one}
 use Rattle.integer_core.proofs.Runs.{Reaches, reaches_first, reaches_iteration, reaches_last}
@@ -103,7 +103,7 @@ module _ {a b : ℤ} {current previous : Row} {t : ℕ} (h : Rows a b current pr
 
   -- at the end, when the current remainder divides the previous one
   pub last_gcd : Divides current.remainder previous.remainder → IsGreatestCommonDivisor a b (pos (unsigned_abs current.remainder))
-  last_gcd ends = h.greatest _ (gcd-divisor ends)
+  last_gcd ends = h.greatest _ (gcd_divisor ends)
 
   pub last_at_once : Divides b a → (current.remainder ≡ b) × (current.x ≡ pos 0) × (current.y ≡ pos 1)
   last_at_once divides = elim h.start [ inl first ↦ rw first.0 (refl, refl, refl) | inr later ↦ absurd (later.0 divides) ]

@@ -1,6 +1,6 @@
 -- Stein's method on the values of an unsigned type, and what its loops keep.
 use Rattle.integer_core.proofs.Common.{rules, ◌≡◌, ◌≢◌, ◌↔◌, ◌⊎◌, ◌≤ℤ◌, ◌%◌, ◌^◌, ◌<◌, ◌+◌, ◌∷◌, IsPowerOfTwo, AreWithinBits, IsCountedGcd, IsOddPart, MakesGcdRun, exchanged, GcdEnds, IsGcdIteration, IsOddGcd, IsOrderedIteration, OddPair, natural, ℤ, pos, unsigned_abs, IsGcd, ℕ, sym, subst, arith, inl, inr, abs_is, linear, eq-one_of_dvd-one, one-dvd, dvd_refl, le_of_dvd, IsGreatestCommonDivisor, List, [], map, ◌∙◌, IsRun, RunHasIterations}
-use Rattle.integer_core.proofs.CommonDivisors.{gcd-magnitudes, gcd-zero}
+use Rattle.integer_core.proofs.CommonDivisors.{gcd-magnitudes, gcd_zero}
 use Rattle.integer_core.proofs.NaturalGcd.{odd_divisor, odd_divides}
 use Rattle.std.proofs.lemmas.List.{length-map}
 use Rattle.integer_core.proofs.OddParts.{Turning, turning_ends, turning_small, turning_iteration, iterations_fit}
@@ -8,11 +8,11 @@ use Rattle.integer_core.proofs.Runs.{Reaches, reaches_instead, reaches_last, rea
 
 -- the gcd of a number and 0 is the number
 pub gcd_with_zero : {n : ℤ} → pos 0 ≤ℤ n → IsGreatestCommonDivisor n (pos 0) n
-gcd_with_zero {n} up = rw (← natural up) at (gcd-zero n)
+gcd_with_zero {n} up = rw (← natural up) at (gcd_zero n)
 
 -- a gcd with an odd number is positive
-pub gcd_positive : {m n g : ℕ} → m % 2 ≡ 1 → IsGcd m n g → 0 < g
-gcd_positive {m} {n} {g} odd h = let o = odd_divisor g m h.0 odd in omega arith
+pub odd_gcd_positive : {m n g : ℕ} → m % 2 ≡ 1 → IsGcd m n g → 0 < g
+odd_gcd_positive {m} {n} {g} odd h = let o = odd_divisor g m h.0 odd in omega arith
 
 -- a gcd fits if one of the two numbers does
 pub gcd_fits : {fits : ℤ → Type 0} {a : ℤ} {b g : ℕ} → ((y : ℤ) → pos 0 ≤ℤ y → y ≤ℤ a → fits y) → pos 0 ≤ℤ a → 0 < unsigned_abs a

@@ -45,19 +45,19 @@ left_comm a b c = same_in _ _ (simp (up-mul, down-mul) (omega arith))
 pub dist : (a b c : ℤ) → (a +ℤ b) *ℤ c ≡ a *ℤ c +ℤ b *ℤ c
 dist a b c = let sum = sum_is_lem a b in omega (arith, products, ap (λ t. t * up c) sum, ap (λ t. t * down c) sum)
 
-pub dist-left : (a b c : ℤ) → a *ℤ (b +ℤ c) ≡ a *ℤ b +ℤ a *ℤ c
-dist-left a b c = rw (comm a (b +ℤ c), dist b c a, comm b a, comm c a)
+pub dist_left : (a b c : ℤ) → a *ℤ (b +ℤ c) ≡ a *ℤ b +ℤ a *ℤ c
+dist_left a b c = rw (comm a (b +ℤ c), dist b c a, comm b a, comm c a)
 
 -- a negated first factor negates the product
-pub neg-mul : (a b : ℤ) → neg_ℤ a *ℤ b ≡ neg_ℤ (a *ℤ b)
-neg-mul a b = grind (arith, products)
+pub neg_mul : (a b : ℤ) → neg_ℤ a *ℤ b ≡ neg_ℤ (a *ℤ b)
+neg_mul a b = grind (arith, products)
 
 -- a negated second factor negates the product
-pub mul-neg : (a b : ℤ) → a *ℤ neg_ℤ b ≡ neg_ℤ (a *ℤ b)
-mul-neg a b = grind (arith, products)
+pub mul_neg : (a b : ℤ) → a *ℤ neg_ℤ b ≡ neg_ℤ (a *ℤ b)
+mul_neg a b = grind (arith, products)
 
 -- multiplied out, for `simp`
-pub ruleset expand = (dist, dist-left, neg-mul, mul-neg, assoc, comm, left_comm)
+pub ruleset expand = (dist, dist_left, neg_mul, mul_neg, assoc, comm, left_comm)
 
 -- a product of two positive numbers
 pub product_positive : (a b : ℤ) → pos 0 <ℤ a → pos 0 <ℤ b → pos 0 <ℤ (a *ℤ b)

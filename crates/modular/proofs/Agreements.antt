@@ -1,7 +1,7 @@
 -- Several congruences: if every two of them agree, they have a common solution, and all their solutions are congruent.
-use Rattle.modular.proofs.Common.{◌≡◌, ◌<◌, ◌≤◌, ◌+◌, ◌≤ℤ◌, ◌<ℤ◌, ◌+ℤ◌, ◌-ℤ◌, ◌*ℤ◌, ◌∷◌, ◌∙◌, ℤ, ℕ, pos, neg_ℤ, unsigned_abs, List, [], length, Option, Some, None, MatchOption, All, arith, ap, get_or, refl, subst, sym, take, All-cons, All-head, All-nil, All-tail, FitsWith, IsRange, Divides, IsGreatestCommonDivisor, IsLeastCommonMultiple, IsLeastFrom, Divides-cancel, Divides-sum, Divides-times, Divides-trans, comm, expand, gcd-nonzero, lcm-positive, linear, only_gcd, products, sizes, bezout_answer_exists, gcd_exists, gcd_times_lcm, lcm_exists, CommonSolution, Never, Beyond, At, MatchCommonSolution, Agree, AgreeInPairs, AgreesWithEach, AreCongruent, IsNextCongruent, IsResidueClass, IsSystem, SolvesBothCongruences, SolvesEach, divides_multiple, magnitude_divides}
+use Rattle.modular.proofs.Common.{◌≡◌, ◌<◌, ◌≤◌, ◌+◌, ◌≤ℤ◌, ◌<ℤ◌, ◌+ℤ◌, ◌-ℤ◌, ◌*ℤ◌, ◌∷◌, ◌∙◌, ℤ, ℕ, pos, neg_ℤ, unsigned_abs, List, [], length, Option, Some, None, MatchOption, All, arith, ap, get_or, refl, subst, sym, take, All-cons, All-head, All-nil, All-tail, FitsWith, IsRange, Divides, IsGreatestCommonDivisor, IsLeastCommonMultiple, IsLeastFrom, Divides_cancel, Divides_sum, Divides_times, Divides_trans, comm, expand, gcd_nonzero, lcm_positive, linear, only_gcd, products, sizes, bezout_answer_exists, gcd_exists, gcd_times_lcm, lcm_exists, CommonSolution, Never, Beyond, At, MatchCommonSolution, Agree, AgreeInPairs, AgreesWithEach, AreCongruent, IsNextCongruent, IsResidueClass, IsSystem, SolvesBothCongruences, SolvesEach, divides_multiple, magnitude_divides}
 use Rattle.modular.proofs.ListedItems.{at_item, one_item_more}
-use Rattle.modular.proofs.Congruences.{congruent-divisor, congruent-refl, congruent-sym, congruent-trans, congruent_by, divides_product, residue_exists}
+use Rattle.modular.proofs.Congruences.{congruent_divisor, congruent_refl, congruent_sym, congruent_trans, congruent_by, divides_product, residue_exists}
 use Rattle.modular.proofs.NextCongruent.{next_congruent_is}
 
 -- ---- two congruences that agree
@@ -12,12 +12,12 @@ divides_of_gcds : {m n k l z c d g : ℤ} → pos 0 <ℤ n → IsGreatestCommonD
 divides_of_gcds {m} {n} {l = l} {z = z} n_up at_m at_n least by_m by_n g_l g_k =
     let bezout = bezout_answer_exists m n in
     let h = bezout.3.greatest in
-    let whole = Divides-trans (rw (gcd_times_lcm m n bezout.0 l h least) at (Divides-times bezout.0 g_l)) (magnitude_divides (m *ℤ n)) in
-    let at_left = Divides-trans (divides_multiple m at_n whole (divides_product h.divides_left g_k)) (Divides-times m by_n) in
-    let at_right = Divides-trans (divides_multiple n at_m (rw (comm m n) at whole) (divides_product h.divides_right g_k)) (Divides-times n by_m) in
+    let whole = Divides_trans (rw (gcd_times_lcm m n bezout.0 l h least) at (Divides_times bezout.0 g_l)) (magnitude_divides (m *ℤ n)) in
+    let at_left = Divides_trans (divides_multiple m at_n whole (divides_product h.divides_left g_k)) (Divides_times m by_n) in
+    let at_right = Divides_trans (divides_multiple n at_m (rw (comm m n) at whole) (divides_product h.divides_right g_k)) (Divides_times n by_m) in
     let split : bezout.1 *ℤ (m *ℤ z) +ℤ bezout.2 *ℤ (n *ℤ z) ≡ (bezout.1 *ℤ m +ℤ bezout.2 *ℤ n) *ℤ z = simp expand refl in
     let is = split ∙ ap (λ (t : ℤ). t *ℤ z) bezout.3.equation in
-    Divides-cancel bezout.0 (gcd-nonzero h (λ none. omega (arith, linear))) (rw is at (Divides-sum bezout.1 bezout.2 at_left at_right))
+    Divides_cancel bezout.0 (gcd_nonzero h (λ none. omega (arith, linear))) (rw is at (Divides_sum bezout.1 bezout.2 at_left at_right))
 
 -- Two congruences that agree have a common solution, and those that have one agree.
 pub solution_of_two : {a m b n : ℤ} → Agree a m b n → (x : ℤ) × SolvesBothCongruences a m b n x
@@ -31,7 +31,7 @@ solution_of_two {a} {m} {b} {n} h =
     (a -ℤ m *ℤ j, record { first = congruent_by (neg_ℤ j) (simp expand (omega (arith, linear))); second = congruent_by k (omega (arith, linear)) })
 
 pub solved_agree : {a m b n x : ℤ} → AreCongruent m x a → AreCongruent n x b → Agree a m b n
-solved_agree h k = record { congruent = λ g common. congruent-trans (congruent-sym (congruent-divisor common.divides_left h)) (congruent-divisor common.divides_right k) }
+solved_agree h k = record { congruent = λ g common. congruent_trans (congruent_sym (congruent_divisor common.divides_left h)) (congruent_divisor common.divides_right k) }
 
 -- numbers that are congruent modulo the gcd agree
 pub agree_at_gcd : {a m b n g : ℤ} → IsGreatestCommonDivisor m n g → AreCongruent g a b → Agree a m b n
@@ -43,8 +43,8 @@ merged_agree {m = m} {n = n} {k = k} n_up both least left right = record {
   congruent = λ g h.
       let at_m = gcd_exists m k in
       let at_n = gcd_exists n k in
-      let by_m = congruent-trans (congruent-divisor at_m.1.divides_left both.first) (left.congruent at_m.0 at_m.1) in
-      let by_n = congruent-trans (congruent-divisor at_n.1.divides_left both.second) (right.congruent at_n.0 at_n.1) in
+      let by_m = congruent_trans (congruent_divisor at_m.1.divides_left both.first) (left.congruent at_m.0 at_m.1) in
+      let by_n = congruent_trans (congruent_divisor at_n.1.divides_left both.second) (right.congruent at_n.0 at_n.1) in
       record { divides = divides_of_gcds n_up at_m.1 at_n.1 least by_m.divides by_n.divides h.divides_left h.divides_right };
 }
 
@@ -93,17 +93,17 @@ module _ {X : Type 0} (value : X → ℤ) where
       ((All-head (IsInRange fits) c cs whole.0, All-head IsPositive c cs whole.1), (All-tail (IsInRange fits) c cs whole.0, All-tail IsPositive c cs whole.1))
 
   pub common_with : (cs : List (X × X)) {a m : ℤ} → pos 0 <ℤ m → All IsPositive cs → AgreesWithEach value a m cs → AgreeInPairs value cs → (x : ℤ) × AreCongruent m x a × SolvesEach value cs x
-  common_with [] {a} {m} up positive agrees pairs = (a, congruent-refl a, All-nil (SolvesAt a))
+  common_with [] {a} {m} up positive agrees pairs = (a, congruent_refl a, All-nil (SolvesAt a))
   common_with (c ∷ cs) {a} {m} up positive agrees pairs =
       let c_up = All-head IsPositive c cs positive in
       let both = solution_of_two (All-head (AgreesAt a m) c cs agrees) in
       let least = lcm_exists m (value c.1) in
-      let l_up = lcm-positive least.1 (λ e. omega (arith, linear)) (λ e. omega (arith, linear)) in
+      let l_up = lcm_positive least.1 (λ e. omega (arith, linear)) (λ e. omega (arith, linear)) in
       let merged : AgreesWithEach value both.0 least.0 cs = λ k d within. merged_agree c_up both.1 least.1 (All-tail (AgreesAt a m) c cs agrees k d within) (pairs.0 k d within) in
       let rest = common_with cs {a = both.0} {m = least.0} l_up (All-tail IsPositive c cs positive) merged pairs.1 in (
         rest.0,
-        congruent-trans (congruent-divisor least.1.left_divides rest.1) both.1.first,
-        All-cons (SolvesAt rest.0) c cs (congruent-trans (congruent-divisor least.1.right_divides rest.1) both.1.second) rest.2,
+        congruent_trans (congruent_divisor least.1.left_divides rest.1) both.1.first,
+        All-cons (SolvesAt rest.0) c cs (congruent_trans (congruent_divisor least.1.right_divides rest.1) both.1.second) rest.2,
       )
 
   pub agreeing_have_solution : (cs : List (X × X)) → All IsPositive cs → AgreeInPairs value cs → (x : ℤ) × SolvesEach value cs x
@@ -134,9 +134,9 @@ module _ {X : Type 0} (value : X → ℤ) where
       let rest_up = rest.1.positive in (
         least.0,
         record {
-          positive = lcm-positive least.1 (λ e. omega (arith, linear)) (λ e. omega (arith, linear));
-          every = λ y h. record { divides = least.1.least _ (congruent-trans (All-head (SolvesAt y) c cs h) (congruent-sym here)).divides (rest.1.every y (All-tail (SolvesAt y) c cs h)).divides };
-          no_other = λ y h. All-cons (SolvesAt y) c cs (congruent-trans (congruent-divisor least.1.left_divides h) here) (rest.1.no_other y (congruent-divisor least.1.right_divides h));
+          positive = lcm_positive least.1 (λ e. omega (arith, linear)) (λ e. omega (arith, linear));
+          every = λ y h. record { divides = least.1.least _ (congruent_trans (All-head (SolvesAt y) c cs h) (congruent_sym here)).divides (rest.1.every y (All-tail (SolvesAt y) c cs h)).divides };
+          no_other = λ y h. All-cons (SolvesAt y) c cs (congruent_trans (congruent_divisor least.1.left_divides h) here) (rest.1.no_other y (congruent_divisor least.1.right_divides h));
         },
       )
 

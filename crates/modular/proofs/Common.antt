@@ -11,7 +11,7 @@ pub use Rattle.std.proofs.lemmas.Nat.{div-add-mod', div_below, leading_top, mod_
 pub use Rattle.std.proofs.lemmas.Nat.Bits.{bit_at-trailing_zeros}
 pub use Rattle.std.specs.Int.{int_pow, trailing_zeros, w64}
 pub use Rattle.std.specs.Int.Count.{count_leading_zeros}
-pub use Rattle.num_integer.proofs.ForCallers.{Divides-antisym, Divides-cancel, Divides-difference, Divides-refl, Divides-sum, Divides-times, Divides-trans, Divides-zero, LiesWithin, cancel, comm, coprime_divides, divides_multiple, exact_quotient, expand, factor_positive, floored_range, floored_remainder_range, from_not_less, gcd-nonzero, gcd-positive, gcd_with_positive_fits, greatest_is_only, int_pow_add, int_pow-suc, int_pow-zero, lcm-positive, least_is_only, linear, magnitude_divides, mul-neg, mul-one, multiples_apart, one_divides, only_gcd, operator_quotient_fits, positive_quotient_fits, power_of_square, product_from_zero, products, rest_is, shift_back, signed_is, sizes, small_multiple_is_zero, within_fits}
+pub use Rattle.num_integer.proofs.ForCallers.{Divides_antisym, Divides_cancel, Divides_difference, Divides_refl, Divides_sum, Divides_times, Divides_trans, Divides_zero, LiesWithin, cancel, comm, coprime_divides, divides_multiple, exact_quotient, expand, factor_positive, floored_range, floored_remainder_range, from_not_less, gcd_nonzero, gcd_positive, gcd_with_positive_fits, greatest_is_only, int_pow_add, int_pow_suc, int_pow_zero, lcm_positive, least_is_only, linear, magnitude_divides, mul_neg, mul-one, multiples_apart, one_divides, only_gcd, operator_quotient_fits, positive_quotient_fits, power_of_square, product_from_zero, products, rest_is, shift_back, signed_is, sizes, small_multiple_is_zero, within_fits}
 pub use Rattle.num_integer.proofs.Common.{All, Divides, EachFits, IsGreatestCommonDivisor, IsLeastCommonMultiple, IsOnly, IsRange, gcd-remainder, lcm-product, signed, signed-not}
 pub use Rattle.num_integer.proofs.FlooredProducts.{signed_product}
 pub use Rattle.num_integer.proofs.Laws.{bezout_answer_exists, division_exists, gcd_exists, gcd_times_lcm, lcm_exists}

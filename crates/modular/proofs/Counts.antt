@@ -1,20 +1,20 @@
 -- How many congruent numbers a range has.
 use Rattle.modular.proofs.Common.{◌≡◌, ◌≤ℤ◌, ◌<ℤ◌, ◌+ℤ◌, ◌-ℤ◌, ◌*ℤ◌, ◌∷◌, ◌∙◌, ℤ, ℕ, zero, suc, pos, Option, Some, None, IfSome, MatchOption, arith, inl, subst, by_lt_z, ints, expand, from_not_less, linear, product_from_zero, products, IsTimesToReach, IsCountFrom, AreCongruent, IsCountOfCongruent, IsNextCongruent, IsResidue, LiesWithin, negsuc}
 use Rattle.modular.proofs.CommonSolutions.{times_ordered}
-use Rattle.modular.proofs.Congruences.{congruent-sym, congruent-trans, congruent_by}
+use Rattle.modular.proofs.Congruences.{congruent_sym, congruent_trans, congruent_by}
 use Rattle.modular.proofs.NextCongruent.{next_within_step}
 
 -- a congruent number and a step
 step_further : {step t first : ℤ} → AreCongruent step t first → AreCongruent step (t +ℤ step) first
-step_further {step} {t} h = congruent-trans (congruent_by (pos 1) (omega (arith, products))) h
+step_further {step} {t} h = congruent_trans (congruent_by (pos 1) (omega (arith, products))) h
 
 -- the least number of steps that reaches `from` leads to the next congruent number
 pub next_by_times : {from start first step k : ℤ} → pos 0 <ℤ step → AreCongruent step first start → IsTimesToReach from start step k → IsNextCongruent from first step (start +ℤ step *ℤ k)
 next_by_times {from} {start} {first} {step} {k} up at_start h = record {
   from_there = h.from_there;
-  holds = congruent-trans (congruent_by k (omega (arith, linear))) (congruent-sym at_start);
+  holds = congruent_trans (congruent_by k (omega (arith, linear))) (congruent_sym at_start);
   least = λ u far near.
-      let times = (congruent-trans near at_start).divides in
+      let times = (congruent_trans near at_start).divides in
       let ordered = times_ordered {m = step} k times.factor up (h.least times.factor (omega (arith, linear))) in
       omega (arith, linear);
 }

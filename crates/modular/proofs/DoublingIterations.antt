@@ -1,6 +1,6 @@
 -- Iterations of the loop that doubles and adds.
 use Rattle.modular.proofs.Common.{◌≡◌, ◌≢◌, ◌⊎◌, ◌<◌, ◌≤ℤ◌, ◌<ℤ◌, ◌+ℤ◌, ◌*ℤ◌, ℤ, pos, unsigned_abs, arith, inl, inr, from_not_less, expand, linear, mul-one, products, sizes, within_fits, IsTruncated, IsRange, AreCongruent, IsResidue, LiesBelow}
-use Rattle.modular.proofs.Congruences.{congruent-product, congruent-refl, congruent-sum, congruent-trans, congruent_by}
+use Rattle.modular.proofs.Congruences.{congruent_product, congruent_refl, congruent_sum, congruent_trans, congruent_by}
 
 -- what is left to do: rest times the addend, on top of the total
 pub record Doubling (m x y total addend rest : ℤ) : Type 0 where
@@ -44,7 +44,7 @@ pub doubling_iteration : {m x y total addend rest half digit t a : ℤ} → Doub
     → IsResidue m (addend +ℤ addend) a → Doubling m x y t a half
 doubling_iteration {total = total} {addend = addend} {half = half} {digit = digit} h k below sum double =
     let split : total +ℤ addend *ℤ ((half +ℤ half) +ℤ digit) ≡ (total +ℤ addend *ℤ digit) +ℤ (addend +ℤ addend) *ℤ half = simp expand (omega (arith, linear)) in
-    let congruent = congruent-trans (rw (k.whole, split) at h.congruent) (congruent-sum sum (congruent-product double.congruent (congruent-refl half))) in
+    let congruent = congruent_trans (rw (k.whole, split) at h.congruent) (congruent_sum sum (congruent_product double.congruent (congruent_refl half))) in
     record { total_below = below; addend_below = double.below; rest_from_zero = k.half_from_zero; congruent = congruent }
 
 pub total_at_zero : {m digit : ℤ} (total addend : ℤ) → digit ≡ pos 0 → AreCongruent m (total +ℤ addend *ℤ digit) total
@@ -57,4 +57,4 @@ total_at_one {digit = digit} total addend is_digit other h = let one : digit ≡
 pub doubling_last : {m x y total addend rest r : ℤ} → Doubling m x y total addend rest → ¬ (pos 1 <ℤ rest) → rest ≢ pos 0 → IsResidue m (total +ℤ addend) r → IsResidue m (x *ℤ y) r
 doubling_last {total = total} {addend = addend} {rest = rest} h low other sum =
     let one : rest ≡ pos 1 = omega (arith, linear, h.rest_from_zero, from_not_less low) in
-    record { below = sum.below; congruent = congruent-trans h.congruent (total_at_one total addend (inr one) other sum.congruent) }
+    record { below = sum.below; congruent = congruent_trans h.congruent (total_at_one total addend (inr one) other sum.congruent) }

@@ -1,6 +1,6 @@
 -- Euclid's loop with the magnitudes of the coefficients of a, and what its last division says.
-use Rattle.modular.proofs.Common.{◌≡◌, ◌≢◌, ◌≤ℤ◌, ◌<ℤ◌, ◌+ℤ◌, ◌-ℤ◌, ◌*ℤ◌, ◌∙◌, ℤ, pos, neg_ℤ, Bool, false, not, arith, inl, refl, subst, IsTruncated, IsGreatestCommonDivisor, IsRange, Divides-refl, Divides-zero, expand, linear, product_from_zero, products, within_fits, AreCongruent, IsResidue, gcd-remainder, rest_is, signed, signed-not}
-use Rattle.modular.proofs.Congruences.{congruent-difference, congruent-gcd, congruent-product, congruent-refl, congruent-sym, congruent-trans, congruent_by, at_most_product}
+use Rattle.modular.proofs.Common.{◌≡◌, ◌≢◌, ◌≤ℤ◌, ◌<ℤ◌, ◌+ℤ◌, ◌-ℤ◌, ◌*ℤ◌, ◌∙◌, ℤ, pos, neg_ℤ, Bool, false, not, arith, inl, refl, subst, IsTruncated, IsGreatestCommonDivisor, IsRange, Divides_refl, Divides_zero, expand, linear, product_from_zero, products, within_fits, AreCongruent, IsResidue, gcd-remainder, rest_is, signed, signed-not}
+use Rattle.modular.proofs.Congruences.{congruent_difference, congruent_gcd, congruent_product, congruent_refl, congruent_sym, congruent_trans, congruent_by, at_most_product}
 
 -- ---- the numbers of the loop
 
@@ -22,9 +22,9 @@ first_division {m} {a} {x} {none} {one} up h none_is one_is = record {
   previous_size_from_zero = omega (arith, linear);
   size_from_zero = omega (arith, linear);
   whole = rw (none_is, one_is) (omega (arith, products));
-  gcd = λ g k. congruent-gcd h.congruent k;
+  gcd = λ g k. congruent_gcd h.congruent k;
   previous_is = rw none_is (congruent_by (pos 1) (omega (arith, products)));
-  current_is = let same : a ≡ pos 1 *ℤ (one *ℤ a) = rw one_is (omega (arith, products)) in subst (AreCongruent m x) same (congruent-sym h.congruent);
+  current_is = let same : a ≡ pos 1 *ℤ (one *ℤ a) = rw one_is (omega (arith, products)) in subst (AreCongruent m x) same (congruent_sym h.congruent);
 }
 
 -- ---- one division
@@ -64,7 +64,7 @@ module _ {m a p c u v q r s : ℤ} (h : EuclidDivision m a p c u v s) (nonzero :
 next_is : (s a u v q : ℤ) {m p c : ℤ} → AreCongruent m p (neg_ℤ s *ℤ (u *ℤ a)) → AreCongruent m c (s *ℤ (v *ℤ a)) → AreCongruent m (p -ℤ q *ℤ c) (neg_ℤ s *ℤ ((u +ℤ q *ℤ v) *ℤ a))
 next_is s a u v q h k =
     let spread : neg_ℤ s *ℤ (u *ℤ a) -ℤ q *ℤ (s *ℤ (v *ℤ a)) ≡ neg_ℤ s *ℤ ((u +ℤ q *ℤ v) *ℤ a) = simp expand (omega (arith, linear)) in
-    rw spread at (congruent-difference h (congruent-product (congruent-refl q) k))
+    rw spread at (congruent_difference h (congruent_product (congruent_refl q) k))
 
 pub next_division : {m a p c u v q r next : ℤ} (n : Bool) → EuclidDivision m a p c u v (signed n 1) → c ≢ pos 0 → IsTruncated p c q r → next ≡ u +ℤ q *ℤ v → EuclidDivision m a c r v next (signed (not n) 1)
 next_division {a = a} {u = u} {v = v} {q = q} n h nonzero division is =
@@ -84,10 +84,10 @@ next_division {a = a} {u = u} {v = v} {q = q} n h nonzero division is =
 
 pub last_gcd : {m a p c u v s : ℤ} → EuclidDivision m a p c u v s → c ≡ pos 0 → IsGreatestCommonDivisor a m p
 last_gcd {p = p} h none =
-    h.gcd p (rw none (record { from_zero = h.previous_from_zero; divides_left = Divides-refl p; divides_right = Divides-zero p; greatest = λ d left right. left }))
+    h.gcd p (rw none (record { from_zero = h.previous_from_zero; divides_left = Divides_refl p; divides_right = Divides_zero p; greatest = λ d left right. left }))
 
 -- a number that is the previous coefficient with its sign
 pub last_coefficient : {m a p c u v x z s : ℤ} → EuclidDivision m a p c u v s → IsResidue m z x → z ≡ neg_ℤ s *ℤ u → AreCongruent m (a *ℤ x) p
 last_coefficient {a = a} {u = u} {s = s} h at_z is =
     let order : a *ℤ (neg_ℤ s *ℤ u) ≡ neg_ℤ s *ℤ (u *ℤ a) = simp expand refl in
-    congruent-trans (congruent-product (congruent-refl a) (congruent-sym at_z.congruent)) (rw (is, order) (congruent-sym h.previous_is))
+    congruent_trans (congruent_product (congruent_refl a) (congruent_sym at_z.congruent)) (rw (is, order) (congruent_sym h.previous_is))

@@ -1,6 +1,6 @@
 -- Inverses modulo 2 ^ 64, by Newton's steps.
-use Rattle.modular.proofs.Common.{◌≡◌, ◌+◌, ◌-◌, ◌*◌, ◌/◌, ◌%◌, ◌^◌, ◌<◌, ◌≤◌, ◌-ℤ◌, ◌*ℤ◌, ◌∙◌, ℤ, ℕ, pos, arith, ap, inl, inr, sym, cases_lt, mod_below, pow-add, Divides, expand, products, AreCongruent, Divides-refl, Divides-trans, mod-eq_of_lt, linear}
-use Rattle.modular.proofs.Congruences.{congruent-difference, congruent-divisor, congruent-product, congruent-refl, congruent-sym, congruent-trans, congruent_by, divides_product}
+use Rattle.modular.proofs.Common.{◌≡◌, ◌+◌, ◌-◌, ◌*◌, ◌/◌, ◌%◌, ◌^◌, ◌<◌, ◌≤◌, ◌-ℤ◌, ◌*ℤ◌, ◌∙◌, ℤ, ℕ, pos, arith, ap, inl, inr, sym, cases_lt, mod_below, pow-add, Divides, expand, products, AreCongruent, Divides_refl, Divides_trans, mod-eq_of_lt, linear}
+use Rattle.modular.proofs.Congruences.{congruent_difference, congruent_divisor, congruent_product, congruent_refl, congruent_sym, congruent_trans, congruent_by, divides_product}
 use Rattle.modular.proofs.BelowModulus.{congruent-rest, natural_residue, congruent_is_natural}
 use Rattle.modular.proofs.WideProducts.{wrapped_difference}
 
@@ -21,8 +21,8 @@ square_apart y = simp expand (omega (arith, products))
 newton : (m x : ℤ) {d e next : ℤ} → Divides e (d *ℤ d) → AreCongruent d (m *ℤ x) (pos 1) → AreCongruent e next (x *ℤ (pos 2 -ℤ m *ℤ x)) → AreCongruent e (m *ℤ next) (pos 1)
 newton m x divides h step =
     let first : (m *ℤ x) *ℤ (pos 2 -ℤ m *ℤ x) ≡ m *ℤ (x *ℤ (pos 2 -ℤ m *ℤ x)) = simp expand (omega (arith, linear)) in
-    let near = rw (square_apart (m *ℤ x), first) at (Divides-trans divides (divides_product h.divides h.divides)) in
-    congruent-trans (congruent-product (congruent-refl m) step) (congruent-sym (record { divides = near }))
+    let near = rw (square_apart (m *ℤ x), first) at (Divides_trans divides (divides_product h.divides h.divides)) in
+    congruent_trans (congruent_product (congruent_refl m) step) (congruent_sym (record { divides = near }))
 
 -- a lower power of two divides 2 ^ 64
 pub low_divides : (k : ℕ) → k ≤ 64 → Divides (pos (2 ^ k)) (pos (2 ^ 64))
@@ -40,14 +40,14 @@ inverse_congruent m i up one = rw one at (natural_residue (m * i) up).congruent
 -- wrapping operations, modulo the word
 step_wrapped : (m x w : ℕ) → 0 < w → AreCongruent (pos w) (pos (x * ((2 + (w - m * x % w)) % w) % w)) (pos x *ℤ (pos 2 -ℤ pos m *ℤ pos x))
 step_wrapped m x w up =
-    let product = congruent-rest (m * x) up (congruent-refl (pos m *ℤ pos x)) in
-    let gap = congruent-trans (wrapped_difference 2 (omega (arith, mod_below (m * x) w up))) (congruent-difference (congruent-refl (pos 2)) product) in
+    let product = congruent-rest (m * x) up (congruent_refl (pos m *ℤ pos x)) in
+    let gap = congruent_trans (wrapped_difference 2 (omega (arith, mod_below (m * x) w up))) (congruent_difference (congruent_refl (pos 2)) product) in
     let factor = congruent-rest (2 + (w - m * x % w)) up gap in
-    congruent-rest (x * ((2 + (w - m * x % w)) % w)) up (congruent-product (congruent-refl (pos x)) factor)
+    congruent-rest (x * ((2 + (w - m * x % w)) % w)) up (congruent_product (congruent_refl (pos x)) factor)
 
 -- from the inverse modulo 2 ^ k to that modulo 2 ^ (k + k)
 pub inverse_doubled : (m x k : ℕ) → k ≤ 32 → AreCongruent (pos (2 ^ k)) (pos m *ℤ pos x) (pos 1)
     → AreCongruent (pos (2 ^ (k + k))) (pos m *ℤ pos (x * ((2 + (2 ^ 64 - m * x % 2 ^ 64)) % 2 ^ 64) % 2 ^ 64)) (pos 1)
 inverse_doubled m x k few h =
-    let square : Divides (pos (2 ^ (k + k))) (pos (2 ^ k) *ℤ pos (2 ^ k)) = rw pow-add (Divides-refl (pos (2 ^ k * 2 ^ k))) in
-    newton (pos m) (pos x) square h (congruent-divisor (low_divides (k + k) (omega arith)) (step_wrapped m x (2 ^ 64) (omega arith)))
+    let square : Divides (pos (2 ^ (k + k))) (pos (2 ^ k) *ℤ pos (2 ^ k)) = rw pow-add (Divides_refl (pos (2 ^ k * 2 ^ k))) in
+    newton (pos m) (pos x) square h (congruent_divisor (low_divides (k + k) (omega arith)) (step_wrapped m x (2 ^ 64) (omega arith)))

@@ -1,6 +1,6 @@
 -- The next congruent number and the previous one, and a number that fits the type or is beyond it.
 use Rattle.modular.proofs.Common.{◌≡◌, ◌≤ℤ◌, ◌<ℤ◌, ◌+ℤ◌, ◌-ℤ◌, ℤ, pos, neg_ℤ, Option, Some, None, MatchOption, arith, subst, sym, AnswersWhere, FitsWith, IfSome, LiesBelow, expand, linear, sizes, small_multiple_is_zero, AreCongruent, IsNextCongruent, IsPreviousCongruent, IsResidue, from_not_less}
-use Rattle.modular.proofs.Congruences.{congruent-sym, congruent-trans, congruent_by}
+use Rattle.modular.proofs.Congruences.{congruent_sym, congruent_trans, congruent_by}
 
 -- of two congruent numbers, one that is less than the modulus further is not the larger
 not_larger : {modulus from t u : ℤ} → AreCongruent modulus t u → from ≤ℤ u → t <ℤ (from +ℤ modulus) → t ≤ℤ u
@@ -8,7 +8,7 @@ not_larger h u_from t_below = from_not_less (λ less. let none = small_multiple_
 
 -- a number less than the modulus further is the next one
 pub next_within_step : {from residue modulus t : ℤ} → AreCongruent modulus t residue → from ≤ℤ t → t <ℤ (from +ℤ modulus) → IsNextCongruent from residue modulus t
-next_within_step near t_from t_below = record { from_there = t_from; holds = near; least = λ u u_from h. not_larger (congruent-trans near (congruent-sym h)) u_from t_below }
+next_within_step near t_from t_below = record { from_there = t_from; holds = near; least = λ u u_from h. not_larger (congruent_trans near (congruent_sym h)) u_from t_below }
 
 -- it comes after the residue of the difference
 pub next_congruent_is : {from residue modulus w : ℤ} → IsResidue modulus (residue -ℤ from) w → IsNextCongruent from residue modulus (from +ℤ w)
@@ -23,7 +23,7 @@ previous_congruent_is {to} {residue} {modulus} {w} wait =
     record {
       to_there = omega (arith, linear);
       holds = near;
-      greatest = λ u u_to h. not_larger {from = to -ℤ modulus +ℤ pos 1} (congruent-trans h (congruent-sym near)) (omega (arith, linear)) (omega (arith, linear));
+      greatest = λ u u_to h. not_larger {from = to -ℤ modulus +ℤ pos 1} (congruent_trans h (congruent_sym near)) (omega (arith, linear)) (omega (arith, linear));
     }
 
 -- a number with the property fits the type or is beyond it

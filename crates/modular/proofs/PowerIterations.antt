@@ -1,12 +1,12 @@
 -- Powers by squaring, modulo a number.
-use Rattle.modular.proofs.Common.{◌≡◌, ◌≢◌, ◌+◌, ◌*◌, ◌/◌, ◌%◌, ◌<◌, ◌≤◌, ◌^◌, ◌*ℤ◌, ◌∙◌, ℤ, ℕ, pos, zero, suc, int_pow, arith, refl, subst, mul-le-mul_right, one-le-pow, pow-le-pow_right, two-pow-succ, comm, expand, int_pow-suc, int_pow-zero, mul-one, power_of_square, AreCongruent, add-one, int_pow_add}
-use Rattle.modular.proofs.Congruences.{congruent-product, congruent-refl, congruent-trans}
+use Rattle.modular.proofs.Common.{◌≡◌, ◌≢◌, ◌+◌, ◌*◌, ◌/◌, ◌%◌, ◌<◌, ◌≤◌, ◌^◌, ◌*ℤ◌, ◌∙◌, ℤ, ℕ, pos, zero, suc, int_pow, arith, refl, subst, mul-le-mul_right, one-le-pow, pow-le-pow_right, two-pow-succ, comm, expand, int_pow_suc, int_pow_zero, mul-one, power_of_square, AreCongruent, add-one, int_pow_add}
+use Rattle.modular.proofs.Congruences.{congruent_product, congruent_refl, congruent_trans}
 
 -- ---- modulo a number
 
-pub congruent-power : {m u v : ℤ} (n : ℕ) → AreCongruent m u v → AreCongruent m (int_pow u n) (int_pow v n)
-congruent-power {u = u} {v = v} zero h = rw (int_pow-zero u, int_pow-zero v) (congruent-refl (pos 1))
-congruent-power {u = u} {v = v} (suc n) h = rw (int_pow-suc u n, int_pow-suc v n) (congruent-product h (congruent-power n h))
+pub congruent_power : {m u v : ℤ} (n : ℕ) → AreCongruent m u v → AreCongruent m (int_pow u n) (int_pow v n)
+congruent_power {u = u} {v = v} zero h = rw (int_pow_zero u, int_pow_zero v) (congruent_refl (pos 1))
+congruent_power {u = u} {v = v} (suc n) h = rw (int_pow_suc u n, int_pow_suc v n) (congruent_product h (congruent_power n h))
 
 -- what is left to do: the power of the square of degree rest, times the power so far
 pub record Powering (m a : ℤ) (e : ℕ) (power square : ℤ) (rest : ℕ) : Type 0 where
@@ -14,7 +14,7 @@ pub record Powering (m a : ℤ) (e : ℕ) (power square : ℤ) (rest : ℕ) : Ty
 
 pub powering_first : {m a one : ℤ} (e : ℕ) → AreCongruent m (pos 1) one → Powering m a e one a e
 powering_first {a = a} e first =
-    record { congruent = rw (comm (pos 1) (int_pow a e), mul-one (int_pow a e)) at (congruent-product first (congruent-refl (int_pow a e))) }
+    record { congruent = rw (comm (pos 1) (int_pow a e), mul-one (int_pow a e)) at (congruent_product first (congruent_refl (int_pow a e))) }
 
 -- by the last binary digit, and by the square to the power of the half
 by_last_digit : (power square : ℤ) (digit h : ℕ) → power *ℤ int_pow square (digit + (h + h)) ≡ (power *ℤ int_pow square digit) *ℤ int_pow (square *ℤ square) h
@@ -27,14 +27,14 @@ powering_iteration {m} {a} {power} {square} {e = e} {rest = rest} h product next
     let digits : rest ≡ rest % 2 + (rest / 2 + rest / 2) = omega arith in
     let whole = subst (λ (k : ℕ). AreCongruent m (int_pow a e) (power *ℤ int_pow square k)) digits h.congruent in
     let split = by_last_digit power square (rest % 2) (rest / 2) in
-    record { congruent = congruent-trans (rw split at whole) (congruent-product product (congruent-power (rest / 2) next)) }
+    record { congruent = congruent_trans (rw split at whole) (congruent_product product (congruent_power (rest / 2) next)) }
 
 -- the product at a digit
 pub times_at_one : {m r : ℤ} {digit : ℕ} (x y : ℤ) → digit ≡ 1 → AreCongruent m (x *ℤ y) r → AreCongruent m (x *ℤ int_pow y digit) r
-times_at_one x y one h = rw (one, int_pow-suc y 0, int_pow-zero y, mul-one y) h
+times_at_one x y one h = rw (one, int_pow_suc y 0, int_pow_zero y, mul-one y) h
 
 pub times_at_zero : {m : ℤ} {digit : ℕ} (x y : ℤ) → digit < 2 → digit ≢ 1 → AreCongruent m (x *ℤ int_pow y digit) x
-times_at_zero x y few other = grind (arith, int_pow-zero, mul-one, congruent-refl)
+times_at_zero x y few other = grind (arith, int_pow_zero, mul-one, congruent_refl)
 
 -- ---- the iterations
 

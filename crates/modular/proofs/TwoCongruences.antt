@@ -1,7 +1,7 @@
 -- Two congruences at once: where a class of solutions of one meets the other. The numbers are start + m·times, where start is a modulo m,
 -- and m·times solves the gap b - start modulo n.
 use Rattle.modular.proofs.Common.{◌≡◌, ◌≤ℤ◌, ◌<ℤ◌, ◌+ℤ◌, ◌-ℤ◌, ◌*ℤ◌, ◌∙◌, ℤ, pos, arith, ap, inl, refl, IsLeastCommonMultiple, IsLeastFrom, EachFits, IsRange, expand, linear, multiples_apart, product_from_zero, sizes, within_fits, AreCongruent, IsNextCommonSolution, IsReducedModulus, IsResidue, IsResidueClass, Solves, SolvesBothCongruences, LiesBelow, lcm-product, products}
-use Rattle.modular.proofs.Congruences.{congruent-difference, congruent-divisor, congruent-refl, congruent-sum, congruent-sym, congruent-trans, congruent_by}
+use Rattle.modular.proofs.Congruences.{congruent_difference, congruent_divisor, congruent_refl, congruent_sum, congruent_sym, congruent_trans, congruent_by}
 use Rattle.modular.proofs.BelowModulus.{below_fits}
 
 -- A modulus times the reduced one is the least common multiple.
@@ -16,15 +16,15 @@ pub both_by_gap : {a m b n start gap x : ℤ} (times : ℤ) → AreCongruent m a
 both_by_gap {b = b} {start = start} times at_start at_gap is h =
     let whole : start +ℤ (b -ℤ start) ≡ b = omega (arith, linear) in
     record {
-      first = congruent-trans (congruent_by times (omega (arith, linear))) (congruent-sym at_start);
-      second = rw is (rw whole at (congruent-sum (congruent-refl start) (congruent-trans h (congruent-sym at_gap))));
+      first = congruent_trans (congruent_by times (omega (arith, linear))) (congruent_sym at_start);
+      second = rw is (rw whole at (congruent_sum (congruent_refl start) (congruent_trans h (congruent_sym at_gap))));
     }
 
 -- a number that solves both is start + m·k, and m·k solves the gap
 pub gap_solved : {a m b n start gap x : ℤ} → IsResidue m a start → IsResidue n (b -ℤ start) gap → SolvesBothCongruences a m b n x → (k : ℤ) × (x -ℤ start ≡ m *ℤ k) × Solves m gap n k
 gap_solved {start = start} at_start at_gap h =
-    let times = (congruent-trans h.first at_start.congruent).divides in
-    let near = congruent-trans (congruent-difference h.second (congruent-refl start)) at_gap.congruent in
+    let times = (congruent_trans h.first at_start.congruent).divides in
+    let near = congruent_trans (congruent_difference h.second (congruent_refl start)) at_gap.congruent in
     (times.factor, times.product, rw times.product at near)
 
 -- if the gap has no solution, no number solves both
@@ -51,11 +51,11 @@ pub both_found : {a m b n start gap times s p x l : ℤ} → pos 0 <ℤ m → po
     → p ≡ m *ℤ times → x ≡ start +ℤ p → l ≡ m *ℤ s → IsResidueClass (SolvesBothCongruences a m b n) x l
 both_found {m = m} {n = n} {times = times} {l = l} m_up n_up at_start at_gap solutions step p_is x_is l_is =
     let least : IsLeastCommonMultiple m n l = rw l_is (lcm_by_reduced_modulus m_up n_up step) in
-    let both = both_by_gap times at_start.congruent at_gap.congruent (rw p_is at x_is) (solutions.no_other times (congruent-refl times)) in
+    let both = both_by_gap times at_start.congruent at_gap.congruent (rw p_is at x_is) (solutions.no_other times (congruent_refl times)) in
     record {
       below = rw (x_is, p_is, l_is) (first_is_below m_up at_start solutions.below).1;
-      every = λ z k. record { divides = least.least _ (congruent-trans k.first (congruent-sym both.first)).divides (congruent-trans k.second (congruent-sym both.second)).divides };
-      no_other = λ z k. record { first = congruent-trans (congruent-divisor least.left_divides k) both.first; second = congruent-trans (congruent-divisor least.right_divides k) both.second };
+      every = λ z k. record { divides = least.least _ (congruent_trans k.first (congruent_sym both.first)).divides (congruent_trans k.second (congruent_sym both.second)).divides };
+      no_other = λ z k. record { first = congruent_trans (congruent_divisor least.left_divides k) both.first; second = congruent_trans (congruent_divisor least.right_divides k) both.second };
     }
 
 -- What solves the class of the solutions and one more congruence solves all.

@@ -1,7 +1,7 @@
 -- Products of residues as magnitudes of 128 bits.
 use Rattle.modular.proofs.Common.{◌≡◌, ◌↔◌, ◌+◌, ◌-◌, ◌*◌, ◌%◌, ◌<◌, ◌≤◌, ◌<ℤ◌, ◌≤ℤ◌, ◌-ℤ◌, ◌*ℤ◌, ℤ, ℕ, pos, unsigned_abs, Bool, IsTrue, not, int_pow, arith, ap, ints, beq, signed_is, sizes, signed, AreCongruent, IsResidue, signed_product}
 use Rattle.modular.proofs.Congruences.{congruent_by, residue_of_congruent}
-use Rattle.modular.proofs.PowerIterations.{congruent-power}
+use Rattle.modular.proofs.PowerIterations.{congruent_power}
 
 -- a wrapping difference
 pub wrapped_difference : (x : ℕ) {u w : ℕ} → u ≤ w → AreCongruent (pos w) (pos (x + (w - u))) (pos x -ℤ pos u)
@@ -22,4 +22,4 @@ pub power_of_magnitudes : (u e : ℕ) {m a x : ℤ} {w p : ℕ} → pos 0 <ℤ m
     → IsResidue (pos w) (int_pow (pos u) e) (pos p) → IsResidue m (int_pow a e) (pos p)
 power_of_magnitudes u e {x = x} up at_a m_size x_size h =
     let x_is : pos u ≡ x = omega (arith, sizes, at_a.below.from_zero) in
-    residue_of_congruent (congruent-power e at_a.congruent) (residue_by_magnitude up m_size (rw (ap (λ (t : ℤ). int_pow t e) x_is) at h))
+    residue_of_congruent (congruent_power e at_a.congruent) (residue_by_magnitude up m_size (rw (ap (λ (t : ℤ). int_pow t e) x_is) at h))

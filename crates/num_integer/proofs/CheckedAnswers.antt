@@ -1,6 +1,6 @@
 -- Calls that return a result exactly in their domain.
-use Rattle.num_integer.proofs.Common.{◌≡◌, ◌≢◌, ◌⊎◌, ◌↔◌, ◌≤ℤ◌, ◌<ℤ◌, ◌*ℤ◌, natural, ℤ, pos, neg_ℤ, unsigned_abs, int_div, Option, Some, None, arith, refl, subst, sym, ap, ◌∙◌, unsigned_abs-mul, left_comm, sizes, IsGreatestCommonDivisor, IsLeastCommonMultiple, EachFits, IsRange, lcm-product, gcd-nonzero, lcm-zero, lcm_exists, only_lcm, Divides-trans, exact_quotient, each_fits, fits_below, product_from_zero, IsOnly}
-use Rattle.integer_core.proofs.DivisorSizes.{divisor_at_most, lcm-positive}
+use Rattle.num_integer.proofs.Common.{◌≡◌, ◌≢◌, ◌⊎◌, ◌↔◌, ◌≤ℤ◌, ◌<ℤ◌, ◌*ℤ◌, natural, ℤ, pos, neg_ℤ, unsigned_abs, int_div, Option, Some, None, arith, refl, subst, sym, ap, ◌∙◌, unsigned_abs-mul, left_comm, sizes, IsGreatestCommonDivisor, IsLeastCommonMultiple, EachFits, IsRange, lcm-product, gcd_nonzero, lcm_zero, lcm_exists, only_lcm, Divides_trans, exact_quotient, each_fits, fits_below, product_from_zero, IsOnly}
+use Rattle.integer_core.proofs.DivisorSizes.{divisor_at_most, lcm_positive}
 use Rattle.num_integer.specs.Checked.{AnswersWhere, FitsWith}
 use Rattle.std.specs.Prelude.{IsSome, Result, Ok, Err}
 use Rattle.std.specs.Result.{OkIff, result_ok}
@@ -44,13 +44,13 @@ negated_is z below = omega (arith, sizes)
 -- the least common multiple with 0 is 0
 pub zero_lcm : (fits : ℤ → Type 0) {a b z : ℤ} → (a ≡ pos 0) ⊎ (b ≡ pos 0) → fits z → z ≡ pos 0 → EachFits fits (IsLeastCommonMultiple a b) × (fits z × IsLeastCommonMultiple a b z)
 zero_lcm fits {a} {b} with_zero z_fits is =
-    let own = lcm-zero with_zero in
+    let own = lcm_zero with_zero in
     answer_only {P = IsLeastCommonMultiple a b} own (λ y. only_lcm own) z_fits is
 
 -- else it is the magnitude of one number times the other divided by their greatest common divisor
 pub lcm_by_gcd : {a b g q : ℤ} → b ≢ pos 0 → IsGreatestCommonDivisor a b g → q ≡ int_div b g → IsLeastCommonMultiple a b (pos (unsigned_abs (a *ℤ q)))
 lcm_by_gcd {a} {b} {g} {q} nonzero greatest is =
-    let exact : b ≡ g *ℤ q = rw is (exact_quotient (gcd-nonzero greatest nonzero) greatest.divides_right) in
+    let exact : b ≡ g *ℤ q = rw is (exact_quotient (gcd_nonzero greatest nonzero) greatest.divides_right) in
     let size : pos (unsigned_abs g) ≡ g = sym (natural greatest.from_zero) in
     lcm-product greatest nonzero (rw (exact, left_comm a g q, unsigned_abs-mul g (a *ℤ q)) (ap (λ (n : ℤ). n *ℤ pos (unsigned_abs (a *ℤ q))) size))
 
@@ -58,7 +58,7 @@ lcm_by_gcd {a} {b} {g} {q} nonzero greatest is =
 pub gcd_fits_with_lcm : {fits : ℤ → Type 0} {low high a b : ℤ} → IsRange fits low high → a ≢ pos 0 → b ≢ pos 0 → EachFits fits (IsLeastCommonMultiple a b) → EachFits fits (IsGreatestCommonDivisor a b)
 gcd_fits_with_lcm {a = a} {b = b} range a_nonzero b_nonzero each g greatest =
     let own = lcm_exists a b in
-    fits_below range (each own.0 own.1) greatest.from_zero (divisor_at_most (lcm-positive own.1 a_nonzero b_nonzero) (Divides-trans greatest.divides_right own.1.right_divides))
+    fits_below range (each own.0 own.1) greatest.from_zero (divisor_at_most (lcm_positive own.1 a_nonzero b_nonzero) (Divides_trans greatest.divides_right own.1.right_divides))
 
 -- ---- results that are computed in a wider type and converted to a narrower one
 

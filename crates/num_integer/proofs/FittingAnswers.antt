@@ -2,8 +2,8 @@
 use Rattle.integer_core.proofs.Common.{◌≡◌, ◌≢◌, ◌↔◌, ◌≤◌, ◌<◌, ◌^◌, ◌≤ℤ◌, ◌⊎◌, ◌<ℤ◌, ◌+ℤ◌, ℕ, ℤ, pos, IsTrue, nat_le, negsuc, neg_ℤ, unsigned_abs, Bool, true, false, not, min, max, arith, inl, inr, subst, refl, sym, ap, ◌∙◌, pow-le-pow_right, lt_of_not-le, le-leb, leb-true, ints, abs_is, linear, sizes, IsQuotient, IsMultiple, GcdFits, IsGreatestCommonDivisor, IsLeastCommonMultiple, IsRange, EachFits}
 use Rattle.std.proofs.Math.Nat.{le_of_suc-le-suc}
 use Rattle.std.specs.Int.{FitsUnsignedBits}
-use Rattle.integer_core.proofs.CommonDivisors.{gcd-divisor, only_gcd, gcd-zero, gcd-swap, lcm-magnitudes, only_lcm, gcd_fits_is}
-use Rattle.integer_core.proofs.Divisibility.{Divides-refl, abs_zero, divisor_size}
+use Rattle.integer_core.proofs.CommonDivisors.{gcd_divisor, only_gcd, gcd_zero, gcd_swap, lcm-magnitudes, only_lcm, gcd_fits_is}
+use Rattle.integer_core.proofs.Divisibility.{Divides_refl, abs_zero, divisor_size}
 use Rattle.integer_core.proofs.Quotients.{only_multiple, floored_by_minus_one, other_quotient_fits}
 use Rattle.integer_core.proofs.Ranges.{within_fits}
 use Rattle.num_integer.specs.Parts.{IsWithin, signed}
@@ -101,8 +101,8 @@ module _ {fits : ℤ → Type 0} {low high a b : ℤ} {most m n : ℕ} (range : 
   pub gcd_of_zero : {g : ℕ} → (m ≡ 0) ⊎ ((m ≢ 0) × (n ≡ 0)) → g ≡ max m n → IsTrue (nat_le g most) ↔ EachFits fits (IsGreatestCommonDivisor a b)
   gcd_of_zero {g} zero is =
       let own : IsGreatestCommonDivisor a b (pos g) = elim zero [
-        | inl none ↦ let same : g ≡ unsigned_abs b = omega arith in rw (same, abs_zero a (omega arith)) (gcd-swap (gcd-zero b))
-        | inr none ↦ let same : g ≡ unsigned_abs a = omega (arith, none.1) in rw (same, abs_zero b (omega (arith, none.1))) (gcd-zero a)
+        | inl none ↦ let same : g ≡ unsigned_abs b = omega arith in rw (same, abs_zero a (omega arith)) (gcd_swap (gcd_zero b))
+        | inr none ↦ let same : g ≡ unsigned_abs a = omega (arith, none.1) in rw (same, abs_zero b (omega (arith, none.1))) (gcd_zero a)
       ] in
       each_fits own (λ h. only_gcd own) (test_up range top)
 
@@ -115,7 +115,7 @@ module _ {fits : ℤ → Type 0} {low high a b : ℤ} {most m n : ℕ} (range : 
         (range.between g).1 (omega (arith, linear, abs_is, leb-true least most t)),
     λ each. le-leb least most (le_of_suc-le-suc (lt_of_not-le (λ above.
         let same : b ≡ a = omega (arith, linear, abs_is, (range.between a).0 a_fits, (range.between b).0 b_fits) in
-        let own : IsGreatestCommonDivisor a b (pos (unsigned_abs a)) = rw same (gcd-divisor (Divides-refl a)) in
+        let own : IsGreatestCommonDivisor a b (pos (unsigned_abs a)) = rw same (gcd_divisor (Divides_refl a)) in
         omega (arith, (fits_up range top).1 (each _ own))))),
   )
 

@@ -1,8 +1,8 @@
 -- Lemmas for the proofs of callers, in addition to the laws.
 -- ---- divisors and multiples
 
-pub use Rattle.integer_core.proofs.CommonDivisors.{divides_multiple, gcd-times, lcm-zero, only_lcm}
-pub use Rattle.integer_core.proofs.Divisibility.{Divides-antisym, Divides-cancel, Divides-refl, Divides-sum, Divides-times, Divides-trans, Divides-zero, cancel, divides_magnitude, divides_or_not, divisor_size, gcd-divisor, gcd-nonzero, gcd-positive, gcd-swap, gcd-zero, magnitude_divides, one_divides, only_gcd, zero_divides}
+pub use Rattle.integer_core.proofs.CommonDivisors.{divides_multiple, gcd_times, lcm_zero, only_lcm}
+pub use Rattle.integer_core.proofs.Divisibility.{Divides_antisym, Divides_cancel, Divides_refl, Divides_sum, Divides_times, Divides_trans, Divides_zero, cancel, divides_magnitude, divides_or_not, divisor_size, gcd_divisor, gcd_nonzero, gcd_positive, gcd_swap, gcd_zero, magnitude_divides, one_divides, only_gcd, zero_divides}
 pub use Rattle.integer_core.proofs.OddParts.{shift_back}
 -- ---- quotients and remainders
 
@@ -34,7 +34,7 @@ pub use Rattle.num_integer.proofs.PassedOn.{quotient_passed_on}
 --         let each = simp expand at (ap (λ (t : ℤ). t *ℤ d) e) in
 --         simp expand (omega (arith, linear))
 
-pub use Rattle.integer_core.proofs.Whole.{expand, linear, products, sizes, comm, dist, dist-left, mul-neg, mul-one, neg-mul}
+pub use Rattle.integer_core.proofs.Whole.{expand, linear, products, sizes, comm, dist, dist_left, mul_neg, mul-one, neg_mul}
 -- ---- smallest and largest numbers
 
 pub use Rattle.integer_core.proofs.Least.{greatest_is_only, least_is_only}
@@ -47,7 +47,7 @@ pub use Rattle.integer_core.proofs.OrderedProducts.{product_from_zero, multiples
 pub use Rattle.integer_core.proofs.FlooredByPositive.{floored_range, floored_remainder_range, floored_by_range, only_pair_by_range, rest_leads_to_multiple, ceiled_remainder_range, ceiled_by_range, ceiled_quotient_least, next_multiple_least, least_multiple_beyond, positive_quotient_fits, operator_quotient_fits}
 -- ---- sizes of divisors and multiples
 
-pub use Rattle.integer_core.proofs.DivisorSizes.{divisor_at_most, gcd_with_positive_fits, gcd_at_most, small_multiple_is_zero, lcm_at_most_product, lcm-positive}
+pub use Rattle.integer_core.proofs.DivisorSizes.{divisor_at_most, gcd_with_positive_fits, gcd_at_most, small_multiple_is_zero, lcm_at_most_product, lcm_positive}
 pub use Rattle.num_integer.proofs.Multiples.{first_multiple_answers, first_multiple_at_u64, first_natural_multiple, lcm_is_first, natural_gcd_at_most}
 -- ---- even numbers
 
@@ -57,18 +57,18 @@ pub use Rattle.num_integer.proofs.Multiples.{even_or_next, not_both_even}
 pub use Rattle.num_integer.proofs.DivisorSums.{divisor_added, divisor_passed, divisor_steps, no_divisors}
 -- ---- coprime numbers
 
-pub use Rattle.integer_core.proofs.Coprimes.{Divides-difference, coprime_exactly, divided_by_gcd, natural_gcd_positive, natural_exact_quotient, natural_quotients_coprime, coprime_divides}
+pub use Rattle.integer_core.proofs.Coprimes.{Divides_difference, coprime_exactly, divided_by_gcd, natural_gcd_positive, natural_exact_quotient, natural_quotients_coprime, coprime_divides}
 -- ---- powers and roots
 
 pub use Rattle.integer_roots.proofs.MagnitudeRoots.{first_root, root_in_range}
 pub use Rattle.integer_roots.proofs.OnlyAnswers.{root_is_only_one}
 pub use Rattle.integer_core.proofs.IntegerPowers.{power_of_one, power_of_zero}
 pub use Rattle.integer_roots.proofs.Powers.{power_of_power}
-pub use Rattle.integer_core.proofs.IntegerPowers.{even_or_odd, even_power, int_pow-suc, int_pow-zero, odd_power, power_of_square, power_size}
+pub use Rattle.integer_core.proofs.IntegerPowers.{even_or_odd, even_power, int_pow_suc, int_pow_zero, odd_power, power_of_square, power_size}
 pub use Rattle.num_integer.proofs.Powers.{int_pow_add, natural_power, root_by_squares, exact_power_root, square_root_of_square}
 -- ---- coefficients
 
-pub use Rattle.num_integer.proofs.Pascal.{coefficient-pos, coefficient-zero, factorial-pos, none_above, pascal, coefficient_grows}
+pub use Rattle.num_integer.proofs.Pascal.{coefficient_pos, coefficient_zero, factorial_pos, none_above, pascal, coefficient_grows}
 -- ---- the operators of the natural numbers
 
 pub use Rattle.integer_core.proofs.NaturalDivision.{quotient_is_natural, remainder_is_natural, division_is_natural, natural_quotient_fits, divides_is_natural, least_turns, quotients_grow, near}

@@ -45,10 +45,10 @@ pub gcd_is_only : law.GcdIsOnly
 gcd_is_only = λ a b g h other k. common.only_gcd k h
 
 pub gcd_is_symmetric : law.GcdIsSymmetric
-gcd_is_symmetric = λ a b g. common.gcd-swap
+gcd_is_symmetric = λ a b g. common.gcd_swap
 
 pub gcd_of_zeros : law.GcdOfZeros
-gcd_of_zeros = common.gcd-zero (pos 0)
+gcd_of_zeros = common.gcd_zero (pos 0)
 
 pub gcd_fits_exactly : (fits : ℤ → Type 0) → law.GcdFitsExactly fits
 gcd_fits_exactly = λ fits low high a b range. common.gcd_fits_is range
@@ -57,7 +57,7 @@ pub lcm_is_only : law.LcmIsOnly
 lcm_is_only = λ a b l h other k. common.only_lcm k h
 
 pub gcd_times_lcm : law.GcdTimesLcm
-gcd_times_lcm = λ a b g l. common.gcd-mul-lcm
+gcd_times_lcm = λ a b g l. common.gcd_mul_lcm
 
 pub bit_length_is_only : law.BitLengthIsOnly
 bit_length_is_only = λ v l h other k. omega (arith, h.least other k.below, k.least l h.below)

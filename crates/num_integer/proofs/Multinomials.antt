@@ -4,7 +4,7 @@ use Rattle.std.proofs.lemmas.List.Edits.{swap_is}
 use Rattle.std.proofs.lemmas.List.Sorted.{IsPermutation-keeps, IsPermutation-map, sum_by-IsPermutation}
 use Rattle.std.proofs.lemmas.List.Sums.{sum_by-cons}
 use Rattle.integer_core.proofs.Whole.{product_positive}
-use Rattle.num_integer.proofs.Pascal.{coefficient-pos, divides_factorials, factorial-pos, sum_at_most}
+use Rattle.num_integer.proofs.Pascal.{coefficient_pos, divides_factorials, factorial_pos, sum_at_most}
 use Rattle.num_integer.specs.Coefficient.{factorial, coefficient_of}
 use Rattle.num_integer.specs.Laws.{MultinomialIgnoresOrder}
 use Rattle.num_integer.specs.Multinomial.{IsMultinomial, coefficients_from, product}
@@ -19,11 +19,11 @@ product_of counts = product (coefficients_from 0 (map unsigned_abs counts))
 coefficients-pos : (before : ℕ) (counts : List ℕ) → 0 < product (coefficients_from before counts)
 unfolding coefficients_from
 coefficients-pos before [] = omega arith
-coefficients-pos before (count ∷ counts) = mul-pos (coefficient-pos (before + count) count (omega arith)) (coefficients-pos (before + count) counts)
+coefficients-pos before (count ∷ counts) = mul-pos (coefficient_pos (before + count) count (omega arith)) (coefficients-pos (before + count) counts)
 
 factorials-pos : (counts : List ℕ) → 0 < product (map factorial counts)
 factorials-pos [] = omega arith
-factorials-pos (count ∷ counts) = mul-pos (factorial-pos count) (factorials-pos counts)
+factorials-pos (count ∷ counts) = mul-pos (factorial_pos count) (factorials-pos counts)
 
 -- the law with counts before
 shared_out : (before : ℕ) (counts : List ℕ) → product (coefficients_from before counts) * product (map factorial counts) * factorial before ≡ factorial (before + sum counts)
@@ -69,7 +69,7 @@ module _ {X : Type 0} {value : X → ℤ} {counts : List X} {i : ℕ} {m t : ℤ
       let next = rw (← at) at (at_drop_more product_so_far counts i x inside) in
       record {
         total_from_zero = omega (arith, ints, h.total_from_zero);
-        positive = product_positive m _ h.positive (omega (arith, ints, coefficient-pos (unsigned_abs (t +ℤ value x)) (unsigned_abs (value x)) (omega arith)));
+        positive = product_positive m _ h.positive (omega (arith, ints, coefficient_pos (unsigned_abs (t +ℤ value x)) (unsigned_abs (value x)) (omega arith)));
         from_zero = AllWithin-more (λ (y : X). pos 0 ≤ℤ value y) counts 0 i h.from_zero (at_read counts (λ (y : X). pos 0 ≤ℤ value y) i x inside at up);
         rest = rw (unsigned_abs-mul m (coefficient_of (t +ℤ value x) (value x)), sum) (omega (arith, h.rest));
       }
@@ -174,7 +174,7 @@ swap_keeps_factorials l i j p q =
     ] in
     let first = factorials-set l i b 0 p in
     let second = rw there at (factorials-set w j a 0 (omega (arith, length-set l i b))) in
-    let same : product (map factorial (set w j a)) ≡ product (map factorial l) = eq_of_mul-eq-mul_left (factorial b) (factorial-pos b) _ _ (omega arith) in
+    let same : product (map factorial (set w j a)) ≡ product (map factorial l) = eq_of_mul-eq-mul_left (factorial b) (factorial_pos b) _ _ (omega arith) in
     subst (λ (t : List ℕ). product (map factorial t) ≡ product (map factorial l)) (swap_is l i j 0 p q) same
 
 -- counts in another order have the same multinomial

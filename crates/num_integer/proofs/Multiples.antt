@@ -1,8 +1,8 @@
 -- Least common multiples as the first positive common multiples, bounds of greatest common divisors, least common multiples of literals, and
 -- even numbers.
-use Rattle.num_integer.proofs.Common.{◌≢◌, ◌<◌, ◌≤◌, ◌^◌, ℕ, ℤ, pos, Option, Some, None, FitsUnsignedBits, Divides, EachFits, IsGreatestCommonDivisor, IsLeastCommonMultiple, arith, inl, inr, ints, linear, lcm_exists, subst, sym, cases_lt, ◌≡◌, ◌*◌, ◌/◌, ◌%◌, zero, suc, unsigned_abs, IsTrue, nat_lt, FitsSigned, Width, ◌∙◌, ap, refl, mul-zero, zero-div, ltb-true, gcd-remainder, gcd-zero, lcm-computed, only_lcm, zero_divides, zero_or_not}
+use Rattle.num_integer.proofs.Common.{◌≢◌, ◌<◌, ◌≤◌, ◌^◌, ℕ, ℤ, pos, Option, Some, None, FitsUnsignedBits, Divides, EachFits, IsGreatestCommonDivisor, IsLeastCommonMultiple, arith, inl, inr, ints, linear, lcm_exists, subst, sym, cases_lt, ◌≡◌, ◌*◌, ◌/◌, ◌%◌, zero, suc, unsigned_abs, IsTrue, nat_lt, FitsSigned, Width, ◌∙◌, ap, refl, mul-zero, zero-div, ltb-true, gcd-remainder, gcd_zero, lcm-computed, only_lcm, zero_divides, zero_or_not}
 use Rattle.std.specs.Prelude.{MatchOption, ◌+ℤ◌}
-use Rattle.integer_core.proofs.DivisorSizes.{divisor_at_most, gcd_at_most, lcm-positive}
+use Rattle.integer_core.proofs.DivisorSizes.{divisor_at_most, gcd_at_most, lcm_positive}
 use Rattle.integer_core.proofs.Least.{least_is_only}
 use Rattle.integer_core.proofs.Quotients.{division_exists}
 use Rattle.integer_core.proofs.Whole.{products, sizes}
@@ -19,7 +19,7 @@ use Rattle.num_integer.specs.Laws as law
 -- The least common multiple of numbers that are not 0 is their first positive common multiple.
 pub lcm_is_first : {a b l : ℤ} → a ≢ pos 0 → b ≢ pos 0 → IsLeastCommonMultiple a b l → IsLeastFrom (pos 1) (λ u. Divides a u × Divides b u) l
 lcm_is_first a_nonzero b_nonzero h =
-    let up = lcm-positive h a_nonzero b_nonzero in
+    let up = lcm_positive h a_nonzero b_nonzero in
     record {
       from_there = omega (arith, linear);
       holds = (h.left_divides, h.right_divides);
@@ -76,7 +76,7 @@ euclid (suc iterations) a (suc b) = euclid iterations (suc b) (a % suc b)
 
 euclid_is : (iterations a b : ℕ) → b < iterations → IsGreatestCommonDivisor (pos a) (pos b) (pos (euclid iterations a b))
 euclid_is zero a b h = absurd (omega arith)
-euclid_is (suc iterations) a zero h = gcd-zero (pos a)
+euclid_is (suc iterations) a zero h = gcd_zero (pos a)
 euclid_is (suc iterations) a (suc b) h =
     gcd-remainder (natural_division a (suc b) (omega arith)).division (euclid_is iterations (suc b) (a % suc b) (omega arith))
 

@@ -3,9 +3,9 @@ use Rattle.num_integer.proofs.Common.{◌≡◌, ◌+◌, ◌-◌, ◌*◌, ◌^
 use Rattle.num_integer.specs.Coefficient.{coefficient, factorial}
 
 -- there is one way to choose no things
-pub coefficient-zero : (n : ℕ) → coefficient n 0 ≡ 1
+pub coefficient_zero : (n : ℕ) → coefficient n 0 ≡ 1
 unfolding coefficient
-coefficient-zero n = refl
+coefficient_zero n = refl
 
 -- there is no way to choose more things than there are
 pub none_above : (n k : ℕ) → n < k → coefficient n k ≡ 0
@@ -15,11 +15,11 @@ none_above zero (suc k) h = refl
 none_above (suc n) (suc k) h = omega (arith, none_above n k (omega arith), none_above n (suc k) (omega arith))
 
 -- there is a way to choose at most as many as there are
-pub coefficient-pos : (n k : ℕ) → k ≤ n → 0 < coefficient n k
+pub coefficient_pos : (n k : ℕ) → k ≤ n → 0 < coefficient n k
 unfolding coefficient
-coefficient-pos n zero h = omega arith
-coefficient-pos zero (suc k) h = absurd (omega arith)
-coefficient-pos (suc n) (suc k) h = omega (arith, coefficient-pos n k (omega arith))
+coefficient_pos n zero h = omega arith
+coefficient_pos zero (suc k) h = absurd (omega arith)
+coefficient_pos (suc n) (suc k) h = omega (arith, coefficient_pos n k (omega arith))
 
 -- the absorption rule
 absorb : (n k : ℕ) → suc k * coefficient (suc n) (suc k) ≡ suc n * coefficient n k
@@ -55,7 +55,7 @@ power_below (suc n) (suc k) h = omega (arith, power_below n k (omega arith), gro
 -- a coefficient divides factorials, multiplied across
 pub divides_factorials : (n k : ℕ) → k ≤ n → factorial k * factorial (n - k) * coefficient n k ≡ factorial n
 unfolding factorial
-divides_factorials n zero h = let e : n - 0 ≡ n = omega arith in rw (coefficient-zero n) (omega (arith, ap factorial e))
+divides_factorials n zero h = let e : n - 0 ≡ n = omega arith in rw (coefficient_zero n) (omega (arith, ap factorial e))
 divides_factorials zero (suc k) h = absurd (omega arith)
 divides_factorials (suc n) (suc k) h =
     let e : suc n - suc k ≡ n - k = omega arith in
@@ -63,17 +63,17 @@ divides_factorials (suc n) (suc k) h =
     rw e (omega (arith, ap (λ (t : ℕ). suc n * t) (divides_factorials n k (omega arith))))
 
 -- a factorial is positive
-pub factorial-pos : (n : ℕ) → 0 < factorial n
+pub factorial_pos : (n : ℕ) → 0 < factorial n
 unfolding factorial
-factorial-pos zero = omega arith
-factorial-pos (suc n) = omega (arith, mul-le-mul_right (suc n) (factorial-pos n))
+factorial_pos zero = omega arith
+factorial_pos (suc n) = omega (arith, mul-le-mul_right (suc n) (factorial_pos n))
 
 -- to choose k of n things is to leave n - k of them
 pub coefficient_mirror : (n k : ℕ) → k ≤ n → coefficient n k ≡ coefficient n (n - k)
 coefficient_mirror n k h =
     let e : n - (n - k) ≡ k = omega arith in
     let other = rw e at (divides_factorials n (n - k) (omega arith)) in
-    eq_of_mul-eq-mul_left (factorial k * factorial (n - k)) (mul-pos (factorial-pos k) (factorial-pos (n - k))) _ _ (omega (arith, divides_factorials n k h))
+    eq_of_mul-eq-mul_left (factorial k * factorial (n - k)) (mul-pos (factorial_pos k) (factorial_pos (n - k))) _ _ (omega (arith, divides_factorials n k h))
 
 -- the smaller of k and n - k has the coefficient of k
 pub nearer_same : (n k m : ℕ) → k ≤ n → m ≡ min k (n - k) → coefficient n m ≡ coefficient n k
@@ -86,7 +86,7 @@ below_answer n k m h l = rw (← nearer_same n k _ h refl) (rises n m (min k (n 
 -- so a sum of two numbers is at most what bounds them and its coefficient
 pub sum_at_most : (s t k most : ℕ) → s ≡ t + k → t ≤ most → k ≤ most → coefficient s k ≤ most → s ≤ most
 sum_at_most s t k most is t_below k_below below =
-    let one = rw (coefficient-zero s) at (next_in_row s 0 (omega arith)) in grind (arith, below_answer s k 1)
+    let one = rw (coefficient_zero s) at (next_in_row s 0 (omega arith)) in grind (arith, below_answer s k 1)
 
 -- and the result is at least that power of two
 pub power_below_answer : (n k m : ℕ) → k ≤ n → m ≤ min k (n - k) → 2 ^ m ≤ coefficient n k
@@ -100,7 +100,7 @@ unfolding coefficient
 pascal n k = refl
 
 one_thing_more : (n k : ℕ) → coefficient n k ≤ coefficient (suc n) k
-one_thing_more n zero = omega (arith, coefficient-zero n, coefficient-zero (suc n))
+one_thing_more n zero = omega (arith, coefficient_zero n, coefficient_zero (suc n))
 one_thing_more n (suc k) = omega (arith, pascal n k)
 
 -- more things have at least as many choices

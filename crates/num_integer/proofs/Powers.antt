@@ -1,6 +1,6 @@
 -- Powers of sums of exponents, roots by squares, and roots of exact powers.
 use Rattle.num_integer.proofs.Common.{◌≡◌, ◌+◌, ◌^◌, ◌*ℤ◌, ℕ, ℤ, pos, zero, suc, int_pow, arith, expand, refl, ◌≢◌, ◌<◌, ◌≤◌, ◌*◌, negsuc, unsigned_abs, ◌∙◌, sym, ints, subst, pow-lt-pow_left}
-use Rattle.integer_core.proofs.IntegerPowers.{int_pow-suc, int_pow-zero}
+use Rattle.integer_core.proofs.IntegerPowers.{int_pow_suc, int_pow_zero}
 use Rattle.integer_roots.proofs.Powers.{power_two}
 use Rattle.integer_roots.specs.RootOf.{IsRoot}
 use Rattle.integer_roots.proofs.OnlyAnswers.{root_is_only_one}
@@ -12,10 +12,10 @@ natural_power a n = refl
 
 -- An exponent that is a sum makes a product of powers.
 pub int_pow_add : (x : ℤ) (m n : ℕ) → int_pow x (m + n) ≡ int_pow x m *ℤ int_pow x n
-int_pow_add x zero n = grind (arith, int_pow-zero)
+int_pow_add x zero n = grind (arith, int_pow_zero)
 int_pow_add x (suc m) n =
     let e : suc m + n ≡ suc (m + n) = omega arith in
-    rw (e, int_pow-suc x (m + n), int_pow-suc x m, int_pow_add x m n) (simp expand)
+    rw (e, int_pow_suc x (m + n), int_pow_suc x m, int_pow_add x m n) (simp expand)
 
 pub exponents_add : law.ExponentsAdd
 exponents_add = int_pow_add

@@ -1,9 +1,9 @@
 -- Rows: from one coefficient to the next, and the rest of a row.
-use Rattle.num_integer.proofs.Common.{iff_false, from_test, ◌≤ℤ◌, ◌<ℤ◌, ◌+ℤ◌, ◌-ℤ◌, ◌*ℤ◌, ◌≢◌, ◌≡◌, ◌+◌, ◌-◌, ◌/◌, ◌≤◌, ◌*◌, All, ◌∷◌, add-one, ℤ, pos, negsuc, unsigned_abs, int_div, int_rem, ℕ, suc, List, [], length, drop, get_or, reverse, refl, sym, ap, ◌∙◌, arith, min, ints, abs_is, comm, expand, linear, products, Divides, IsGreatestCommonDivisor, IsRange, at_drop_more, drop_all, get_or-reverse, length-reverse, All-nil, gcd-nonzero, gcd-positive, gcd-remainder, gcd-swap, gcd-times, cancel, Divides-cancel, exact_quotient, divisor_size, truncated_is, coefficient, coefficient_of, fits_below, factor_positive}
+use Rattle.num_integer.proofs.Common.{iff_false, from_test, ◌≤ℤ◌, ◌<ℤ◌, ◌+ℤ◌, ◌-ℤ◌, ◌*ℤ◌, ◌≢◌, ◌≡◌, ◌+◌, ◌-◌, ◌/◌, ◌≤◌, ◌*◌, All, ◌∷◌, add-one, ℤ, pos, negsuc, unsigned_abs, int_div, int_rem, ℕ, suc, List, [], length, drop, get_or, reverse, refl, sym, ap, ◌∙◌, arith, min, ints, abs_is, comm, expand, linear, products, Divides, IsGreatestCommonDivisor, IsRange, at_drop_more, drop_all, get_or-reverse, length-reverse, All-nil, gcd_nonzero, gcd_positive, gcd-remainder, gcd_swap, gcd_times, cancel, Divides_cancel, exact_quotient, divisor_size, truncated_is, coefficient, coefficient_of, fits_below, factor_positive}
 use Rattle.integer_core.proofs.DivisorSizes.{divisor_at_most, gcd_with_positive_fits}
 use Rattle.integer_core.proofs.FlooredByPositive.{operator_quotient_fits}
 use Rattle.std.proofs.lemmas.List.FromFn.{fill_by_all, get_or-map-range_with_len, length-map-range_with_len}
-use Rattle.num_integer.proofs.Pascal.{below_answer, coefficient-zero, coefficient_mirror, next_in_row, nearer_same, rises}
+use Rattle.num_integer.proofs.Pascal.{below_answer, coefficient_zero, coefficient_mirror, next_in_row, nearer_same, rises}
 use Rattle.num_integer.specs.Laws.{RowIsGreatestInMiddle, RowIsPalindrome, RowLength}
 use Rattle.num_integer.specs.Row.{IsPlaceInRow, RowFits, row_of}
 
@@ -49,11 +49,11 @@ regrouped r a b g q s t e f h = rw (e, f, h) (simp expand)
 
 -- that divisor, of the remainder of `%` and of b
 pub through_remainder : {r b g rest : ℤ} → pos 0 <ℤ b → rest ≡ int_rem r b → IsGreatestCommonDivisor rest b g → IsGreatestCommonDivisor r b g
-through_remainder {r} {b} b_above is greatest = gcd-remainder (truncated_is r b (λ e. omega (arith, linear))).division (gcd-swap (rw is at greatest))
+through_remainder {r} {b} b_above is greatest = gcd-remainder (truncated_is r b (λ e. omega (arith, linear))).division (gcd_swap (rw is at greatest))
 
 module _ {r b g : ℤ} (b_above : pos 0 <ℤ b) (greatest : IsGreatestCommonDivisor r b g) where
   pub g_above : pos 0 <ℤ g
-  g_above = gcd-positive greatest (λ e. absurd (omega (arith, linear)))
+  g_above = gcd_positive greatest (λ e. absurd (omega (arith, linear)))
 
   nonzero : g ≢ pos 0
   nonzero e = omega (arith, linear, g_above)
@@ -72,8 +72,8 @@ module _ {r b g : ℤ} (b_above : pos 0 <ℤ b) (greatest : IsGreatestCommonDivi
     rest_divides : {s : ℤ} → b ≡ g *ℤ s → Divides s a
     rest_divides is =
         let multiple : Divides b (a *ℤ b) = record { factor = a; product = comm a b } in
-        let times : Divides b (g *ℤ a) = rw (comm g a) ((gcd-times a a_up greatest).greatest b (rw (comm a r) whole) multiple) in
-        Divides-cancel g nonzero (rw (← is) times)
+        let times : Divides b (g *ℤ a) = rw (comm g a) ((gcd_times a a_up greatest).greatest b (rw (comm a r) whole) multiple) in
+        Divides_cancel g nonzero (rw (← is) times)
 
     cancelled_by : (q s : ℤ) → r ≡ g *ℤ q → b ≡ g *ℤ s → q *ℤ int_div a s *ℤ b ≡ r *ℤ a
     cancelled_by q s of_r of_b =
@@ -162,6 +162,6 @@ row_length (negsuc n) up = absurd (omega (arith, ints))
 
 -- ---- what the prover tries at `item_at` and `factors`
 
-pub ruleset item_steps = (linear, iff_false, fits_below, coefficient-zero)
+pub ruleset item_steps = (linear, iff_false, fits_below, coefficient_zero)
 
 pub ruleset factor_steps = (linear, operator_quotient_fits, gcd_with_positive_fits, g_above)

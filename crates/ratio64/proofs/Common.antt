@@ -21,7 +21,7 @@ pub use Rattle.std.specs.Prelude.{Err, FitsSigned, IfErr, IfOk, IsOk, IsTrue, Li
 pub use Rattle.std.specs.Result.{result_ok}
 pub use Rattle.std.specs.Str.Parse.{AllDigits, IsNumeral, digits_value, starts_with_minus}
 pub use Rattle.std.specs.declared.cmp.Ordering.TheVariants.{Equal, Greater, Less}
-pub use Rattle.num_integer.proofs.ForCallers.{Divides-refl, Divides-sum, Divides-trans, LiesWithin, cancel, ceiled_by_range, ceiled_remainder_range, comm, coprime_divides, divided_by_gcd, divisor_at_most, divisor_size, exact_quotient, expand, factor_positive, floored_by_range, floored_range, from_not_less, from_test, gcd-divisor, gcd-nonzero, gcd-positive, gcd-swap, int_pow-suc, int_pow-zero, linear, mul-neg, mul-one, multiples_apart, neg-mul, one_divides, power_of_zero, power_size, product_from_zero, products, rest_is, sizes}
+pub use Rattle.num_integer.proofs.ForCallers.{Divides_refl, Divides_sum, Divides_trans, LiesWithin, cancel, ceiled_by_range, ceiled_remainder_range, comm, coprime_divides, divided_by_gcd, divisor_at_most, divisor_size, exact_quotient, expand, factor_positive, floored_by_range, floored_range, from_not_less, from_test, gcd_divisor, gcd_nonzero, gcd_positive, gcd_swap, int_pow_suc, int_pow_zero, linear, mul_neg, mul-one, multiples_apart, neg_mul, one_divides, power_of_zero, power_size, product_from_zero, products, rest_is, sizes}
 pub use Rattle.num_integer.proofs.Laws.{division_is_only, gcd_exists}
 pub use Rattle.num_integer.specs.Checked.{AnswersWhere}
 pub use Rattle.num_integer.specs.Division.{IsCeiled, IsDivision, IsFloored, IsQuotient}
@@ -37,7 +37,7 @@ pub use Rattle.ratio64.specs.Limiting.{IsNearestWithin, gap, AreNearestParts}
 pub use Rattle.ratio64.specs.Neighbours.{AreNeighbours, IsCloser, IsNearer}
 pub use Rattle.ratio64.specs.Ratio.{AnswersFraction, den_of, num_of, text_of}
 pub use Rattle.ratio64.specs.RatioText.{AnswersSpelled, HasLongPart, ReadsFraction, SpellsFraction, SpellsWhole, answer_read}
-pub use Rattle.ratio64.specs.ReducedPairs.{AreEqual-sym, IsReduced-prop, denominator_divides, equal_where_same, positive_is_nonzero, same_pair}
+pub use Rattle.ratio64.specs.ReducedPairs.{AreEqual_sym, IsReduced_prop, denominator_divides, equal_where_same, positive_is_nonzero, same_pair}
 pub use Rattle.ratio64.specs.Rounding.{AnswersInParts, IsRounded, IsRoundedEven}
 pub use Rattle.ratio64.specs.Times.{AreTimes}
 pub use Rattle.ratio64.specs.declared.error.RatioError.{RatioError}

@@ -1,5 +1,5 @@
 -- Equal fractions have one exact result, and equal sums and products.
-use Rattle.ratio64.proofs.Common.{◌≢◌, ◌+ℤ◌, ◌*ℤ◌, ℤ, pos, Result, Ok, Err, IfOk, arith, ap, expand, linear, AreEqual, IsExact, IsFraction, IsOutsideI64, AnswersFraction, num_of, den_of, AreEqual-sym, positive_is_nonzero, Ratio, RatioError}
+use Rattle.ratio64.proofs.Common.{◌≢◌, ◌+ℤ◌, ◌*ℤ◌, ℤ, pos, Result, Ok, Err, IfOk, arith, ap, expand, linear, AreEqual, IsExact, IsFraction, IsOutsideI64, AnswersFraction, num_of, den_of, AreEqual_sym, positive_is_nonzero, Ratio, RatioError}
 use Rattle.ratio64.proofs.ExactResults.{same_result}
 use Rattle.ratio64.proofs.FractionAnswers.{zero_factor}
 
@@ -32,7 +32,7 @@ pub equal_fractions_answered_alike : {a b c d : ℤ} {r : Result Ratio RatioErro
 equal_fractions_answered_alike {r = r} b_nonzero d_nonzero equal h = record {
   exact = equal_exact r d_nonzero equal h.exact;
   zero_denominator = (λ e. absurd (b_nonzero (h.zero_denominator.0 e)), λ none. absurd (d_nonzero none));
-  not_fitting = (λ e. equal_outside d_nonzero equal (h.not_fitting.0 e), λ far. h.not_fitting.1 (equal_outside b_nonzero (AreEqual-sym equal) far));
+  not_fitting = (λ e. equal_outside d_nonzero equal (h.not_fitting.0 e), λ far. h.not_fitting.1 (equal_outside b_nonzero (AreEqual_sym equal) far));
 }
 
 -- ---- sums and products of exact results
@@ -48,11 +48,11 @@ module _ {a b c d m n p q : ℤ} (x : IsExact a b m n) (y : IsExact c d p q) whe
 
   -- their sum has the result of the sum of the fractions
   pub sum_of_exact_results : {r : Result Ratio RatioError} → AnswersFraction (m *ℤ q +ℤ p *ℤ n) (n *ℤ q) r → AnswersFraction (a *ℤ d +ℤ c *ℤ b) (b *ℤ d) r
-  sum_of_exact_results = equal_fractions_answered_alike denominators (nonzero_product x.fraction y.fraction) (equal_sums m n p q a b c d (AreEqual-sym x.equal) (AreEqual-sym y.equal))
+  sum_of_exact_results = equal_fractions_answered_alike denominators (nonzero_product x.fraction y.fraction) (equal_sums m n p q a b c d (AreEqual_sym x.equal) (AreEqual_sym y.equal))
 
   -- and so does their product
   pub product_of_exact_results : {r : Result Ratio RatioError} → AnswersFraction (m *ℤ p) (n *ℤ q) r → AnswersFraction (a *ℤ c) (b *ℤ d) r
-  product_of_exact_results = equal_fractions_answered_alike denominators (nonzero_product x.fraction y.fraction) (equal_products m n p q a b c d (AreEqual-sym x.equal) (AreEqual-sym y.equal))
+  product_of_exact_results = equal_fractions_answered_alike denominators (nonzero_product x.fraction y.fraction) (equal_products m n p q a b c d (AreEqual_sym x.equal) (AreEqual_sym y.equal))
 
 -- The exact result of a fraction times n/d is that of the fraction times n/d.
 pub times_of_exact_result : {a b num den d : ℤ} {r : Result Ratio RatioError} (n : ℤ) → IsExact a b num den → d ≢ pos 0 → AnswersFraction (num *ℤ n) (d *ℤ den) r → AnswersFraction (a *ℤ n) (b *ℤ d) r

@@ -1,5 +1,5 @@
 -- Equal fractions have the same quotients, and the same nearest integers.
-use Rattle.ratio64.proofs.Common.{◌≡◌, ◌<◌, ◌≤◌, ◌*◌, ◌<ℤ◌, ◌≤ℤ◌, ◌-ℤ◌, ◌*ℤ◌, ℕ, ℤ, pos, neg_ℤ, unsigned_abs, Result, arith, ap, sym, ◌∙◌, by_lt_z, unsigned_abs-mul, ceiled_by_range, ceiled_remainder_range, comm, expand, floored_by_range, from_not_less, linear, multiples_apart, product_from_zero, products, sizes, IsCeiled, IsFloored, IsQuotient, IsDivision, AreEqual, IsExact, AreEqual-sym, AnswersInParts, AnswersWhere, EachFits, FitsSigned, IsRounded, IsRoundedEven, Option, Ratio, RatioError, floored_range, rest_is, w64}
+use Rattle.ratio64.proofs.Common.{◌≡◌, ◌<◌, ◌≤◌, ◌*◌, ◌<ℤ◌, ◌≤ℤ◌, ◌-ℤ◌, ◌*ℤ◌, ℕ, ℤ, pos, neg_ℤ, unsigned_abs, Result, arith, ap, sym, ◌∙◌, by_lt_z, unsigned_abs-mul, ceiled_by_range, ceiled_remainder_range, comm, expand, floored_by_range, from_not_less, linear, multiples_apart, product_from_zero, products, sizes, IsCeiled, IsFloored, IsQuotient, IsDivision, AreEqual, IsExact, AreEqual_sym, AnswersInParts, AnswersWhere, EachFits, FitsSigned, IsRounded, IsRoundedEven, Option, Ratio, RatioError, floored_range, rest_is, w64}
 use Rattle.num_integer.proofs.ForCallers.{answers_as}
 
 -- Both fractions times the same number are equal.
@@ -99,22 +99,22 @@ equal_rounded_even {c = c} {d} {r} b_up d_up equal h =
 -- To round an exact result down to parts is to round the fraction.
 pub floored_in_parts : {a b num den parts : ℤ} {r : Result Ratio RatioError} → pos 0 <ℤ b → IsExact a b num den → AnswersInParts (IsQuotient IsFloored (num *ℤ parts) den) parts r
     → AnswersInParts (IsQuotient IsFloored (a *ℤ parts) b) parts r
-floored_in_parts b_up exact h = record { number = h.number; is = equal_floored exact.reduced.positive b_up (equal_times _ (AreEqual-sym exact.equal)) h.is; fraction = h.fraction }
+floored_in_parts b_up exact h = record { number = h.number; is = equal_floored exact.reduced.positive b_up (equal_times _ (AreEqual_sym exact.equal)) h.is; fraction = h.fraction }
 
 -- To round an exact result up to parts is to round the fraction.
 pub ceiled_in_parts : {a b num den parts : ℤ} {r : Result Ratio RatioError} → pos 0 <ℤ b → IsExact a b num den → AnswersInParts (IsQuotient IsCeiled (num *ℤ parts) den) parts r
     → AnswersInParts (IsQuotient IsCeiled (a *ℤ parts) b) parts r
-ceiled_in_parts b_up exact h = record { number = h.number; is = equal_ceiled exact.reduced.positive b_up (equal_times _ (AreEqual-sym exact.equal)) h.is; fraction = h.fraction }
+ceiled_in_parts b_up exact h = record { number = h.number; is = equal_ceiled exact.reduced.positive b_up (equal_times _ (AreEqual_sym exact.equal)) h.is; fraction = h.fraction }
 
 -- To round an exact result to the nearest part is to round the fraction.
 pub rounded_in_parts : {a b num den parts : ℤ} {r : Result Ratio RatioError} → pos 0 <ℤ b → IsExact a b num den → AnswersInParts (IsRounded (num *ℤ parts) den) parts r
     → AnswersInParts (IsRounded (a *ℤ parts) b) parts r
-rounded_in_parts b_up exact h = record { number = h.number; is = equal_rounded exact.reduced.positive b_up (equal_times _ (AreEqual-sym exact.equal)) h.is; fraction = h.fraction }
+rounded_in_parts b_up exact h = record { number = h.number; is = equal_rounded exact.reduced.positive b_up (equal_times _ (AreEqual_sym exact.equal)) h.is; fraction = h.fraction }
 
 -- To round an exact result to the nearest part, and a half to the even one, is to round the fraction.
 pub rounded_even_in_parts : {a b num den parts : ℤ} {r : Result Ratio RatioError} → pos 0 <ℤ b → IsExact a b num den → AnswersInParts (IsRoundedEven (num *ℤ parts) den) parts r
     → AnswersInParts (IsRoundedEven (a *ℤ parts) b) parts r
-rounded_even_in_parts b_up exact h = record { number = h.number; is = equal_rounded_even exact.reduced.positive b_up (equal_times _ (AreEqual-sym exact.equal)) h.is; fraction = h.fraction }
+rounded_even_in_parts b_up exact h = record { number = h.number; is = equal_rounded_even exact.reduced.positive b_up (equal_times _ (AreEqual_sym exact.equal)) h.is; fraction = h.fraction }
 
 -- ---- an exact result times an integer
 
@@ -122,6 +122,6 @@ rounded_even_in_parts b_up exact h = record { number = h.number; is = equal_roun
 pub times_rounded_even : {a b num den : ℤ} (n : ℤ) (r : Option ℤ) → pos 0 <ℤ b → IsExact a b num den → AnswersWhere (EachFits (FitsSigned w64) (IsRoundedEven (num *ℤ n) den)) (IsRoundedEven (num *ℤ n) den) r
     → AnswersWhere (EachFits (FitsSigned w64) (IsRoundedEven (a *ℤ n) b)) (IsRoundedEven (a *ℤ n) b) r
 times_rounded_even {a} {b} {num} {den} n r b_up exact h =
-    let to : (z : ℤ) → IsRoundedEven (num *ℤ n) den z → IsRoundedEven (a *ℤ n) b z = λ z is. equal_rounded_even exact.reduced.positive b_up (equal_times n (AreEqual-sym exact.equal)) is in
+    let to : (z : ℤ) → IsRoundedEven (num *ℤ n) den z → IsRoundedEven (a *ℤ n) b z = λ z is. equal_rounded_even exact.reduced.positive b_up (equal_times n (AreEqual_sym exact.equal)) is in
     let back : (z : ℤ) → IsRoundedEven (a *ℤ n) b z → IsRoundedEven (num *ℤ n) den z = λ z is. equal_rounded_even b_up exact.reduced.positive (equal_times n exact.equal) is in
     answers_as r (λ each z is. each z (back z is), λ each z is. each z (to z is)) to h

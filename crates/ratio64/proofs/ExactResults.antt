@@ -1,5 +1,5 @@
 -- The exact result of a fraction: its parts by their gcd, with a positive denominator.
-use Rattle.ratio64.proofs.Common.{◌≡◌, ◌≢◌, ◌↔◌, ◌≤◌, ◌<ℤ◌, ◌≤ℤ◌, ◌*ℤ◌, ℤ, pos, negsuc, neg_ℤ, suc, int_div, unsigned_abs, arith, ap, refl, subst, sym, ◌∙◌, ints, Divides-refl, cancel, comm, divided_by_gcd, divisor_at_most, exact_quotient, expand, factor_positive, gcd-divisor, gcd-nonzero, gcd-positive, linear, mul-one, one_divides, products, gcd_exists, Divides, IsGreatestCommonDivisor, AreEqual, IsExact, IsFraction, IsReduced, positive_is_nonzero, same_pair, le_refl, divisor_size, neg-mul, mul-neg}
+use Rattle.ratio64.proofs.Common.{◌≡◌, ◌≢◌, ◌↔◌, ◌≤◌, ◌<ℤ◌, ◌≤ℤ◌, ◌*ℤ◌, ℤ, pos, negsuc, neg_ℤ, suc, int_div, unsigned_abs, arith, ap, refl, subst, sym, ◌∙◌, ints, Divides_refl, cancel, comm, divided_by_gcd, divisor_at_most, exact_quotient, expand, factor_positive, gcd_divisor, gcd_nonzero, gcd_positive, linear, mul-one, one_divides, products, gcd_exists, Divides, IsGreatestCommonDivisor, AreEqual, IsExact, IsFraction, IsReduced, positive_is_nonzero, same_pair, le_refl, divisor_size, neg_mul, mul_neg}
 
 -- ---- there is only one
 
@@ -27,31 +27,31 @@ pub quotient_at_most : {n g : ℤ} → g ≢ pos 0 → Divides g n → unsigned_
 quotient_at_most {n} {g} nonzero h = grind arith
 
 -- for `grind`: the gcd of both parts and the quotients by it are no larger than the parts
-pub ruleset quotient_steps = (le_refl, divisor_size, gcd-nonzero, positive_is_nonzero, quotient_at_most)
+pub ruleset quotient_steps = (le_refl, divisor_size, gcd_nonzero, positive_is_nonzero, quotient_at_most)
 
 -- if the denominator is positive, the quotients of both parts by the gcd are the exact result
 pub exact_quotients : {a b g : ℤ} → pos 0 <ℤ b → IsGreatestCommonDivisor a b g → IsExact a b (int_div a g) (int_div b g)
 exact_quotients {a} {b} {g} up x =
-    let nonzero = gcd-nonzero x (positive_is_nonzero up) in
+    let nonzero = gcd_nonzero x (positive_is_nonzero up) in
     let left = exact_quotient nonzero x.divides_left in
     let right = exact_quotient nonzero x.divides_right in
     record {
       fraction = positive_is_nonzero up;
-      reduced = record { positive = factor_positive up (gcd-positive x (positive_is_nonzero up)) right; lowest = divided_by_gcd nonzero (rw (← left, ← right) x) };
+      reduced = record { positive = factor_positive up (gcd_positive x (positive_is_nonzero up)) right; lowest = divided_by_gcd nonzero (rw (← left, ← right) x) };
       equal = equal_parts g left right;
     }
 
 -- if the gcd is at most 1 and the denominator is not negative, the parts are the exact result
 pub coprime_is_exact : {a b g : ℤ} → IsFraction a b → pos 0 ≤ℤ b → IsGreatestCommonDivisor a b g → g ≤ℤ pos 1 → IsExact a b a b
 coprime_is_exact {a} {b} {g} fraction up x small =
-    let nonzero = gcd-nonzero x fraction in
+    let nonzero = gcd_nonzero x fraction in
     let one : g ≡ pos 1 = omega (arith, linear) in
     record { fraction = fraction; reduced = record { positive = omega (arith, linear); lowest = subst (IsGreatestCommonDivisor a b) one x }; equal = record { cross = refl } }
 
 pub exact_result_exists : (a b : ℤ) → IsFraction a b → (num den : ℤ) × IsExact a b num den
 exact_result_exists a (pos b) fraction = (_, _, exact_quotients (omega (arith, linear)) (gcd_exists a (pos b)).1)
 exact_result_exists a (negsuc b) fraction =
-    let turned = neg-mul a (negsuc b) ∙ sym (mul-neg a (negsuc b)) in
+    let turned = neg_mul a (negsuc b) ∙ sym (mul_neg a (negsuc b)) in
     (_, _, same_result fraction (record { cross = turned }) (exact_quotients (omega (arith, ints)) (gcd_exists (neg_ℤ a) (pos (suc b))).1))
 
 -- ---- fractions that are reduced already
@@ -61,7 +61,7 @@ reduced_is_exact x = record { fraction = positive_is_nonzero x.positive; reduced
 
 -- a number over 1
 pub whole_is_exact : (n : ℤ) → IsExact n (pos 1) n (pos 1)
-whole_is_exact n = reduced_is_exact (record { positive = omega (arith, ints); lowest = gcd-divisor (one_divides n) })
+whole_is_exact n = reduced_is_exact (record { positive = omega (arith, ints); lowest = gcd_divisor (one_divides n) })
 
 -- a fraction whose numerator is 0 is 0/1
 pub zero_is_over_one : {n d : ℤ} → IsReduced n d → n ≡ pos 0 → d ≡ pos 1
@@ -70,7 +70,7 @@ zero_is_over_one {n} {d} x none = (same_pair x (whole_is_exact (pos 0)).reduced 
 -- the denominator divides the numerator exactly if it is 1
 pub whole_exactly : {n d : ℤ} → IsReduced n d → Divides d n ↔ (d ≡ pos 1)
 whole_exactly {n} {d} x = (
-  λ h. omega (arith, linear, x.positive, divisor_at_most (omega (arith, linear)) (x.lowest.greatest d h (Divides-refl d))),
+  λ h. omega (arith, linear, x.positive, divisor_at_most (omega (arith, linear)) (x.lowest.greatest d h (Divides_refl d))),
   λ one. rw one (one_divides n),
 )
 

@@ -1,11 +1,11 @@
 -- The size of an exact result, and which results are no errors.
-use Rattle.ratio64.proofs.Common.{◌≡◌, ◌≢◌, ◌⊎◌, ◌<◌, ◌≤◌, ◌^◌, ◌<ℤ◌, ◌≤ℤ◌, ◌*ℤ◌, ℤ, pos, neg_ℤ, unsigned_abs, Result, Ok, Err, FitsSigned, IfErr, w64, arith, inl, inr, ◌∙◌, le-mul_of_pos_right, fits_signed_from_abs, unsigned_abs-mul, cancel, comm, expand, factor_positive, linear, products, sizes, IsExact, IsOutsideI64, AnswersFraction, AreEqual-sym, denominator_divides, positive_is_nonzero, Ratio, RatioError}
+use Rattle.ratio64.proofs.Common.{◌≡◌, ◌≢◌, ◌⊎◌, ◌<◌, ◌≤◌, ◌^◌, ◌<ℤ◌, ◌≤ℤ◌, ◌*ℤ◌, ℤ, pos, neg_ℤ, unsigned_abs, Result, Ok, Err, FitsSigned, IfErr, w64, arith, inl, inr, ◌∙◌, le-mul_of_pos_right, fits_signed_from_abs, unsigned_abs-mul, cancel, comm, expand, factor_positive, linear, products, sizes, IsExact, IsOutsideI64, AnswersFraction, AreEqual_sym, denominator_divides, positive_is_nonzero, Ratio, RatioError}
 use Rattle.ratio64.proofs.NearestNumbers.{quotient_fits}
 
 -- both parts of a fraction are those of its exact result times one number
 pub common_factor : {a b n d : ℤ} → IsExact a b n d → (s : ℤ) × (a ≡ n *ℤ s) × (b ≡ d *ℤ s)
 common_factor {a} {b} {n} {d} h =
-    let x = denominator_divides h.reduced (AreEqual-sym h.equal) in
+    let x = denominator_divides h.reduced (AreEqual_sym h.equal) in
     (x.factor, cancel d a (n *ℤ x.factor) (positive_is_nonzero h.reduced.positive) (comm d a ∙ rw x.product at h.equal.cross ∙ simp expand), x.product)
 
 factor_at_most : (x y s : ℤ) → s ≢ pos 0 → x ≡ y *ℤ s → unsigned_abs y ≤ unsigned_abs x

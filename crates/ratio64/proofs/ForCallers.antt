@@ -15,7 +15,7 @@ pub use Rattle.ratio64.proofs.FittingParts.{common_factor, exact_parts_at_most, 
 pub use Rattle.ratio64.proofs.ExactResults.{only_exact_result, quotient_is_exact, reduced_is_exact, whole_exactly, whole_is_exact, whole_is_multiple, zero_is_over_one}
 -- ---- reduced pairs
 
-pub use Rattle.ratio64.specs.ReducedPairs.{AreEqual-sym, IsReduced-prop, denominator_divides, equal_where_same, gcd-prop, gcd_one-prop, positive_is_nonzero, same_pair}
+pub use Rattle.ratio64.specs.ReducedPairs.{AreEqual_sym, IsReduced_prop, denominator_divides, equal_where_same, gcd_prop, gcd_one_prop, positive_is_nonzero, same_pair}
 pub use Rattle.ratio64.proofs.ReducedParts.{magnitude_reduced, negated_reduced, remainder_reduced}
 -- ---- the order, by cross multiplication
 

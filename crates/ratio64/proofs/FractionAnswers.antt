@@ -1,12 +1,12 @@
 -- What a call returns for a fraction: its exact result, or an error.
-use Rattle.ratio64.proofs.Common.{◌≡◌, ◌≢◌, ◌↔◌, ◌*ℤ◌, ℤ, pos, Some, None, Result, Ok, Err, FitsSigned, IfOk, IsOk, w64, result_ok, ap, arith, inl, inr, refl, subst, sym, ◌∙◌, is_prop→PathP, cancel, comm, products, IsExact, IsOutsideI64, IsReduced, AnswerIsOnly, RatioOfPartsIsOnly, AnswersFraction, num_of, den_of, IsReduced-prop, Ratio, RatioError, ZeroDenominator, NotFitting}
+use Rattle.ratio64.proofs.Common.{◌≡◌, ◌≢◌, ◌↔◌, ◌*ℤ◌, ℤ, pos, Some, None, Result, Ok, Err, FitsSigned, IfOk, IsOk, w64, result_ok, ap, arith, inl, inr, refl, subst, sym, ◌∙◌, is_prop→PathP, cancel, comm, products, IsExact, IsOutsideI64, IsReduced, AnswerIsOnly, RatioOfPartsIsOnly, AnswersFraction, num_of, den_of, IsReduced_prop, Ratio, RatioError, ZeroDenominator, NotFitting}
 use Rattle.ratio64.proofs.ExactResults.{only_exact_result}
 
 -- ---- one of them
 
 -- fractions of the same parts are the same
 pub only_of_parts : RatioOfPartsIsOnly
-only_of_parts x y p q = λ i. record { num = p i; den = q i; reduced = is_prop→PathP (λ i. IsReduced (p i) (q i)) (λ i. IsReduced-prop (p i) (q i)) x.reduced y.reduced i }
+only_of_parts x y p q = λ i. record { num = p i; den = q i; reduced = is_prop→PathP (λ i. IsReduced (p i) (q i)) (λ i. IsReduced_prop (p i) (q i)) x.reduced y.reduced i }
 
 -- so the exact result is one, and each error is told by its condition
 pub only_answer : AnswerIsOnly

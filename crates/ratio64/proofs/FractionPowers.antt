@@ -1,5 +1,5 @@
 -- Powers of reduced pairs are reduced, and those of equal fractions equal.
-use Rattle.ratio64.proofs.Common.{◌≡◌, ◌≢◌, ◌<◌, ◌≤◌, ◌^◌, ◌<ℤ◌, ◌*ℤ◌, ℤ, ℕ, pos, negsuc, zero, suc, FitsSigned, int_pow, w64, arith, ap, sym, ◌∙◌, one-le-pow, pow-succ', mul-le-mul_left, ints, Divides-trans, coprime_divides, expand, gcd-swap, int_pow-suc, int_pow-zero, power_size, products, IsGreatestCommonDivisor, AreEqual, IsReduced}
+use Rattle.ratio64.proofs.Common.{◌≡◌, ◌≢◌, ◌<◌, ◌≤◌, ◌^◌, ◌<ℤ◌, ◌*ℤ◌, ℤ, ℕ, pos, negsuc, zero, suc, FitsSigned, int_pow, w64, arith, ap, sym, ◌∙◌, one-le-pow, pow-succ', mul-le-mul_left, ints, Divides_trans, coprime_divides, expand, gcd_swap, int_pow_suc, int_pow_zero, power_size, products, IsGreatestCommonDivisor, AreEqual, IsReduced}
 use Rattle.ratio64.proofs.ReducedParts.{coprime_by}
 use Rattle.ratio64.proofs.WideSums.{part_size}
 
@@ -7,8 +7,8 @@ use Rattle.ratio64.proofs.WideSums.{part_size}
 
 -- the power of a product
 pub power_of_product : (x y : ℤ) (k : ℕ) → int_pow (x *ℤ y) k ≡ int_pow x k *ℤ int_pow y k
-power_of_product x y zero = rw (int_pow-zero (x *ℤ y), int_pow-zero x, int_pow-zero y) (omega (arith, products))
-power_of_product x y (suc k) = rw (int_pow-suc (x *ℤ y) k, int_pow-suc x k, int_pow-suc y k, power_of_product x y k) (simp expand)
+power_of_product x y zero = rw (int_pow_zero (x *ℤ y), int_pow_zero x, int_pow_zero y) (omega (arith, products))
+power_of_product x y (suc k) = rw (int_pow_suc (x *ℤ y) k, int_pow_suc x k, int_pow_suc y k, power_of_product x y k) (simp expand)
 
 -- it is not 0 if the number is not
 pub power_nonzero : (x : ℤ) (k : ℕ) → x ≢ pos 0 → int_pow x k ≢ pos 0
@@ -33,17 +33,17 @@ base_fits (negsuc n) k up fits = record { sfits = omega (arith, at_most_power (s
 -- a product is coprime to what both factors are coprime to
 coprime_product : {a b c : ℤ} → IsGreatestCommonDivisor a c (pos 1) → IsGreatestCommonDivisor b c (pos 1) → IsGreatestCommonDivisor (a *ℤ b) c (pos 1)
 coprime_product {a} x y = coprime_by (λ e left right.
-    let apart : IsGreatestCommonDivisor a e (pos 1) = coprime_by (λ f u v. x.greatest f u (Divides-trans v right)) in
+    let apart : IsGreatestCommonDivisor a e (pos 1) = coprime_by (λ f u v. x.greatest f u (Divides_trans v right)) in
     y.greatest e (coprime_divides apart left) right)
 
 power_coprime : (x : ℤ) (k : ℕ) {c : ℤ} → IsGreatestCommonDivisor x c (pos 1) → IsGreatestCommonDivisor (int_pow x k) c (pos 1)
-power_coprime x zero h = rw (int_pow-zero x) (coprime_by (λ e left right. left))
-power_coprime x (suc k) h = rw (int_pow-suc x k) (coprime_product h (power_coprime x k h))
+power_coprime x zero h = rw (int_pow_zero x) (coprime_by (λ e left right. left))
+power_coprime x (suc k) h = rw (int_pow_suc x k) (coprime_product h (power_coprime x k h))
 
 pub power_reduced : {n d : ℤ} (k : ℕ) → IsReduced n d → IsReduced (int_pow n k) (int_pow d k)
 power_reduced {n} {d} k x = record {
   positive = power_positive d k x.positive;
-  lowest = gcd-swap (power_coprime d k (gcd-swap (power_coprime n k x.lowest)));
+  lowest = gcd_swap (power_coprime d k (gcd_swap (power_coprime n k x.lowest)));
 }
 
 pub equal_powers : {a b c d : ℤ} (k : ℕ) → AreEqual a b c d → AreEqual (int_pow a k) (int_pow b k) (int_pow c k) (int_pow d k)

@@ -1,5 +1,5 @@
 -- An integer and the nearer neighbour of the rest.
-use Rattle.ratio64.proofs.Common.{◌≡◌, ◌<◌, ◌≤◌, ◌+◌, ◌*◌, ◌<ℤ◌, ◌≤ℤ◌, ◌+ℤ◌, ◌-ℤ◌, ◌*ℤ◌, ℤ, ℕ, pos, neg_ℤ, zero, suc, FitsSigned, w64, arith, ap, inl, inr, mul-le-mul_left, ints, expand, linear, neg-mul, sizes, Neighbour, IsReduced, IsNearestWithin, gap, AreNeighbours, IsNearer}
+use Rattle.ratio64.proofs.Common.{◌≡◌, ◌<◌, ◌≤◌, ◌+◌, ◌*◌, ◌<ℤ◌, ◌≤ℤ◌, ◌+ℤ◌, ◌-ℤ◌, ◌*ℤ◌, ℤ, ℕ, pos, neg_ℤ, zero, suc, FitsSigned, w64, arith, ap, inl, inr, mul-le-mul_left, ints, expand, linear, neg_mul, sizes, Neighbour, IsReduced, IsNearestWithin, gap, AreNeighbours, IsNearer}
 use Rattle.ratio64.proofs.NearerNeighbour.{equal_least, nearer_is_nearest, positive_by_product}
 use Rattle.ratio64.proofs.NeighbourIterations.{gaps_make}
 use Rattle.ratio64.proofs.ReducedParts.{remainder_reduced}
@@ -82,4 +82,4 @@ module _ {m bottom w : ℤ} {n d max : ℕ} {z : Neighbour} (split : IsSplit m b
   nearest_with_whole = rw (← split.den) (shifted w m split.equation h.nearest)
 
   pub reduced_with_whole : IsReduced (w *ℤ pos z.den +ℤ pos z.num) (pos z.den)
-  reduced_with_whole = remainder_reduced (neg_ℤ w) h.reduced (simp neg-mul (omega (arith, linear)))
+  reduced_with_whole = remainder_reduced (neg_ℤ w) h.reduced (simp neg_mul (omega (arith, linear)))

@@ -1,5 +1,5 @@
 -- The nearer of two neighbours is the nearest of all fractions that do not lie between the two.
-use Rattle.ratio64.proofs.Common.{◌≡◌, ◌⊎◌, ◌<◌, ◌≤◌, ◌+◌, ◌*◌, ◌<ℤ◌, ◌≤ℤ◌, ◌+ℤ◌, ◌-ℤ◌, ◌*ℤ◌, ℤ, ℕ, pos, neg_ℤ, suc, unsigned_abs, zero, arith, ap, ◌∙◌, inl, inr, by_lt_z, le-mul_of_pos_right, le_of_mul-le-mul_left, le_of_mul-le-mul_right, mul-le-mul_left, mul-pos, subst, mul-lt, ints, Divides-sum, cancel, comm, divisor_at_most, expand, linear, from_not_less, multiples_apart, products, sizes, Divides, IsReduced, gap, IsNearer, denominator_divides, positive_is_nonzero, Neighbour, neg-mul}
+use Rattle.ratio64.proofs.Common.{◌≡◌, ◌⊎◌, ◌<◌, ◌≤◌, ◌+◌, ◌*◌, ◌<ℤ◌, ◌≤ℤ◌, ◌+ℤ◌, ◌-ℤ◌, ◌*ℤ◌, ℤ, ℕ, pos, neg_ℤ, suc, unsigned_abs, zero, arith, ap, ◌∙◌, inl, inr, by_lt_z, le-mul_of_pos_right, le_of_mul-le-mul_left, le_of_mul-le-mul_right, mul-le-mul_left, mul-pos, subst, mul-lt, ints, Divides_sum, cancel, comm, divisor_at_most, expand, linear, from_not_less, multiples_apart, products, sizes, Divides, IsReduced, gap, IsNearer, denominator_divides, positive_is_nonzero, Neighbour, neg_mul}
 use Rattle.ratio64.proofs.ReducedParts.{coprime_by}
 
 -- ---- fractions that are equal to a reduced one
@@ -21,7 +21,7 @@ itself_is_nearest {n} {d} {u} {v} x up =
 
 -- numbers of which a combination is 1
 reduced_by : (x y a b : ℤ) → pos 0 <ℤ b → x *ℤ a +ℤ y *ℤ b ≡ pos 1 → IsReduced a b
-reduced_by x y a b up one = record { positive = up; lowest = coprime_by (λ d left right. subst (λ (t : ℤ). Divides d t) one (Divides-sum x y left right)) }
+reduced_by x y a b up one = record { positive = up; lowest = coprime_by (λ d left right. subst (λ (t : ℤ). Divides d t) one (Divides_sum x y left right)) }
 
 -- ---- a fraction that does not lie between two neighbours
 
@@ -129,8 +129,8 @@ nearest_of n d x y a {v} up own ups reduced other near smaller (inr past) =
 pub nearer_is_nearest : {n d : ℕ} {l u z : Neighbour} → AreAround n d l u → IsNearer l u z
     → IsReduced (pos z.num) (pos z.den) × ((a v : ℤ) → pos 0 <ℤ v → IsOutside l u a v → IsAsNear n d z a v)
 nearer_is_nearest {n} {d} {l} {u} h near =
-    let left = neg-mul (pos u.den) (pos l.num) in
-    let right = neg-mul (pos l.num) (pos u.den) in
+    let left = neg_mul (pos u.den) (pos l.num) in
+    let right = neg_mul (pos l.num) (pos u.den) in
     let lower = reduced_by (neg_ℤ (pos u.den)) (pos u.num) (pos l.num) (pos l.den) (omega (arith, ints, h.ups)) (omega (arith, products)) in
     let upper = λ (up : 0 < u.den). reduced_by (pos l.den) (neg_ℤ (pos l.num)) (pos u.num) (pos u.den) (omega (arith, ints)) (omega (arith, products)) in
     elim near.is [

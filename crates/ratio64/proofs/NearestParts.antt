@@ -1,5 +1,5 @@
 -- The nearest fraction with two small parts.
-use Rattle.ratio64.proofs.Common.{◌≡◌, ◌⊎◌, ◌<◌, ◌≤◌, ◌+◌, ◌*◌, ◌<ℤ◌, ◌≤ℤ◌, ℤ, ℕ, pos, negsuc, neg_ℤ, unsigned_abs, arith, ap, inl, inr, le_of_mul-le-mul_right, refl, subst, ints, Divides-refl, neg-mul, products, sizes, Divides, Neighbour, IsReduced, AreNearestParts, IsNearestWithin, gap, AreNeighbours, IsNearer}
+use Rattle.ratio64.proofs.Common.{◌≡◌, ◌⊎◌, ◌<◌, ◌≤◌, ◌+◌, ◌*◌, ◌<ℤ◌, ◌≤ℤ◌, ℤ, ℕ, pos, negsuc, neg_ℤ, unsigned_abs, arith, ap, inl, inr, le_of_mul-le-mul_right, refl, subst, ints, Divides_refl, neg_mul, products, sizes, Divides, Neighbour, IsReduced, AreNearestParts, IsNearestWithin, gap, AreNeighbours, IsNearer}
 use Rattle.ratio64.proofs.ExactResults.{whole_exactly}
 use Rattle.ratio64.proofs.ReducedParts.{negated_reduced}
 use Rattle.ratio64.proofs.NearerNeighbour.{AreAround, IsOutside, nearer_is_nearest, positive_by_product}
@@ -7,7 +7,7 @@ use Rattle.ratio64.proofs.NearerNeighbour.{AreAround, IsOutside, nearer_is_neare
 -- ---- the sign
 
 turned : (n d u v : ℤ) → gap (neg_ℤ n) d u v ≡ gap n d (neg_ℤ u) v
-turned n d u v = omega (arith, sizes, neg-mul n v, neg-mul u d)
+turned n d u v = omega (arith, sizes, neg_mul n v, neg_mul u d)
 
 negated_parts : {n d max a b : ℤ} → AreNearestParts n d max a b → AreNearestParts (neg_ℤ n) d max (neg_ℤ a) b
 negated_parts {n} {d} {max} {a} {b} x =
@@ -48,7 +48,7 @@ same_numerator {n} {d} {max} {num} {u} {den} x y size =
     elim (same_or_negated u num size) [
       | inl same ↦ same
       | inr negated ↦
-          let far = rw (negated, neg-mul num d) at other in
+          let far = rw (negated, neg_mul num d) at other in
           let same : gap n d num den ≡ gap n d (pos 0) den = omega (arith, sizes, products, own, far) in
           let least = (x.tie (pos 0) den x.positive x.bounded.0 low (ap (λ (t : ℕ). t * unsigned_abs den) same)).1 refl in
           omega (arith, sizes, negated)
@@ -64,7 +64,7 @@ parts_of_nearest {n} {d} {max} {a} {b} proper x = grind arith
 -- the reciprocal of a fraction above 1
 pub above_one : {n d max : ℕ} → 0 < max → (max < n) ⊎ (max < d) → d ≤ n → IsReduced (pos n) (pos d) → d < n
 above_one {n} {d} {max} up above most x =
-    let one : d ≡ n → pos d ≡ pos 1 = λ same. (whole_exactly x).0 (subst (λ (t : ℕ). Divides (pos d) (pos t)) same (Divides-refl (pos d))) in
+    let one : d ≡ n → pos d ≡ pos 1 = λ same. (whole_exactly x).0 (subst (λ (t : ℕ). Divides (pos d) (pos t)) same (Divides_refl (pos d))) in
     grind (arith, ints)
 
 abbrev pub reciprocal : Neighbour → Neighbour

@@ -1,5 +1,5 @@
 -- The strings of decimal numbers, cut at the point, and what they are read as.
-use Rattle.ratio64.proofs.Common.{◌≡◌, ◌≢◌, ◌↔◌, ◌≤◌, ◌<◌, ◌+◌, ◌-◌, ◌*◌, ◌^◌, ◌*ℤ◌, ◌++◌, ◌==◌, ℕ, suc, zero, ℤ, List, [], ◌∷◌, true, false, length, take, drop, pos, neg_ℤ, unsigned_abs, AllDigits, IsNumeral, digit_value, digits_value, starts_with_minus, list_all, Bor, Option, Some, None, Result, Ok, Err, arith, ap, inl, inr, refl, subst, sym, ◌∙◌, cases_Bool, length-append, append-nil, nil_from_length, IsTrue, pow-succ', cancel, comm, linear, neg-mul, append_assoc, cases_lt, le_refl, mul-le-mul, mul-le-mul_left, to_z, of_z, w128, unsigned_abs-mul, positive_is_nonzero, IsSplitOnceResult, split_after, split_parts, SpellsDecimal, places_of, units_of, unsigned_part, whole_of}
+use Rattle.ratio64.proofs.Common.{◌≡◌, ◌≢◌, ◌↔◌, ◌≤◌, ◌<◌, ◌+◌, ◌-◌, ◌*◌, ◌^◌, ◌*ℤ◌, ◌++◌, ◌==◌, ℕ, suc, zero, ℤ, List, [], ◌∷◌, true, false, length, take, drop, pos, neg_ℤ, unsigned_abs, AllDigits, IsNumeral, digit_value, digits_value, starts_with_minus, list_all, Bor, Option, Some, None, Result, Ok, Err, arith, ap, inl, inr, refl, subst, sym, ◌∙◌, cases_Bool, length-append, append-nil, nil_from_length, IsTrue, pow-succ', cancel, comm, linear, neg_mul, append_assoc, cases_lt, le_refl, mul-le-mul, mul-le-mul_left, to_z, of_z, w128, unsigned_abs-mul, positive_is_nonzero, IsSplitOnceResult, split_after, split_parts, SpellsDecimal, places_of, units_of, unsigned_part, whole_of}
 use Rattle.ratio64.proofs.DecimalTexts.{ten_grows, ten_up}
 use Rattle.ratio64.proofs.WideSums.{read}
 use Rattle.ratio64.proofs.ReadTexts.{no_mark, no_mark_inside}
@@ -162,7 +162,7 @@ abbrev pub signed : Bool → ℕ → ℤ
 signed b n = if b then neg_ℤ (pos n) else pos n
 
 signed_times : (b : Bool) (n t : ℕ) → signed b n *ℤ pos t ≡ signed b (n * t)
-signed_times true n t = neg-mul (pos n) (pos t)
+signed_times true n t = neg_mul (pos n) (pos t)
 signed_times false n t = refl
 
 pub signed_size : (b : Bool) (n : ℕ) → unsigned_abs (signed b n) ≡ n

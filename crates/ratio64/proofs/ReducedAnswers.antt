@@ -1,5 +1,5 @@
 -- What calls return for fractions in lowest terms, and for powers of a negative degree.
-use Rattle.ratio64.proofs.Common.{◌≡◌, ◌⊎◌, ◌<◌, ℤ, ℕ, pos, Result, Ok, Err, FitsSigned, int_pow, w64, inl, inr, refl, AreEqual-sym, positive_is_nonzero, IsExact, IsOutsideI64, IsReduced, AnswersFraction, num_of, den_of, Ratio, RatioError, ZeroDenominator, NotFitting, ap, power_of_zero}
+use Rattle.ratio64.proofs.Common.{◌≡◌, ◌⊎◌, ◌<◌, ℤ, ℕ, pos, Result, Ok, Err, FitsSigned, int_pow, w64, inl, inr, refl, AreEqual_sym, positive_is_nonzero, IsExact, IsOutsideI64, IsReduced, AnswersFraction, num_of, den_of, Ratio, RatioError, ZeroDenominator, NotFitting, ap, power_of_zero}
 use Rattle.ratio64.proofs.EqualFractions.{equal_fractions_answered_alike}
 use Rattle.ratio64.proofs.ExactResults.{reduced_is_exact}
 use Rattle.ratio64.proofs.FractionAnswers.{exact_answer}
@@ -50,4 +50,4 @@ powers_refused NotFitting k up h = outside_answer (outside_powers k up (h.not_fi
 
 -- the powers of its exact result have the results of its powers
 pub powers_of_exact : {a b n d : ℤ} {r : Result Ratio RatioError} (k : ℕ) → IsExact a b n d → AnswersFraction (int_pow n k) (int_pow d k) r → AnswersFraction (int_pow a k) (int_pow b k) r
-powers_of_exact {b = b} {d = d} k x h = equal_fractions_answered_alike (power_nonzero d k (positive_is_nonzero x.reduced.positive)) (power_nonzero b k x.fraction) (AreEqual-sym (equal_powers k x.equal)) h
+powers_of_exact {b = b} {d = d} k x h = equal_fractions_answered_alike (power_nonzero d k (positive_is_nonzero x.reduced.positive)) (power_nonzero b k x.fraction) (AreEqual_sym (equal_powers k x.equal)) h

@@ -1,9 +1,9 @@
 -- Reduced pairs that come of another: negated, of a remainder.
-use Rattle.ratio64.proofs.Common.{◌≡◌, ◌+ℤ◌, ◌*ℤ◌, ℤ, pos, negsuc, neg_ℤ, unsigned_abs, FitsSigned, w64, arith, subst, ints, Divides-sum, one_divides, products, Divides, IsGreatestCommonDivisor, IsReduced, Divides-trans}
+use Rattle.ratio64.proofs.Common.{◌≡◌, ◌+ℤ◌, ◌*ℤ◌, ℤ, pos, negsuc, neg_ℤ, unsigned_abs, FitsSigned, w64, arith, subst, ints, Divides_sum, one_divides, products, Divides, IsGreatestCommonDivisor, IsReduced, Divides_trans}
 
 -- a number has the divisors of its negation
 pub negated_divides : {d v : ℤ} → Divides d (neg_ℤ v) → Divides d v
-negated_divides h = Divides-trans h (record { factor = negsuc 0; product = omega (arith, products) })
+negated_divides h = Divides_trans h (record { factor = negsuc 0; product = omega (arith, products) })
 
 -- numbers are coprime if each common divisor divides 1
 pub coprime_by : {a b : ℤ} → ((e : ℤ) → Divides e a → Divides e b → Divides e (pos 1)) → IsGreatestCommonDivisor a b (pos 1)
@@ -30,7 +30,7 @@ pub remainder_reduced : {n d r : ℤ} (q : ℤ) → IsReduced n d → n ≡ q *�
 remainder_reduced {n} {d} {r} q x equation = record {
   positive = x.positive;
   lowest = coprime_by (λ e left right.
-      let whole : Divides e (q *ℤ d +ℤ pos 1 *ℤ r) = Divides-sum q (pos 1) right left in
+      let whole : Divides e (q *ℤ d +ℤ pos 1 *ℤ r) = Divides_sum q (pos 1) right left in
       let same : q *ℤ d +ℤ pos 1 *ℤ r ≡ n = omega (arith, products) in
       x.lowest.greatest e (subst (λ (t : ℤ). Divides e t) same whole) right);
 }

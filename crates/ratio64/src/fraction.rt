@@ -3,7 +3,7 @@
 ghost use Rattle.std.specs.Prelude.{◌≡◌, ◌≢◌, ◌⊎◌, ◌↔◌, ◌<◌, ◌^◌, ◌<ℤ◌, ◌≤ℤ◌, ◌+ℤ◌, ◌-ℤ◌, ◌*ℤ◌, pos, neg_ℤ, unsigned_abs, Err, IfErr, IfOk};
 ghost use Rattle.num_integer.specs.Division.{IsCeiled, IsFloored, IsQuotient};
 ghost use Rattle.ratio64.specs.Fraction.{IsReduced};
-ghost use Rattle.ratio64.specs.ReducedPairs.{IsReduced-prop};
+ghost use Rattle.ratio64.specs.ReducedPairs.{IsReduced_prop};
 
 mod limit;
 mod powers;
@@ -24,7 +24,7 @@ use std::fmt;
 pub struct Ratio {
     num: i64,
     den: i64,
-    pub ghost reduced: { IsReduced num den } by { IsReduced-prop num den },
+    pub ghost reduced: { IsReduced num den } by { IsReduced_prop num den },
 }
 
 impl Ratio {

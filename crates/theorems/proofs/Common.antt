@@ -12,7 +12,7 @@ pub use Rattle.calendar.specs.Dates.{number_of}
 pub use Rattle.calendar.specs.LeapYears.{is_leap_year}
 pub use Rattle.calendar.specs.Years.{day_number, days_in_year}
 pub use Rattle.calendar.specs.declared.date.Date.{Date}
-pub use Rattle.modular.proofs.Congruences.{congruent-refl, residue_of_congruent}
+pub use Rattle.modular.proofs.Congruences.{congruent_refl, residue_of_congruent}
 pub use Rattle.modular.proofs.Laws.{next_common_solution_is_only, residue_class_is_only, residue_is_only}
 pub use Rattle.modular.specs.CommonSolutions.{MatchCommonSolution}
 pub use Rattle.modular.specs.Congruences.{IsNextCommonSolution, IsResidue, IsResidueClass, SolvesBothCongruences}

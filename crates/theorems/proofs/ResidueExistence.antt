@@ -1,5 +1,5 @@
 -- That there is a residue, a quotient, a class, a next solution and a count.
-use Rattle.modular.proofs.Common.{◌≡◌, ◌<ℤ◌, ◌+ℤ◌, ◌-ℤ◌, ◌*ℤ◌, ◌∷◌, ℤ, pos, neg_ℤ, int_div, List, [], arith, inl, inr, refl, by_lt_z, All, All-cons, All-head, All-nil, All-tail, Divides, Divides-trans, bezout_answer_exists, comm, division_exists, expand, gcd_exists, linear, products, AreCongruent, IsCountOfCongruent, IsInverse, IsLeastFrom, IsNextCommonSolution, IsNextCongruent, IsPreviousCongruent, IsQuotientModulo, IsReducedModulus, IsResidueClass, IsTimesToReach, LiesBelow, Solves, SolvesBothCongruences, SolvesEach}
+use Rattle.modular.proofs.Common.{◌≡◌, ◌<ℤ◌, ◌+ℤ◌, ◌-ℤ◌, ◌*ℤ◌, ◌∷◌, ℤ, pos, neg_ℤ, int_div, List, [], arith, inl, inr, refl, by_lt_z, All, All-cons, All-head, All-nil, All-tail, Divides, Divides_trans, bezout_answer_exists, comm, division_exists, expand, gcd_exists, linear, products, AreCongruent, IsCountOfCongruent, IsInverse, IsLeastFrom, IsNextCommonSolution, IsNextCongruent, IsPreviousCongruent, IsQuotientModulo, IsReducedModulus, IsResidueClass, IsTimesToReach, LiesBelow, Solves, SolvesBothCongruences, SolvesEach}
 use Rattle.modular.proofs.CommonSolutions.{reached_by_next, reached_by_quotient}
 use Rattle.modular.proofs.Congruences.{congruent_by, divides_congruent, reduced_modulus_positive, residue_exists, zero_difference}
 use Rattle.modular.proofs.Counts.{counted_by_times}
@@ -25,7 +25,7 @@ solutions : {a b m : ℤ} (x : ℤ) → pos 0 <ℤ m → Solves a b m x → (fir
 solutions {a} {b} {m} x up h =
     let bezout = bezout_answer_exists a m in
     let greatest = bezout.3.greatest in
-    let divides : Divides bezout.0 b = divides_congruent greatest.divides_right h (Divides-trans greatest.divides_left (record { factor = x; product = refl })) in
+    let divides : Divides bezout.0 b = divides_congruent greatest.divides_right h (Divides_trans greatest.divides_left (record { factor = x; product = refl })) in
     let times : AreCongruent m (a *ℤ bezout.1) bezout.0 = congruent_by (neg_ℤ bezout.2) (simp expand (omega (arith, linear, bezout.3.equation, comm a bezout.1, comm m bezout.2))) in
     let rest = residue_exists (int_div b bezout.0 *ℤ bezout.1) (reduced_modulus_positive up greatest refl) in
     (rest.0, int_div m bezout.0, solutions_of bezout.1 up greatest times divides refl refl rest.1)

@@ -1,8 +1,8 @@
-use Rattle.integer_core.proofs.ForAnswers.{arith, few_iterations, odd_part_le, gcd_positive}
+use Rattle.integer_core.proofs.ForAnswers.{arith, few_iterations, odd_part_le, odd_gcd_positive}
 use Rattle.integer_core.proofs.stein.positive_gcd.Goals as goal
 
 pub times_power_of_two-requires : goal.times_power_of_two-requires
-times_power_of_two-requires g c = grind (arith, gcd_positive)
+times_power_of_two-requires g c = grind (arith, odd_gcd_positive)
 
 pub returns-clause-gcd : goal.returns-clause-gcd
 returns-clause-gcd g c =

@@ -1,5 +1,5 @@
 use Rattle.modular.proofs.Common.{arith, refl}
-use Rattle.modular.proofs.Congruences.{congruent-trans}
+use Rattle.modular.proofs.Congruences.{congruent_trans}
 use Rattle.modular.proofs.PowerIterations.{few_halvings, halved_iteration, powering_first, powering_iteration}
 use Rattle.modular.proofs.exponentiation.power_counted.Goals as goal
 
@@ -23,4 +23,4 @@ pub overflow_add-iterations : goal.overflow_add-iterations
 overflow_add-iterations g c = omega (arith, few_halvings 128 c.halvings.invariant.halved (omega arith) (omega arith))
 
 pub returns-clause-power : goal.returns-clause-power
-returns-clause-power g c = congruent-trans c.halvings.invariant.kept.congruent c.product_if.ensures.congruent
+returns-clause-power g c = congruent_trans c.halvings.invariant.kept.congruent c.product_if.ensures.congruent

@@ -1,5 +1,5 @@
 use Rattle.num_integer.proofs.Common.{◌+◌, unsigned_abs, arith, ◌∙◌, ints, few_bits, from_test}
-use Rattle.num_integer.proofs.Pascal.{coefficient-zero, none_above, power_below_answer}
+use Rattle.num_integer.proofs.Pascal.{coefficient_zero, none_above, power_below_answer}
 use Rattle.num_integer.proofs.RowSteps.{last_coefficient, next_coefficient_fits, next_place_fits}
 use Rattle.num_integer.proofs.coefficients.coefficient_counted.Goals as goal
 
@@ -7,7 +7,7 @@ pub returns-then-is_below-clause-coefficient : goal.returns-then-is_below-clause
 returns-then-is_below-clause-coefficient g c = grind (arith, none_above, unsigned_abs, ints, g.T.Number.value, c.if-is_below.true)
 
 pub loop-n-init : goal.loop-n-init
-loop-n-init g c = grind (arith, ints, coefficient-zero, c.zero-place.ensures.in_range, c.one-coefficient.ensures.in_range, c.nearer_end-last.ensures.lesser)
+loop-n-init g c = grind (arith, ints, coefficient_zero, c.zero-place.ensures.in_range, c.one-coefficient.ensures.in_range, c.nearer_end-last.ensures.lesser)
 
 pub next_coefficient-coefficient-requires-clause-next_fits : goal.next_coefficient-coefficient-requires-clause-next_fits
 next_coefficient-coefficient-requires-clause-next_fits g c =

@@ -1,4 +1,4 @@
-use Rattle.ratio64.proofs.Common.{◌≡◌, arith, gcd-swap, ints, Neighbour}
+use Rattle.ratio64.proofs.Common.{◌≡◌, arith, gcd_swap, ints, Neighbour}
 use Rattle.ratio64.proofs.LimitedDenominators.{lowest_natural, nearer_is_limited}
 use Rattle.ratio64.proofs.NearestParts.{above_one, nearer_reciprocal, parts_of_nearest, reciprocal}
 use Rattle.ratio64.proofs.NeighbourIterations.{gaps_make}
@@ -18,7 +18,7 @@ neighbours-requires-else-num-den-clause-proper c = above_one c.requires.positive
 
 pub neighbours-requires-else-num-den-clause-lowest : goal.neighbours-requires-else-num-den-clause-lowest
 neighbours-requires-else-num-den-clause-lowest c =
-    lowest_natural (record { positive = omega (arith, ints, c.requires.lowest.positive); lowest = gcd-swap c.requires.lowest.lowest })
+    lowest_natural (record { positive = omega (arith, ints, c.requires.lowest.positive); lowest = gcd_swap c.requires.lowest.lowest })
 
 pub nearer-requires-else-num-den : goal.nearer-requires-else-num-den
 nearer-requires-else-num-den c =

@@ -1,5 +1,5 @@
 use Rattle.num_integer.proofs.Common.{unsigned_abs, arith, ◌∙◌, subst, ints, from_test}
-use Rattle.num_integer.proofs.Pascal.{coefficient-zero, none_above}
+use Rattle.num_integer.proofs.Pascal.{coefficient_zero, none_above}
 use Rattle.num_integer.proofs.RowSteps.{last_coefficient, next_coefficient_fits, next_place_fits}
 use Rattle.num_integer.proofs.checked.coefficients.binomial.Goals as goal
 
@@ -7,7 +7,7 @@ pub returns-then-is_below : goal.returns-then-is_below
 returns-then-is_below g c = grind (arith, from_test, none_above, unsigned_abs, ints, c.is_negative.ensures, c.if-is_negative.false, c.is_negative-else-is_negative.ensures, c.if-is_negative-2.false, g.T.Number.value, c.is_below.ensures.0, c.zero.ensures.value)
 
 pub loop-n-init : goal.loop-n-init
-loop-n-init g c = grind (arith, ints, coefficient-zero, c.zero-place.ensures.in_range, c.zero-place.ensures.value)
+loop-n-init g c = grind (arith, ints, coefficient_zero, c.zero-place.ensures.in_range, c.zero-place.ensures.value)
 
 pub returns-in_err-coefficient : goal.returns-in_err-coefficient
 returns-in_err-coefficient g c =

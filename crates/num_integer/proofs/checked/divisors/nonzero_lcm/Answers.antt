@@ -1,9 +1,9 @@
-use Rattle.num_integer.proofs.Common.{◌∙◌, IsLeastCommonMultiple, natural, gcd-positive, only_lcm, from_test}
+use Rattle.num_integer.proofs.Common.{◌∙◌, IsLeastCommonMultiple, natural, gcd_positive, only_lcm, from_test}
 use Rattle.num_integer.proofs.CheckedAnswers.{answer_only, answers_only, lcm_by_gcd, negated_is, product_fits_by_size}
 use Rattle.num_integer.proofs.checked.divisors.nonzero_lcm.Goals as goal
 
 pub positive_quotient-requires-clause-positive : goal.positive_quotient-requires-clause-positive
-positive_quotient-requires-clause-positive g c = gcd-positive c.requires.greatest c.requires.nonzero
+positive_quotient-requires-clause-positive g c = gcd_positive c.requires.greatest c.requires.nonzero
 
 pub returns-in_err-product : goal.returns-in_err-product
 returns-in_err-product g c =
