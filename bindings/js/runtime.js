@@ -322,6 +322,7 @@ export function start(instance) {
     look();
   } catch (error) {
     exports = undefined;
+    plans.clear(); // they have its calls
     throw error;
   }
 }

@@ -3,7 +3,7 @@ import assert from 'node:assert/strict';
 import {readdirSync, readFileSync, statSync} from 'node:fs';
 import {createRequire} from 'node:module';
 import {test} from 'node:test';
-import {fileURLToPath} from 'node:url';
+import {fileURLToPath, pathToFileURL} from 'node:url';
 import {inspect} from 'node:util';
 import {CALLS, camel, cellarcove, folder, judge, rows} from './rows.js';
 
@@ -370,6 +370,17 @@ test('a module is loaded at once, by require too, and with the bytes inside', as
   if (folder !== fileURLToPath(new URL('..', import.meta.url)).slice(0, -1)) for (const file of readdirSync(folder)) {
     if (statSync(`${folder}/${file}`).isFile()) assert.equal(statSync(`${folder}/${file}`).mode & 0o777, 0o644, file);
   }
+});
+
+test('a module that returns something else is rejected when it is loaded', async () => {
+  const {start} = await import(`${pathToFileURL(folder)}/runtime.js?again`), module = new WebAssembly.Module(readFileSync(`${folder}/cellarcove.wasm`));
+  const found = () => new WebAssembly.Instance(module).exports;
+  for (const name of ['gcd_i64', 'div_mod_floor_i64', 'fraction_add', 'fraction_cmp', 'plus_months', 'weekday', 'easter', 'sum_of_i64', 'shares_i64', 'fraction_from_text']) {
+    for (const other of [() => {}, undefined]) {
+      assert.throws(() => start({exports: {...found(), [`cellarcove_${name}`]: other}}), /^Error: cellarcove\.wasm is not as its table says: \w+ returns .* and not /, name);
+    }
+  }
+  start({exports: found()});
 });
 
 test('the version is that of the package', () => {
