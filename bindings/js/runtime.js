@@ -1,6 +1,6 @@
 // SPDX-FileCopyrightText: 2026 The Cellarcove authors
 // SPDX-License-Identifier: MIT OR Apache-2.0
-// What makes the calls of the module: it passes arguments to the exports for C, which are WebAssembly, and reads their results.
+// Passes arguments to the exports for C, which are WebAssembly, and reads their results.
 import * as rows from './table.js';
 import {STATUSES, STRUCTS} from './table.js';
 export {VERSION} from './table.js';
@@ -26,7 +26,7 @@ export class Refused extends RangeError {
 
 // ---- what an argument is called in an error
 
-/** What a call knows of the arguments that it reads: its name, the parameter and the place in a list, and the first refusal. */
+/** What a call knows of its arguments: its name, the parameter, the place in a list, and the first refusal. */
 const reading = (call) => ({call, parameter: '', place: -1, status: 0, words: ''});
 const named = ({parameter, place}) => place < 0 ? parameter : `${parameter}[${place}]`;
 
@@ -193,7 +193,7 @@ function partsOf(kind, value, names, name) {
 
 const NO_PARTS = {Fraction: {num: 0n, den: 1n}, Date: {year: 0n, month: 1, day: 1}}; // in the place of those of a text that is refused
 
-/** The fraction or the date of an argument, as an object or an array of its parts. */
+/** The fraction or date of an argument, as its parts. */
 function whole(kind, value, seen) {
   if (typeof value === 'string' && kind in NO_PARTS) return ofText(kind, value, seen);
   if (kind === 'Fraction' && (typeof value !== 'object' || value === null)) return {num: value, den: 1n};
@@ -211,13 +211,13 @@ function ofText(kind, text, seen) {
   return NO_PARTS[kind];
 }
 
-/** The status of a text that a call reads, and its result. */
+/** The status and the result of a call of a text. */
 function parsed(row, text) {
   const [form] = planOf(row).forms, status = run(form, [ENCODER.encode(text)]);
   return [status, value];
 }
 
-/** The status of a decimal text, its fraction, and what is wrong with it. The digits are two integers, of which `fractionNew` makes the fraction. */
+/** The status of a decimal text, its fraction, and what is wrong with it. */
 function ofDecimal(text) {
   const found = /^(-?)0*(\d+)(?:\.(\d*?)0*)?$/.exec(text);
   if (!found || text.endsWith('.')) return [Status.OUTSIDE, undefined, notDecimal(text)];
@@ -269,7 +269,7 @@ const CLASSES = {
 const SIZES = {i64: 8, u64: 8, n53: 8, i32: 4, u32: 4, u16: 2, u8: 1, bool: 1}; // n53: a number of 64 bits that is a safe integer
 const up = (at, align) => Math.ceil(at / align) * align;
 
-/** The size of a type, and its numbers with their names, types and places. */
+/** The size of a type, and its numbers. */
 function layout(kind) {
   if (SIZES[kind]) return {size: SIZES[kind], align: SIZES[kind], leaves: [{name: 'value', kind, at: 0}]};
   const leaves = [];
@@ -282,10 +282,10 @@ function layout(kind) {
   return {size: up(end, align), align, leaves};
 }
 
-// A call has the memory behind the program's own: a place for a struct of the result, one for each parameter, and room for lists. What changes
-// and is read by each call is a `var`, since a function that reads a `let` of the module checks each time that it has a value.
+// A call has the memory behind the program's own: a place for a struct of the result, one for each parameter, and room for lists.
+// A `var` is faster to read than a `let`.
 const PLACE = 64, TEXT = 64, ENCODER = /*#__PURE__*/ new TextEncoder();
-var RESULT, ROOM, RESULT_WORD, ROOM_WORD, WORDS, FIRST_WORD, SECOND_WORD, view, I64, U64, I32, U32, U8;
+var RESULT, ROOM, RESULT_WORD, ROOM_WORD, WORDS, view, I64, U64, I32, U32, U8;
 
 /** An address or a length, as the module takes it. */
 let word;
@@ -298,7 +298,6 @@ function reach(end) {
   if (view.buffer !== exports.memory.buffer) see(exports.memory.buffer);
 }
 
-/** Makes the views of the memory. */
 function see(buffer) {
   view = new DataView(buffer);
   [I64, U64, I32, U32, U8] = [BigInt64Array, BigUint64Array, Int32Array, Uint32Array, Uint8Array].map((kind) => new kind(buffer));
@@ -314,7 +313,6 @@ export function start(instance) {
   ROOM = RESULT + 16 * PLACE;
   [RESULT_WORD, ROOM_WORD] = [RESULT, ROOM].map(word);
   WORDS = Array.from({length: 6}, (_, place) => word(RESULT + PLACE * place));
-  [, FIRST_WORD, SECOND_WORD] = WORDS;
   see(found.memory.buffer);
   exports = found;
   try {
@@ -418,7 +416,7 @@ function lowerList({size, leaves, isText}, items, at) {
   return [at, items.length];
 }
 
-/** The numbers of a list that a call has written. */
+/** The numbers of a written list. */
 function listAt({at, kind, length}) {
   const get = GET[kind], found = [];
   for (let place = 0; place < length; place++) found.push(get(at + 8 * place));
@@ -454,9 +452,9 @@ function run({raw, parameters, inMemory, hasStatus, read}, given) {
   return status;
 }
 var value;
-var turns = 0; // how often a call has written its arguments into memory
+var turns = 0; // how often a call has written arguments
 
-/** The arguments of a call, as numbers, arrays of the parts of a struct, and lists of such arrays, and the numbers that choose the form. */
+/** The arguments of a call, as numbers, arrays of parts, and lists of such arrays, and the numbers that choose the form. */
 function taken({forms: [, other], parameters, hasWritten}, given, seen) {
   if (given.length !== parameters.length) throw new TypeError(`${seen.call} takes ${parameters.map((it) => it.isWritten ? 'count' : it.name).join(', ')}`);
   const wide = [];
@@ -508,7 +506,7 @@ function statusOf(plan, given, seen) {
   return status === Status.NOT_FITTING && areUnsigned ? run(unsigned, found) : status;
 }
 
-// ---- the short ways, for usual arguments: a call that has no result by its short way is made again, with what errors need
+// ---- the short ways, for usual arguments: without a result a call is made again, with what errors need
 
 /** How a short way takes a parameter: below FRACTION as a number. */
 const SHORT = {i64: 0, u64: 1, i32: 2, u32: 3, u16: 4, u8: 5, Fraction: 6, Date: 7}, FRACTION = 6, LIST = 8, BYTES = 10;
@@ -526,7 +524,7 @@ function planOf(row) {
   const parameters = all.filter(({isWritten}) => !isWritten || !hasWritten), kinds = parameters.map(shortKind);
   const [{kind, at}, other] = forms[0].leaves;
   const made = {
-    one: inMemory && !other ? kind : '', index: (RESULT + at) / SIZES[kind], // the type and the place of a result in memory that is one number
+    one: inMemory && !other ? kind : '', index: (RESULT + at) / SIZES[kind], // of a result that is one number
     forms, hasWritten, parameters, kinds, raw, inMemory, hasStatus, read, takesArrays: all.every(({item}) => !item), written: hasWritten ? all.at(-1).item : null,
     way: kinds[0] >= BYTES ? takesText : kinds.some((kind) => kind >= LIST) ? takesList : kinds.length > 2 ? takesMore : kinds[0] === FRACTION && kinds[1] === FRACTION ? takesFractions : takesFew,
     count: IS_LITTLE && !kinds.includes(undefined) && parameters.every(({isWritten}) => !isWritten) ? kinds.length : -1,
@@ -545,21 +543,14 @@ function numberOf(x, kind) {
 /** Whether a signed number is now at a place of the words. */
 function stores(x, at) {
   if (typeof x === 'number') {
-    const low = x | 0, halves = I32, place = 2 * at;
-    halves[place] = low;
-    halves[place + 1] = low >> 31;
-    return low === x || storesHigh(x, place + 1);
+    const low = x | 0;
+    I32[2 * at] = low;
+    I32[2 * at + 1] = low === x ? low >> 31 : Math.floor(x / 2 ** 32);
+    return low === x || Number.isSafeInteger(x);
   }
   if (typeof x !== 'bigint') return false;
-  const words = I64;
-  words[at] = x;
-  return words[at] === x;
-}
-
-/** Whether a number beyond 32 bits is an integer, whose upper half is now at a place. */
-function storesHigh(x, place) {
-  I32[place] = Math.floor(x / 2 ** 32);
-  return Number.isSafeInteger(x);
+  I64[at] = x;
+  return I64[at] === x;
 }
 
 /** Whether the call of a text has a result in memory: that of a short text that is right. */
@@ -587,13 +578,9 @@ function storesText(row, text, at) {
 /** Whether the parts of a fraction are now at a place. */
 function storesFraction(x, at) {
   if (typeof x === 'string') return storesText(rows.fractionFromText, x, at);
-  let num = x, den = 1;
-  if (typeof x === 'object' && x !== null) {
-    const isArray = Array.isArray(x);
-    if (isArray && x.length !== 2) return false;
-    num = isArray ? x[0] : x.num;
-    den = isArray ? x[1] : x.den;
-  }
+  if (typeof x !== 'object' || x === null) return stores(x, at) && stores(1, at + 1);
+  if (Array.isArray(x)) return x.length === 2 && stores(x[0], at) && stores(x[1], at + 1);
+  const {num, den} = x;
   return stores(num, at) && stores(den, at + 1);
 }
 
@@ -650,7 +637,7 @@ function takesMore(plan, a, b, c, d, e) { // three to five
   return hasResult(plan, plan.inMemory ? raw(RESULT_WORD, v, w, x, y, z) : raw(v, w, x, y, z));
 }
 
-/** That of two fractions. Four `BigInt`s, as those of results, are stored first and then read again, which is faster. */
+/** That of two fractions. */
 function takesFractions(plan, a, b) {
   if (typeof a !== 'object' || a === null || typeof b !== 'object' || b === null) return takesFew(plan, a, b);
   const turn = ++turns, isArray = Array.isArray(a), isArray2 = Array.isArray(b), at = RESULT + PLACE >> 3, at2 = at + PLACE / 8, words = I64;
@@ -665,7 +652,7 @@ function takesFractions(plan, a, b) {
     words[at2 + 1] = den2;
     if (words[at] !== num || words[at + 1] !== den || words[at2] !== num2 || words[at2 + 1] !== den2) return false;
   }
-  return turn === turns && hasResult(plan, plan.raw(RESULT_WORD, FIRST_WORD, SECOND_WORD));
+  return turn === turns && hasResult(plan, plan.raw(RESULT_WORD, WORDS[1], WORDS[2]));
 }
 
 function takesText(plan, text) {
@@ -685,18 +672,18 @@ function takesList(plan, a, b) {
   return true;
 }
 
-const hasShort = (plan, given) => given.length === plan.count && plan.way(plan, ...given);
+const hasShort = (plan, given) => given.length === plan.count && plan.way(plan, given[0], given[1], given[2], given[3], given[4]);
 
 // ---- calls
 
-/** The result of a call with a plan, by the name of a call. */
+/** The result of a plan, by the name of a call. */
 function resultOf(name, plan, given) {
   const seen = reading(name), status = statusOf(plan, given, seen);
   if (status !== 0) throw new Refused(status, name, seen.words);
   return value;
 }
 
-/** The plan of a call and its arguments. If it takes any count of numbers, they are a list, but for two of a call that has two. */
+/** The plan of a call and its arguments. Any count of numbers is a list, but for two of a call that has two. */
 function listed(row, many, given) {
   if (!many || row !== many && given.length === 2) return [planOf(row), given];
   return [planOf(many), given.length === 1 && typeof given[0] === 'object' && given[0] !== null ? given : [given]];
@@ -715,12 +702,12 @@ function attemptSlowly(name, row, many, ...given) {
   return {status, value};
 }
 
-/** The function of a call, which throws if there is no result. One that takes any count of numbers has the row of a list as well. */
+/** The function of a call, which throws if there is no result. One of any count of numbers has the row of a list as well. */
 export function call(name, row, many) {
   let plan = null;
   return (...given) => {
     plan ??= planOf(row);
-    return given.length === plan.count && plan.way(plan, given[0], given[1], given[2], given[3], given[4]) ? value : slowly(name, row, many, ...given);
+    return hasShort(plan, given) ? value : slowly(name, row, many, ...given);
   };
 }
 
@@ -729,7 +716,7 @@ export function attempt(name, row, many) {
   let plan = null;
   return (...given) => {
     plan ??= planOf(row);
-    return given.length === plan.count && plan.way(plan, given[0], given[1], given[2], given[3], given[4]) ? {status: 0, value} : attemptSlowly(name, row, many, ...given);
+    return hasShort(plan, given) ? {status: 0, value} : attemptSlowly(name, row, many, ...given);
   };
 }
 
@@ -754,7 +741,7 @@ function formOfArrays([form, other], cells, seen) {
   return wide.every(({given, parameter}) => isSigned(integer(given, {...seen, parameter}))) ? form : other;
 }
 
-/** The cells of the arguments: each an array or a number, and its type in either form. */
+/** The cells of the arguments: an array or a number, and its type in either form. */
 function cellsOf([form, other], given, seen) {
   return form.parameters.flatMap(({name, kind, leaves}, place) => {
     seen.parameter = name;
@@ -763,7 +750,6 @@ function cellsOf([form, other], given, seen) {
   });
 }
 
-/** An array of the items of a cell, which a number fills. */
 function column({given, parameter}, kind, length, seen) {
   seen.parameter = parameter;
   if (ArrayBuffer.isView(given)) {
@@ -775,7 +761,6 @@ function column({given, parameter}, kind, length, seen) {
   return new ARRAYS[kind](length).fill(x);
 }
 
-/** The results of a call of arrays, as arrays. */
 function ofArrays(call, {forms}, given) {
   const seen = reading(call);
   if (given.length !== forms[0].parameters.length) throw new TypeError(`${call} takes ${forms[0].parameters.map((it) => it.name).join(', ')}`);
@@ -841,7 +826,6 @@ const SHAPES = [[rows.gcd, '6', 12n, 18n], [rows.divModFloor, '-3,1', -8n, 3n], 
   [rows.fractionCmp, '-1', [1n, 3n], [1n, 2n]], [rows.plusMonths, '2024-02-29', '2024-01-31', 1n], [rows.weekday, '4', 0n], [rows.easter, '2024-03-31', 2024n],
   [rows.sumOf, '3', [1n, 2n]], [rows.shares, '2,1', 3n, [2n, 1n]], [rows.fractionFromText, '3/2', '6/4']];
 
-/** Throws if a call does not return its result. */
 function look() {
   for (const [row, wanted, ...given] of SHAPES) {
     const [[name]] = row;
