@@ -274,14 +274,15 @@ fn decimals() {
         format!("{decimal}|{decimal:10}|{decimal:<10}|{decimal:010}"),
         "-246.80|   -246.80|-246.80   |-000246.80"
     );
-    // equal decimals have the same digits
+    // decimals are equal if they are the same number, whatever their places
     let fewer = ratio(-1234, 5).to_decimal(1).unwrap();
     assert_eq!(
         (decimal == fewer, fewer.to_string()),
-        (false, "-246.8".to_string())
+        (true, "-246.8".to_string())
     );
-    let both: HashSet<Decimal> = [decimal, fewer, decimal].into_iter().collect();
-    assert_eq!(both.len(), 2);
+    let less = ratio(-12341, 50).to_decimal(2).unwrap();
+    let both: HashSet<Decimal> = [decimal, fewer, less].into_iter().collect();
+    assert_eq!((both.len(), less < fewer), (2, true));
     assert_eq!(ratio(1, 3).to_decimal(19), None);
     assert_eq!(ratio(1, 3).to_decimal(u32::MAX), None);
 }
