@@ -214,6 +214,8 @@ def written(macros: dict[str, list[str]], name: str, words: list[str]) -> int:
     repeats = [part[:2] == ['$', '('] for part in (head, body)]
     if repeats in ([True, False], [False, True]) or '$ (' in ' '.join(head[1:] + body[1:]):
         refuse(f'`{name}!`, which repeats a part')
+    if repeats[0] and ':' not in head:
+        refuse(f'`{name}!`, which repeats no variable')
     times = len(words) // head.count(':') if repeats[0] else 1
     within = (written(macros, body[k], body[k + 3:close(body, k + 2)])
               for k in range(len(body) - 2) if body[k] in macros and body[k + 1] == '!')
