@@ -72,7 +72,7 @@ def in_files() -> dict[str, int]:
 def rows(count: dict[str, int]) -> Iterator[tuple[str, str]]:
     """What is counted, and how many."""
     yield 'mutants, each meant to be wrong, that the prover has to reject', f'{count["mutants"]:,}'
-    yield ('results of `num-integer` that are compared, and of Python',
+    yield ('calls compared with `num-integer`, and with Python',
            f'{count["of_rust"]:,} and {count["of_python"]:,}')
     yield ('definitions of contracts that have a theorem in Coq',
            f'{count["in_coq"]:,} of {count["definitions"]:,}')
