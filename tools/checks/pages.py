@@ -240,7 +240,8 @@ def run(program: pathlib.Path, command: str, status: int) -> tuple[str, int]:
     programs, and `echo $?`."""
     if not COMMAND.fullmatch(command):
         return 'a command of another form\n', 1
-    calls = 'intcalc() { "$PROGRAM" "$@"; }; cargo() { "$PROGRAM/$3" "${@:4}"; }'
+    calls = ('intcalc() { "$PROGRAM" "$@"; }; cargo() { local name=$3; shift 3; '
+             '[ "$1" != -- ] || shift; "$PROGRAM/$name" "$@"; }')
     shell = f'{calls}; (exit {status}); {command}'
     ended = subprocess.run(['bash', '-c', shell], env={**os.environ, 'PROGRAM': str(program)}, stdin=subprocess.DEVNULL,
                            stdout=subprocess.PIPE, stderr=subprocess.STDOUT, check=False)
