@@ -45,11 +45,11 @@ has_no_state() {
     ! nm "$archive" | awk 'NF == 3 && $2 ~ /[BbDd]/' | grep .
 }
 
-# A program with one call has at most 2,000 bytes of text if the linker drops what is not called, and 85,000 if it does not.
+# A program with one call has at most 2,000 bytes of text if the linker drops what is not called, and 90,000 if it does not.
 is_dropped() {
     local text flag
     printf '#include <cellarcove.h>\nint main(int count, char **words) { return words == 0 || cellarcove_gcd_u64((uint64_t)count, 12).status; }\n' >"$work/one.c"
-    for flag in --gc-sections,2000 --no-gc-sections,85000; do
+    for flag in --gc-sections,2000 --no-gc-sections,90000; do
         cc -O2 -I bindings/c "$work/one.c" "$archive" "-Wl,${flag%,*}" -o "$work/one" && text=$(size "$work/one" | awk 'NR == 2 { print $1 }') &&
             echo "$flag: $text" && [ "$text" -le "${flag#*,}" ] || return 1
     done
