@@ -26,7 +26,7 @@ pub fn factorial<T: Integer + Copy>(n: T) -> T
     ensures factorial { T.value result ≡ factorial_of (T.value n) }
 {
     check(!is_negative(n), "`n` is negative");
-    product_above(zero(), n)
+    product_above(zero(), n, "the factorial does not fit")
 }
 
 /// Returns the falling factorial of `n` and `k`, the product `n * (n - 1) * ..` of `k` factors: in how many ways
@@ -51,13 +51,14 @@ pub fn falling<T: Integer + Copy>(n: T, k: T) -> T
     if is_below(n, k) {
         zero()
     } else {
-        product_above(difference(n, k), n)
+        product_above(difference(n, k), n, "the falling factorial does not fit")
     }
 }
 
-/// Returns the product of the numbers above `low` up to `high`.
+/// Returns the product of the numbers above `low` up to `high`. In plain Rust it panics with the reason if the product
+/// does not fit.
 #[tactic(auto, using(crate::proofs::FallingFactorials::product_first, crate::proofs::FallingFactorials::product_next))]
-fn product_above<T: Integer + Copy>(low: T, high: T) -> T
+fn product_above<T: Integer + Copy>(low: T, high: T, reason: &str) -> T
     requires in_range { T.fits (T.value low) × T.fits (T.value high) }
     requires from_zero { pos 0 ≤ℤ T.value low }
     requires ordered { T.value low ≤ℤ T.value high }
@@ -69,7 +70,7 @@ fn product_above<T: Integer + Copy>(low: T, high: T) -> T
     let mut factor = low;
     while is_below(factor, high) {
         factor = successor(factor);
-        ways = product_or(ways, factor, "the factorial does not fit");
+        ways = product_or(ways, factor, reason);
     }
     ways
 }

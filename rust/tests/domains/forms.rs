@@ -183,7 +183,7 @@ fn roots() {
 fn powers_and_factorials() {
     let (n, k) = ("`n` is negative", "`k` is negative");
     let (number, base) = ("the number is not positive", "the base is below 2");
-    let factorial = "the factorial does not fit";
+    let (factorial, falling) = ("the factorial does not fit", "the falling factorial does not fit");
     panics! {
         n {
             powers::sqrt_rem(-1);
@@ -203,6 +203,8 @@ fn powers_and_factorials() {
             counting::factorial(6u8);
             counting::factorial(21u64);
             counting::factorial(u64::MAX);
+        }
+        falling {
             counting::falling(8u8, 3);
             counting::falling(u128::MAX, 2);
         }
