@@ -48,12 +48,13 @@ function refuse(seen, status, words) {
 
 const MADE = Symbol('made'); // the last argument of a constructor, if a call has made the parts
 
+const PLACES = {num: 2, year: 3}; // the parts of an array, by the name of the first one: a pair of others has names alone
+
 /** The parts of a value: of an object by their names, and of an array by their places. */
 function parts(value, names, seen) {
-  if (typeof value !== 'object' || value === null || Array.isArray(value) && value.length !== names.length) {
-    throw wrong(seen, value, `which has not the parts ${names.join(', ')}`);
-  }
-  return Array.isArray(value) ? value : names.map((name) => value[name]);
+  const isArray = Array.isArray(value), found = isArray ? value : names.map((name) => value?.[name]);
+  if (isArray ? value.length !== PLACES[names[0]] : found.includes(undefined)) throw wrong(seen, value, `which has not the parts ${names.join(', ')}`);
+  return found;
 }
 
 export class Fraction {
@@ -381,7 +382,7 @@ function readerOf(result, leaves, inMemory) {
     const found = {...model};
     found[first] = a();
     found[second] = b();
-    return found;
+    return first === 'first' ? Object.freeze(found) : found;
   };
   return () => {
     const found = {...model};
@@ -403,7 +404,7 @@ function formOf([symbol, parameters, result, small]) {
     read: isStruct ? read : read ? (x) => Number(returned(x)) : returned,
     parameters: parameters.split(' ').map((parameter) => {
       const [name, kind] = parameter.split(':'), item = /\[(\w+)\]$/.exec(kind)?.[1];
-      return {name, kind, item, isWritten: kind.startsWith('&mut'), isText: item === 'u8', ...layout(item ?? kind)};
+      return {name, kind, item, isPair: /^.64[CS]/.test(kind), isWritten: kind.startsWith('&mut'), isText: item === 'u8', ...layout(item ?? kind)};
     }),
   };
 }
@@ -435,7 +436,8 @@ function run({raw, parameters, inMemory, hasStatus, read}, given) {
       room = up(room + parameter.size * list[1], 8);
       if (parameter.isWritten) written = {at: list[0], kind: parameter.item, length: argument};
       words.push(...list.map(word));
-    } else if (parameter.kind in STRUCTS) {
+    } else if (parameter.isPair) words.push(...argument);
+    else if (parameter.kind in STRUCTS) {
       const at = RESULT + PLACE * (place + 1);
       parameter.leaves.forEach((leaf, k) => SET[leaf.kind](at + leaf.at, argument[k]));
       words.push(word(at));
@@ -521,13 +523,13 @@ function planOf(row) {
   if (found) return found;
   if (!exports) throw new Error('cellarcove.wasm is not loaded yet: await ready before the first call');
   const forms = row.map(formOf), [{parameters: all, raw, inMemory, hasStatus, read}] = forms, hasWritten = all.filter(({item}) => item).length === 2;
-  const parameters = all.filter(({isWritten}) => !isWritten || !hasWritten), kinds = parameters.map(shortKind);
+  const parameters = all.filter(({isWritten}) => !isWritten || !hasWritten), hasPairs = all.some(({isPair}) => isPair), kinds = parameters.flatMap((it) => it.isPair ? it.leaves.map(shortKind) : shortKind(it));
   const [{kind, at}, other] = forms[0].leaves;
   const made = {
     one: inMemory && !other ? kind : '', index: (RESULT + at) / SIZES[kind], // of a result that is one number
     forms, hasWritten, parameters, kinds, raw, inMemory, hasStatus, read, takesArrays: all.every(({item}) => !item), written: hasWritten ? all.at(-1).item : null,
-    way: kinds[0] >= BYTES ? takesText : kinds.some((kind) => kind >= LIST) ? takesList : kinds.length > 2 ? takesMore : kinds[0] === FRACTION && kinds[1] === FRACTION ? takesFractions : takesFew,
-    count: IS_LITTLE && !kinds.includes(undefined) && parameters.every(({isWritten}) => !isWritten) ? kinds.length : -1,
+    way: kinds[0] >= BYTES ? takesText : kinds.some((kind) => kind >= LIST) ? takesList : hasPairs ? takesPairs : kinds.length > 2 ? takesMore : kinds[0] === FRACTION && kinds[1] === FRACTION ? takesFractions : takesFew,
+    count: IS_LITTLE && !kinds.includes(undefined) && parameters.every(({isWritten}) => !isWritten) ? parameters.length : -1,
   };
   plans.set(row, made);
   return made;
@@ -635,6 +637,11 @@ function takesMore(plan, a, b, c, d, e) { // three to five
   const y = kinds.length < 4 ? 0n : wordOf(d, kinds[3], 4), z = kinds.length < 5 ? 0n : wordOf(e, kinds[4], 5);
   if (v === undefined || w === undefined || x === undefined || y === undefined || z === undefined || turn !== turns) return false;
   return hasResult(plan, plan.inMemory ? raw(RESULT_WORD, v, w, x, y, z) : raw(v, w, x, y, z));
+}
+
+/** That of congruences or schedules, whose numbers it takes one by one. */
+function takesPairs(plan, ...given) {
+  return takesMore(plan, ...plan.parameters.flatMap(({isPair, leaves}, k) => isPair ? leaves.map(({name}) => given[k]?.[name]) : given[k]));
 }
 
 /** That of two fractions. */
@@ -795,10 +802,12 @@ function fill({raw, parameters, leaves, inMemory, hasStatus, result}, columns, o
 function fillSlowly({raw, parameters, leaves, inMemory, hasStatus, result}, columns, outputs, status) {
   const words = inMemory ? [RESULT_WORD] : [], steps = [];
   let next = 0;
-  parameters.forEach(({kind, leaves: inner}, place) => {
-    if (kind in SIZES) {
-      const word = words.push(0) - 1, items = columns[next++];
-      steps.push((i) => { words[word] = items[i]; });
+  parameters.forEach(({kind, isPair, leaves: inner}, place) => {
+    if (kind in SIZES || isPair) {
+      for (const _ of inner) {
+        const word = words.push(0) - 1, items = columns[next++];
+        steps.push((i) => { words[word] = items[i]; });
+      }
       return;
     }
     const at = RESULT + PLACE * (place + 1);
