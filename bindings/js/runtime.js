@@ -48,7 +48,7 @@ function refuse(seen, status, words) {
 
 const MADE = Symbol('made'); // the last argument of a constructor, if a call has made the parts
 
-const PLACES = {num: 2, year: 3}; // the parts of an array, by the name of the first one: a pair of others has names alone
+const PLACES = {num: 2, year: 3}; // how many parts an array has
 
 /** The parts of a value: of an object by their names, and of an array by their places. */
 function parts(value, names, seen) {
@@ -350,6 +350,7 @@ function integer(x, seen) {
   throw wrong(seen, x, typeof x === 'number' ? 'which is no safe integer' : 'which is neither a BigInt nor a safe integer');
 }
 
+const isInt = (x) => typeof x === 'number' && (x | 0) === x;
 const isSigned = (x) => typeof x === 'bigint' && BigInt.asIntN(64, x) === x, isUnsigned = (x) => BigInt.asUintN(64, x) === x;
 
 /** A number of a type. If the type lacks it, `seen` gets the status. The call itself refuses the largest month, week or day. */
@@ -382,7 +383,7 @@ function readerOf(result, leaves, inMemory) {
     const found = {...model};
     found[first] = a();
     found[second] = b();
-    return first === 'first' ? Object.freeze(found) : found;
+    return first === 'first' ? Object.freeze(found) : found; // solutions
   };
   return () => {
     const found = {...model};
@@ -639,7 +640,7 @@ function takesMore(plan, a, b, c, d, e) { // three to five
   return hasResult(plan, plan.inMemory ? raw(RESULT_WORD, v, w, x, y, z) : raw(v, w, x, y, z));
 }
 
-/** That of congruences or schedules, whose numbers it takes one by one. */
+/** That of congruences or schedules. */
 function takesPairs(plan, ...given) {
   return takesMore(plan, ...plan.parameters.flatMap(({isPair, leaves}, k) => isPair ? leaves.map(({name}) => given[k]?.[name]) : given[k]));
 }
@@ -647,19 +648,30 @@ function takesPairs(plan, ...given) {
 /** That of two fractions. */
 function takesFractions(plan, a, b) {
   if (typeof a !== 'object' || a === null || typeof b !== 'object' || b === null) return takesFew(plan, a, b);
-  const turn = ++turns, isArray = Array.isArray(a), isArray2 = Array.isArray(b), at = RESULT + PLACE >> 3, at2 = at + PLACE / 8, words = I64;
+  const turn = ++turns, isArray = Array.isArray(a), isArray2 = Array.isArray(b), at = RESULT + PLACE >> 3, at2 = at + PLACE / 8, ints = I32;
   if (isArray && a.length !== 2 || isArray2 && b.length !== 2) return false;
   const num = isArray ? a[0] : a.num, den = isArray ? a[1] : a.den, num2 = isArray2 ? b[0] : b.num, den2 = isArray2 ? b[1] : b.den;
-  if (typeof num !== 'bigint' || typeof den !== 'bigint' || typeof num2 !== 'bigint' || typeof den2 !== 'bigint') {
-    if (!stores(num, at) || !stores(den, at + 1) || !stores(num2, at2) || !stores(den2, at2 + 1)) return false;
-  } else {
-    words[at] = num;
-    words[at + 1] = den;
-    words[at2] = num2;
-    words[at2 + 1] = den2;
-    if (words[at] !== num || words[at + 1] !== den || words[at2] !== num2 || words[at2 + 1] !== den2) return false;
-  }
-  return turn === turns && hasResult(plan, plan.raw(RESULT_WORD, WORDS[1], WORDS[2]));
+  if (isInt(num) && isInt(den) && isInt(num2) && isInt(den2)) {
+    const k = 2 * at, m = 2 * at2; // a function for these is slower
+    ints[k] = num;
+    ints[k + 1] = num >> 31;
+    ints[k + 2] = den;
+    ints[k + 3] = den >> 31;
+    ints[m] = num2;
+    ints[m + 1] = num2 >> 31;
+    ints[m + 2] = den2;
+    ints[m + 3] = den2 >> 31;
+  } else if (isSigned(num) && isSigned(den) && isSigned(num2) && isSigned(den2)) {
+    I64[at] = num;
+    I64[at + 1] = den;
+    I64[at2] = num2;
+    I64[at2 + 1] = den2;
+  } else if (!stores(num, at) || !stores(den, at + 1) || !stores(num2, at2) || !stores(den2, at2 + 1)) return false;
+  if (turn !== turns) return false;
+  plan.raw(RESULT_WORD, WORDS[1], WORDS[2]);
+  if (ints[RESULT >> 2] !== 0) return false;
+  value = plan.one === 'i32' ? ints[plan.index] : plan.read();
+  return true;
 }
 
 function takesText(plan, text) {
@@ -680,8 +692,6 @@ function takesList(plan, a, b) {
 }
 
 const hasShort = (plan, given) => given.length === plan.count && plan.way(plan, given[0], given[1], given[2], given[3], given[4]);
-
-// ---- calls
 
 /** The result of a plan, by the name of a call. */
 function resultOf(name, plan, given) {
