@@ -48,12 +48,13 @@ function refuse(seen, status, words) {
 
 const MADE = Symbol('made'); // the last argument of a constructor, if a call has made the parts
 
+const PLACES = {num: 2, year: 3}; // how many parts an array has
+
 /** The parts of a value: of an object by their names, and of an array by their places. */
 function parts(value, names, seen) {
-  if (typeof value !== 'object' || value === null || Array.isArray(value) && value.length !== names.length) {
-    throw wrong(seen, value, `which has not the parts ${names.join(', ')}`);
-  }
-  return Array.isArray(value) ? value : names.map((name) => value[name]);
+  const isArray = Array.isArray(value), found = isArray ? value : names.map((name) => value?.[name]);
+  if (isArray ? value.length !== PLACES[names[0]] : found.includes(undefined)) throw wrong(seen, value, `which has not the parts ${names.join(', ')}`);
+  return found;
 }
 
 export class Fraction {
@@ -349,6 +350,7 @@ function integer(x, seen) {
   throw wrong(seen, x, typeof x === 'number' ? 'which is no safe integer' : 'which is neither a BigInt nor a safe integer');
 }
 
+const isInt = (x) => typeof x === 'number' && (x | 0) === x;
 const isSigned = (x) => typeof x === 'bigint' && BigInt.asIntN(64, x) === x, isUnsigned = (x) => BigInt.asUintN(64, x) === x;
 
 /** A number of a type. If the type lacks it, `seen` gets the status. The call itself refuses the largest month, week or day. */
@@ -381,7 +383,7 @@ function readerOf(result, leaves, inMemory) {
     const found = {...model};
     found[first] = a();
     found[second] = b();
-    return found;
+    return first === 'first' ? Object.freeze(found) : found; // solutions
   };
   return () => {
     const found = {...model};
@@ -403,7 +405,7 @@ function formOf([symbol, parameters, result, small]) {
     read: isStruct ? read : read ? (x) => Number(returned(x)) : returned,
     parameters: parameters.split(' ').map((parameter) => {
       const [name, kind] = parameter.split(':'), item = /\[(\w+)\]$/.exec(kind)?.[1];
-      return {name, kind, item, isWritten: kind.startsWith('&mut'), isText: item === 'u8', ...layout(item ?? kind)};
+      return {name, kind, item, isPair: /^.64[CS]/.test(kind), isWritten: kind.startsWith('&mut'), isText: item === 'u8', ...layout(item ?? kind)};
     }),
   };
 }
@@ -435,7 +437,8 @@ function run({raw, parameters, inMemory, hasStatus, read}, given) {
       room = up(room + parameter.size * list[1], 8);
       if (parameter.isWritten) written = {at: list[0], kind: parameter.item, length: argument};
       words.push(...list.map(word));
-    } else if (parameter.kind in STRUCTS) {
+    } else if (parameter.isPair) words.push(...argument);
+    else if (parameter.kind in STRUCTS) {
       const at = RESULT + PLACE * (place + 1);
       parameter.leaves.forEach((leaf, k) => SET[leaf.kind](at + leaf.at, argument[k]));
       words.push(word(at));
@@ -521,13 +524,13 @@ function planOf(row) {
   if (found) return found;
   if (!exports) throw new Error('cellarcove.wasm is not loaded yet: await ready before the first call');
   const forms = row.map(formOf), [{parameters: all, raw, inMemory, hasStatus, read}] = forms, hasWritten = all.filter(({item}) => item).length === 2;
-  const parameters = all.filter(({isWritten}) => !isWritten || !hasWritten), kinds = parameters.map(shortKind);
+  const parameters = all.filter(({isWritten}) => !isWritten || !hasWritten), hasPairs = all.some(({isPair}) => isPair), kinds = parameters.flatMap((it) => it.isPair ? it.leaves.map(shortKind) : shortKind(it));
   const [{kind, at}, other] = forms[0].leaves;
   const made = {
     one: inMemory && !other ? kind : '', index: (RESULT + at) / SIZES[kind], // of a result that is one number
     forms, hasWritten, parameters, kinds, raw, inMemory, hasStatus, read, takesArrays: all.every(({item}) => !item), written: hasWritten ? all.at(-1).item : null,
-    way: kinds[0] >= BYTES ? takesText : kinds.some((kind) => kind >= LIST) ? takesList : kinds.length > 2 ? takesMore : kinds[0] === FRACTION && kinds[1] === FRACTION ? takesFractions : takesFew,
-    count: IS_LITTLE && !kinds.includes(undefined) && parameters.every(({isWritten}) => !isWritten) ? kinds.length : -1,
+    way: kinds[0] >= BYTES ? takesText : kinds.some((kind) => kind >= LIST) ? takesList : hasPairs ? takesPairs : kinds.length > 2 ? takesMore : kinds[0] === FRACTION && kinds[1] === FRACTION ? takesFractions : takesFew,
+    count: IS_LITTLE && !kinds.includes(undefined) && parameters.every(({isWritten}) => !isWritten) ? parameters.length : -1,
   };
   plans.set(row, made);
   return made;
@@ -637,22 +640,38 @@ function takesMore(plan, a, b, c, d, e) { // three to five
   return hasResult(plan, plan.inMemory ? raw(RESULT_WORD, v, w, x, y, z) : raw(v, w, x, y, z));
 }
 
+/** That of congruences or schedules. */
+function takesPairs(plan, ...given) {
+  return takesMore(plan, ...plan.parameters.flatMap(({isPair, leaves}, k) => isPair ? leaves.map(({name}) => given[k]?.[name]) : given[k]));
+}
+
 /** That of two fractions. */
 function takesFractions(plan, a, b) {
   if (typeof a !== 'object' || a === null || typeof b !== 'object' || b === null) return takesFew(plan, a, b);
-  const turn = ++turns, isArray = Array.isArray(a), isArray2 = Array.isArray(b), at = RESULT + PLACE >> 3, at2 = at + PLACE / 8, words = I64;
+  const turn = ++turns, isArray = Array.isArray(a), isArray2 = Array.isArray(b), at = RESULT + PLACE >> 3, at2 = at + PLACE / 8, ints = I32;
   if (isArray && a.length !== 2 || isArray2 && b.length !== 2) return false;
   const num = isArray ? a[0] : a.num, den = isArray ? a[1] : a.den, num2 = isArray2 ? b[0] : b.num, den2 = isArray2 ? b[1] : b.den;
-  if (typeof num !== 'bigint' || typeof den !== 'bigint' || typeof num2 !== 'bigint' || typeof den2 !== 'bigint') {
-    if (!stores(num, at) || !stores(den, at + 1) || !stores(num2, at2) || !stores(den2, at2 + 1)) return false;
-  } else {
-    words[at] = num;
-    words[at + 1] = den;
-    words[at2] = num2;
-    words[at2 + 1] = den2;
-    if (words[at] !== num || words[at + 1] !== den || words[at2] !== num2 || words[at2 + 1] !== den2) return false;
-  }
-  return turn === turns && hasResult(plan, plan.raw(RESULT_WORD, WORDS[1], WORDS[2]));
+  if (isInt(num) && isInt(den) && isInt(num2) && isInt(den2)) {
+    const k = 2 * at, m = 2 * at2; // a function for these is slower
+    ints[k] = num;
+    ints[k + 1] = num >> 31;
+    ints[k + 2] = den;
+    ints[k + 3] = den >> 31;
+    ints[m] = num2;
+    ints[m + 1] = num2 >> 31;
+    ints[m + 2] = den2;
+    ints[m + 3] = den2 >> 31;
+  } else if (isSigned(num) && isSigned(den) && isSigned(num2) && isSigned(den2)) {
+    I64[at] = num;
+    I64[at + 1] = den;
+    I64[at2] = num2;
+    I64[at2 + 1] = den2;
+  } else if (!stores(num, at) || !stores(den, at + 1) || !stores(num2, at2) || !stores(den2, at2 + 1)) return false;
+  if (turn !== turns) return false;
+  plan.raw(RESULT_WORD, WORDS[1], WORDS[2]);
+  if (ints[RESULT >> 2] !== 0) return false;
+  value = plan.one === 'i32' ? ints[plan.index] : plan.read();
+  return true;
 }
 
 function takesText(plan, text) {
@@ -673,8 +692,6 @@ function takesList(plan, a, b) {
 }
 
 const hasShort = (plan, given) => given.length === plan.count && plan.way(plan, given[0], given[1], given[2], given[3], given[4]);
-
-// ---- calls
 
 /** The result of a plan, by the name of a call. */
 function resultOf(name, plan, given) {
@@ -795,10 +812,12 @@ function fill({raw, parameters, leaves, inMemory, hasStatus, result}, columns, o
 function fillSlowly({raw, parameters, leaves, inMemory, hasStatus, result}, columns, outputs, status) {
   const words = inMemory ? [RESULT_WORD] : [], steps = [];
   let next = 0;
-  parameters.forEach(({kind, leaves: inner}, place) => {
-    if (kind in SIZES) {
-      const word = words.push(0) - 1, items = columns[next++];
-      steps.push((i) => { words[word] = items[i]; });
+  parameters.forEach(({kind, isPair, leaves: inner}, place) => {
+    if (kind in SIZES || isPair) {
+      for (const _ of inner) {
+        const word = words.push(0) - 1, items = columns[next++];
+        steps.push((i) => { words[word] = items[i]; });
+      }
       return;
     }
     const at = RESULT + PLACE * (place + 1);

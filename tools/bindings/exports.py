@@ -1,9 +1,10 @@
 """The exports of crates/cellarcove_c: statuses, structs and calls, with their comments."""
 import functools
+import itertools
 import re
-from collections.abc import Iterator
+from collections.abc import Iterator, Sequence
 from pathlib import Path
-from typing import NamedTuple
+from typing import Any, NamedTuple
 
 import tools
 from tools import ROOT
@@ -19,6 +20,11 @@ ORDER = ('operators', 'division', 'invariant_divisors', 'divisors', 'coprime', '
          'texts', 'date_texts')
 
 
+# The pairs of numbers in a row whose positions are easily swapped, by the module of a call: their struct and their names.
+# Python and JavaScript take them by these names.
+PAIRS = {'congruences': ('Congruence', ('residue', 'modulus')), 'schedules': ('Schedule', ('first', 'period'))}
+IN_A_ROW = (('a', 'm'), ('b', 'n'), ('residue', 'modulus'), ('a', 'p'), ('b', 'q'), ('first', 'period'))
+OF_PAIRS = {'`m` or `n`': 'a modulus', '`p` or `q`': 'a period'}  # what a comment calls the parameters that these languages lack
 EACH = '_each'  # after the name of the call that is made of each number of a list
 
 
@@ -35,6 +41,11 @@ class Field(NamedTuple):
     @property
     def is_written(self) -> bool:
         return self.kind.startswith('&mut')
+
+    @property
+    def pair(self) -> str:
+        """The name of the pair that it is, or an empty text."""
+        return self.kind[3:] if self.kind in pairs() else ''
 
 
 class Status(NamedTuple):
@@ -89,6 +100,30 @@ class Call(NamedTuple):
         return [parameter for parameter in self.parameters if not (parameter.is_written and two_lists)]
 
 
+@functools.lru_cache(maxsize=1)
+def pairs() -> dict[str, Struct]:
+    """The structs of pairs, which an export takes as two numbers."""
+    return {f'{form.upper()}{name}': Struct(f'{form.upper()}{name}', [Field(part, form) for part in parts], '')
+            for name, parts in PAIRS.values() for form in ('i64', 'u64')}
+
+
+def by_names(call: Call) -> Call:
+    """The call as Python and JavaScript take it: a parameter for each pair."""
+    name, _ = PAIRS.get(call.module, ('', ()))
+    in_a_row = itertools.pairwise(parameter.name for parameter in call.parameters)
+    places = [place for place, names in enumerate(in_a_row) if name and names in IN_A_ROW]
+    words = ['one', 'other'] if len(places) == 2 else [name.lower()]
+    found = {place: Field(word, call.form.upper() + name) for place, word in zip(places, words)}
+    return call._replace(parameters=[found.get(place, field) for place, field in enumerate(call.parameters)
+                                     if place - 1 not in found])
+
+
+def in_pairs(call: Call, given: Sequence[Any]) -> list[Any]:
+    """What is given for the parameters of an export, with a tuple for each pair."""
+    rest = iter(given)
+    return [(next(rest), next(rest)) if parameter.pair else next(rest) for parameter in by_names(call).taken]
+
+
 class Exports(NamedTuple):
     statuses: list[Status]
     structs: dict[str, Struct]
@@ -100,9 +135,10 @@ class Exports(NamedTuple):
 
     def leaves(self, kind: str) -> list[tuple[str, str]]:
         """The numbers of a value of a type, as pairs of a path and a type, without its status."""
-        if kind not in self.structs:
+        struct = self.structs.get(kind) or pairs().get(kind)
+        if struct is None:
             return [('', kind)]
-        return [(f'.{field.name}{path}', leaf) for field in self.structs[kind].fields if field.name != 'status'
+        return [(f'.{field.name}{path}', leaf) for field in struct.fields if field.name != 'status'
                 for path, leaf in self.leaves(field.kind)]
 
     def forms(self) -> dict[str, list[Call]]:
@@ -170,6 +206,13 @@ def read() -> Exports:
             elif item.kind == 'fn' and 'no_mangle' in words:
                 found.calls.append(call_of(path.stem, source, item))
     return found
+
+
+def reworded(call: Call, doc: str) -> str:
+    """A comment in which a call of pairs has their names."""
+    for old, new in OF_PAIRS.items() if call.module in PAIRS else ():
+        doc = doc.replace(old, new)
+    return doc
 
 
 def without_returns(doc: str) -> str:

@@ -25,7 +25,7 @@ with contextlib.suppress(ImportError):  # the rows for JavaScript need only the 
     import cellarcove
 
 from tools.bindings.by_python import BAD_MODULUS, I64, NOT_FITTING, OUTSIDE, PROPERTIES, RESULTS, U64, ZERO_DENOMINATOR
-from tools.bindings.exports import EXPORTS, Call
+from tools.bindings.exports import EXPORTS, PAIRS, Call, by_names, in_pairs
 from tools.bindings.python import DIVIDES, LETTERS, MODULI, cells, grouped, public_calls
 
 COUNT = 200                                     # elements of an array
@@ -76,6 +76,19 @@ def as_object(value: Any) -> Any:
         return random.choice((datetime.date, cellarcove.Date))(*value)
     except (OverflowError, ValueError):
         return SimpleNamespace(year=value[0], month=value[1], day=value[2])
+
+
+def by_classes(call: Call, arguments: Sequence[Any]) -> Sequence[Any]:
+    """The arguments with a congruence or a schedule for each pair of numbers."""
+    def made(kind: str, pair: Any) -> Any:
+        return getattr(cellarcove, kind)(**dict(zip(dict(PAIRS.values())[kind], pair)))
+    if call.name == 'next_common_solution_of':
+        start, items = arguments
+        return start, (made('Congruence', item) for item in items)
+    if call.module not in PAIRS:
+        return arguments
+    return [made(parameter.pair, given) if parameter.pair else given
+            for parameter, given in zip(by_names(call).parameters, in_pairs(call, arguments))]
 
 
 def plain(result: Any) -> tuple[int, ...]:
@@ -129,7 +142,7 @@ def of_arrays(name: str, call: Call, taken: list[array.array[int]], number_last:
     if number_last:
         given[-1] = taken[-1][0]
         taken = [*taken[:-1], array.array(taken[-1].typecode, given[-1:]) * count]
-    found = getattr(cellarcove, name)(*grouped(call, given), errors='status')
+    found = getattr(cellarcove, name)(*by_classes(call, grouped(call, given)), errors='status')
     assert {len(column) for column in found} == {count}
     statuses, columns = found[-1].tolist(), [column.tolist() for column in found[:-1]]
     for numbers, status, values in zip(zip(*taken), statuses, zip(*columns)):
@@ -140,7 +153,7 @@ def of_arrays(name: str, call: Call, taken: list[array.array[int]], number_last:
 
 def raises(name: str, call: Call, given: Sequence[Any], statuses: Sequence[int]) -> None:
     """The same call raises the first status, or masks each."""
-    arguments, first = grouped(call, given), next((status for status in statuses if status), 0)
+    arguments, first = by_classes(call, grouped(call, given)), next((status for status in statuses if status), 0)
     try:
         getattr(cellarcove, name)(*arguments)
         right = first == 0
@@ -248,7 +261,7 @@ def is_by_zero(call: Call, status: int, arguments: Sequence[Any]) -> bool:
 def judge_one(name: str, call: Call, given: Sequence[Any], arguments: Sequence[Any]) -> None:
     """Makes a call, and judges what it returns for the arguments, or the class of the error."""
     try:
-        status, values = 0, plain(getattr(cellarcove, name)(*given))
+        status, values = 0, plain(getattr(cellarcove, name)(*by_classes(call, given)))
     except cellarcove.Refused as refused:
         status, values = int(refused.status), None
         kinds = {ZeroDivisionError: is_by_zero(call, status, arguments), OverflowError: status == NOT_FITTING}

@@ -6,7 +6,7 @@ from collections.abc import Iterable
 
 from tools.bindings.c import comment, in_order_of_need
 from tools.bindings.examples import DOCS
-from tools.bindings.exports import EXPORTS, VERSION, Call, Field, filled, without_returns
+from tools.bindings.exports import EXPORTS, VERSION, Call, Field, by_names, filled, pairs, reworded, without_returns
 
 WIDTH = 141
 FIELDS = {'day_of_month': 'day'}
@@ -44,9 +44,16 @@ def field(struct: str, name: str) -> str:
 
 def row(form: Call) -> list[str]:
     """What the table has of a form: the symbol, the parameters, the result, and the types of numbers that are small."""
-    parameters = ' '.join(f'{camel(parameter.name)}:{parameter.kind}' for parameter in form.parameters)
+    parameters = ' '.join(f'{camel(parameter.name)}:{parameter.kind}' for parameter in by_names(form).parameters)
     small = [' '.join(SMALL[form.name])] if form.name in SMALL else []
     return [form.symbol.removeprefix('cellarcove_'), parameters, form.result, *small]
+
+
+def row_text(forms: list[Call]) -> str:
+    """The row of a call. That of two forms is made of the signed one when the module is loaded."""
+    signed, *others = map(row, forms)
+    assert others in ([], [[word.replace('i64', 'u64').replace('I64', 'U64') for word in signed]]), forms
+    return f'/*#__PURE__*/ both({compact(signed)[1:-1]})' if others else compact([signed])
 
 
 def listed_names(names: list[str]) -> str:
@@ -59,15 +66,15 @@ def table() -> str:
     found = EXPORTS()
     statuses = ''.join(f'  [{compact(status.name)}, {json.dumps(status.reason)}],\n' for status in found.statuses)
     structs = ''.join(f'  {struct.name}: {compact([[field(struct.name, part.name), part.kind] for part in struct.fields])},\n'
-                      for struct in in_order_of_need(found.structs))
+                      for struct in in_order_of_need(found.structs | pairs()))
     names = [camel(name) for name in found.forms()]
-    calls = ''.join(f'export const {camel(name)} = {compact([row(form) for form in forms])};\n' for name, forms in found.forms().items())
+    calls = ''.join(f'export const {camel(name)} = {row_text(forms)};\n' for name, forms in found.forms().items())
     return filled('table.js', version=VERSION, statuses=statuses, structs=structs, calls=calls, names=listed_names(names))
 
 
 def comment_of(call: Call) -> str:
     said = without_returns(DOCS.get(call.name, call.doc)).replace('as a tuple', 'as an array')
-    return comment(re.sub('`[a-z_]+`', lambda name: camel(name[0]), ' '.join([said, *call.statuses])), width=WIDTH)
+    return comment(re.sub('`[a-z_]+`', lambda name: camel(name[0]), reworded(call, ' '.join([said, *call.statuses]))), width=WIDTH)
 
 
 def members(kinds: Iterable[tuple[str, str]]) -> str:
@@ -88,7 +95,8 @@ def result(call: Call) -> str:
     if call.writes:
         return 'bigint[]'
     found = results(call)
-    return CLASSES.get(call.result) or (leaf(found[0][1]) if len(found) == 1 else members((name, leaf(kind)) for name, kind in found))
+    is_frozen = 'Solutions' in call.result
+    return CLASSES.get(call.result) or (leaf(found[0][1]) if len(found) == 1 else members((f'{"readonly " * is_frozen}{name}', leaf(kind)) for name, kind in found))
 
 
 def columns(call: Call, wide: str) -> str:
@@ -106,11 +114,20 @@ def taken(parameter: Field) -> str:
         return 'string'
     if parameter.item:
         return 'Iterable<Integer>' if parameter.item in ARRAYS else 'Iterable<Congruence>'
-    return {'Fraction': 'Fractional', 'Date': 'Dated'}.get(parameter.kind, 'Integer')
+    return parameter.pair or {'Fraction': 'Fractional', 'Date': 'Dated'}.get(parameter.kind, 'Integer')
+
+
+def with_arrays(call: Call, parameter: Field, wide: str) -> str:
+    """The type of a parameter that may have arrays, of which those of the form have the type `wide`."""
+    if parameter.pair:
+        return f'{parameter.pair}Columns<{wide}>'
+    if parameter.kind in CLASSES:
+        return f'{taken(parameter)} | {CLASSES[parameter.kind]}Columns'
+    return f'Integer | {wide if parameter.kind == call.form else ARRAYS[parameter.kind]}'
 
 
 def declaration(name: str, forms: list[Call]) -> str:
-    call = forms[0]
+    call = by_names(forms[0])
     shown = [(COUNT if parameter.is_written else camel(parameter.name), parameter) for parameter in call.taken]
     plain = ', '.join(f'{word}: {"Integer" if parameter.is_written else taken(parameter)}' for word, parameter in shown)
     text = f'{comment_of(call)}export function {camel(name)}({plain}): {result(call)};\n'
@@ -119,9 +136,7 @@ def declaration(name: str, forms: list[Call]) -> str:
         text += f'export function {camel(name)}(numbers: Iterable<Integer>): {result(call)};\n' * (not call.has_slice)
     if not call.has_slice:
         wide = 'T' if len(forms) == 2 else ARRAYS.get(call.form, '')
-        kinds = [f'{taken(parameter)} | {CLASSES[parameter.kind]}Columns' if parameter.kind in CLASSES else
-                 f'Integer | {wide if parameter.kind == call.form else ARRAYS[parameter.kind]}' for _, parameter in shown]
-        arrays = ', '.join(f'{word}: {kind}' for (word, _), kind in zip(shown, kinds))
+        arrays = ', '.join(f'{word}: {with_arrays(call, parameter, wide)}' for word, parameter in shown)
         text += f'export function {camel(name)}{"<T extends Integers>" * (len(forms) == 2)}({arrays}): {columns(call, wide)};\n'
     text += f'export function {of_try(name)}({plain}): Attempt<{result(call)}>;\n'
     if name in MANY:

@@ -7,7 +7,7 @@ from typing import Any
 
 from tools import ROOT
 from tools.bindings.examples import DOCS, of_call, without_examples
-from tools.bindings.exports import EXPORTS, Call, Field, c_type, filled, without_returns
+from tools.bindings.exports import EXPORTS, PAIRS, Call, Field, by_names, c_type, filled, reworded, without_returns
 
 RENAMED = {'fraction_limit_denominator': 'limit_denominator'}
 ALIASES = {'comb': 'binomial', 'isqrt': 'sqrt'}
@@ -23,7 +23,7 @@ OBJECTS = {'i64': 'PyLong_FromLongLong', 'u64': 'PyLong_FromUnsignedLongLong', '
            'bool': 'PyBool_FromLong'}
 # The class of a result, and the scalar result of the stubs.
 CLASSES = {'Bezout': ('class_gcd', 'ExtendedGcd'), 'Solutions': ('class_solutions', 'Solutions'), 'IsoWeek': ('class_week', 'IsoWeek')}
-SHAPES = {'Fraction': 'f', 'Date': 'd'}
+SHAPES = {'Fraction': 'f', 'Date': 'd', 'Congruence': 'c', 'Schedule': 's'}
 MODULI = {'m', 'n', 'modulus', 'p', 'q', 'period'}  # the parameters whose 0 is the reason of `BAD_MODULUS`
 SEEN_TO = 'there is not one part for each weight, or if '  # a reason of a status that Python never meets, since it makes the parts
 DIVIDES = ('division', 'products')  # the modules whose parameters `y` and `d` are divisors
@@ -38,7 +38,25 @@ def public_calls() -> list[tuple[str, list[Call]]]:
 
 
 def parameter_names(call: Call) -> list[str]:
-    return [WRITTEN if parameter.is_written else PARAMETERS.get(parameter.name, parameter.name) for parameter in call.taken]
+    return [WRITTEN if parameter.is_written else PARAMETERS.get(parameter.name, parameter.name) for parameter in by_names(call).taken]
+
+
+def number_names(call: Call) -> list[str]:
+    """The parameters of a call of pairs with a name for each number, and none of another call."""
+    names = [PARAMETERS.get(parameter.name, parameter.name) for parameter in call.parameters]
+    return names if by_names(call) != call else []
+
+
+def shapes(call: Call) -> str:
+    """The letters of the parameters of a call."""
+    return ''.join('w' if parameter.name == WEEKDAY else SHAPES.get(parameter.pair or parameter.kind, 'n')
+                   for parameter in by_names(call).parameters)
+
+
+def names_of_one(call: Call) -> list[str]:
+    """The names of the numbers of a pair that is the only one, which a call takes too."""
+    found = [parameter.pair for parameter in by_names(call).parameters if parameter.pair]
+    return [*dict(PAIRS.values())[found[0]]] if len(found) == 1 else []
 
 
 def cells(call: Call) -> list[str]:
@@ -109,7 +127,9 @@ def signature(name: str, forms: list[Call]) -> str:
         return f'{name}($module, /, *numbers, {OPTIONS})'
     if forms[0].has_slice and len(forms[0].taken) == len(forms[0].parameters):
         return f'{name}($module, {", ".join(parameter_names(forms[0]))}, /)'
-    return f'{name}($module, /, {", ".join(parameter_names(forms[0]))}, *, {OPTIONS})'
+    given, numbers = parameter_names(forms[0]), names_of_one(forms[0])
+    given = [*given[:-1], f'{given[-1]}=None', '*', *(f'{number}=None' for number in numbers)] if numbers else [*given, '*']
+    return f'{name}($module, /, {", ".join(given)}, {OPTIONS})'
 
 
 RAISED = {'NOT_FITTING': '`NotFitting`', 'ZERO_DENOMINATOR': '`DivisionByZero`'}
@@ -117,6 +137,10 @@ RAISED = {'NOT_FITTING': '`NotFitting`', 'ZERO_DENOMINATOR': '`DivisionByZero`'}
 
 def raised(call: Call, unsigned: Call | None = None) -> str:
     """What a docstring says of the errors."""
+    return reworded(call, raised_by(call, unsigned))
+
+
+def raised_by(call: Call, unsigned: Call | None) -> str:
     names = RAISED | ({'OUTSIDE': '`DivisionByZero`'} if call.module in DIVIDES else {})
     others, said = {sentence.split('`')[1] for sentence in (unsigned or call).statuses}, list[str]()
     for sentence in call.statuses:
@@ -192,8 +216,7 @@ def call_text(name: str, forms: list[Call]) -> str:
     named = {form.form: f'&form_{form.symbol.removeprefix("cellarcove_")}' for form in forms}
     of_many = filled('of_many.c', name=name) if name in OF_MANY else ''
     return filled(
-        'call.c', name=name, count=str(len(call.parameters)), names=quoted(parameter_names(call)),
-        shapes=''.join('w' if parameter.name == WEEKDAY else SHAPES.get(parameter.kind, 'n') for parameter in call.parameters),
+        'call_of_pairs.c' if number_names(call) else 'call.c', name=name, count=str(len(shapes(call))), names=quoted(parameter_names(call)), shapes=shapes(call),
         divides=bools(divides(call)), follows=bools(follows), of_many=of_many,
         forms=f'NULL, {named["i64"]}, {named["u64"]}' if two else f'&form_{call.symbol.removeprefix("cellarcove_")}, NULL, NULL')
 
@@ -227,7 +250,7 @@ def method(name: str, forms: list[Call]) -> str:
     lines = f'{signature(name, forms)}\n--\n\n{docstring(name, forms)}'.replace('\\', '\\\\').replace('"', '\\"').split('\n')
     doc = '\n    '.join(f'"{line}\\n"' for line in lines)
     named = not forms[0].has_slice or len(forms[0].taken) < len(forms[0].parameters)
-    flags = 'METH_FASTCALL | METH_KEYWORDS' if named else 'METH_VARARGS' if len(forms[0].parameters) > 1 else 'METH_O'
+    flags = 'METH_VARARGS | METH_KEYWORDS' if number_names(forms[0]) else 'METH_FASTCALL | METH_KEYWORDS' if named else 'METH_VARARGS' if len(forms[0].parameters) > 1 else 'METH_O'
     cast = '(PyCFunction)(void (*)(void))' * named
     return f'    {{"{name}", {cast}py_{name}, {flags},\n    {doc}}},\n'
 
@@ -254,7 +277,7 @@ def calls_c() -> str:
                   names='\n        '.join(textwrap.wrap(quoted(public), 92)))
 
 
-PYTHON = {'Fraction': '_Fraction', 'Date': '_Date'}
+PYTHON = {'Fraction': '_Fraction', 'Date': '_Date'} | {f'{sign}64{name}': f'{name}[SupportsIndex]' for sign in 'IU' for name, _ in PAIRS.values()}
 NUMBER, COLUMN = 'SupportsIndex', '_Column'
 # The parameters of a call with columns that have names alone.
 NAMED = 'out: Any = ..., where: Any = ..., errors: _Errors = ...'
@@ -294,9 +317,9 @@ def listed_type(parameter: Field) -> str:
         return NUMBER
     if parameter.item == 'u8':
         return 'str'
-    leaves = len(EXPORTS().leaves(parameter.item))
-    return (f'{COLUMN} | Iterable[{NUMBER}]' if leaves == 1
-            else f'Iterable[tuple[{", ".join([NUMBER] * leaves)}]]')
+    if parameter.item in PYTHON:
+        return f'Iterable[{PYTHON[parameter.item]}]'
+    return f'{COLUMN} | Iterable[{NUMBER}]'
 
 
 def overloads(name: str, taken: list[tuple[str, str]]) -> str:
@@ -318,6 +341,8 @@ def stub(name: str, forms: list[Call]) -> str:
         return f'def {name}({taken}, /) -> {"tuple[int, ...]" if call.writes else scalar_result(call)}: ...\n'
     if name in OF_MANY:
         return filled('of_many.pyi', name=name, array=COLUMN, number=NUMBER, options=NAMED)
+    if number_names(call):
+        return stub_of_pairs(name, call)
     found = []
     for first in range(len(names)):
         kinds = [scalar_type(parameter) if k < first else column_types(parameter, k == first)
@@ -326,6 +351,20 @@ def stub(name: str, forms: list[Call]) -> str:
         found.append((f'{given}, *, {NAMED}', 'Any'))
     scalars = ', '.join(f'{name}: {scalar_type(parameter)}' for name, parameter in zip(names, call.parameters))
     return overloads(name, [*found, (scalars, scalar_result(call))])
+
+
+def stub_of_pairs(name: str, call: Call) -> str:
+    """A call of congruences or schedules, whose numbers may be columns."""
+    taken, numbers = [*zip(parameter_names(call), by_names(call).parameters)], names_of_one(call)
+    left_out = ''.join(f', {number}: None = ...' for number in numbers)
+    found = []
+    for kind, each, options, result in ((NUMBER, NUMBER, '', scalar_result(call)), (f'{COLUMN} | {NUMBER}', 'Any', f', {NAMED}', 'Any')):
+        pairs = ', '.join(f'{given}: {parameter.pair}[{each}]' if parameter.pair else f'{given}: {kind}' for given, parameter in taken)
+        found.append((f'{pairs}{", *" * bool(left_out or options)}{left_out}{options}', result))
+        if numbers:
+            given = [f'{given}: {"None = ..." if parameter.pair else kind}' for given, parameter in taken]
+            found.append((f'{", ".join([*given, "*", *(f"{number}: {kind}" for number in numbers)])}{options}', result))
+    return overloads(name, found)
 
 
 def stubs() -> str:

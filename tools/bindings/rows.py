@@ -15,12 +15,15 @@ from typing import Any
 
 from tools import ROOT
 from tools.bindings.by_python import I64, NOT_FITTING, RESULTS
-from tools.bindings.exports import EXPORTS, Call
+from tools.bindings.exports import EXPORTS, Call, in_pairs
 from tools.bindings.fuzz import RANGES, chosen, columns, flat, with_lists
 from tools.bindings.python import RENAMED, cells, grouped, parameter_names
 
 ROWS = ROOT / 'bindings/python/tests/rows.txt'
 LITERAL = re.compile(r'(\w+)(\(.*\))  # (?:raises \w+: ([A-Z_]+)|(.*))')
+# What rows.txt calls pairs.
+NAMES = {'Congruence': lambda residue, modulus: (residue, modulus), 'Schedule': lambda first, period: (first, period),
+         'Solutions': lambda first, step: (first, step)}
 CORNERS = 36  # rows of a call whose numbers are at an end of their types, or beside 0
 STATUSES = {status.name: status.number for status in EXPORTS().statuses}
 
@@ -45,8 +48,9 @@ def rows(forms: list[Call], count: int) -> Iterator[list[Any]]:
     for call in forms * (not given):
         found = [grouped(call, numbers) for numbers in zip(*columns(call))]
         given += found[:count] + corners(call)
-        yield [call.name, call.form or 'i64', found, *map(list, zip(*(returned(call, arguments) for arguments in found)))]
-    yield from ([forms[0].name, '', arguments, *returned(chosen(forms, arguments), arguments)] for arguments in given)
+        wanted = map(list, zip(*(returned(call, arguments) for arguments in found)))
+        yield [call.name, call.form or 'i64', [in_pairs(call, arguments) for arguments in found], *wanted]
+    yield from ([forms[0].name, '', in_pairs(forms[0], arguments), *returned(chosen(forms, arguments), arguments)] for arguments in given)
 
 
 def literal() -> Iterator[list[Any]]:
@@ -54,11 +58,15 @@ def literal() -> Iterator[list[Any]]:
     names = {RENAMED.get(name, name): name for name in EXPORTS().forms()}
     for name, given, status, value in LITERAL.findall(ROWS.read_text()):
         try:
-            arguments, result = eval(given[:-1] + ',)', {}), eval(value or '0', {})
+            arguments, result = eval(given[:-1] + ',)', dict(NAMES)), eval(value or '0', dict(NAMES))
         except (AttributeError, NameError, SyntaxError, TypeError):
             continue
         forms = EXPORTS().forms().get(names.get(name, ''))
-        if not forms or len(arguments) != len(parameter_names(forms[0])) or not all(isinstance(x, int) for x in flat(arguments)):
+        if not forms or not all(isinstance(x, int) for x in flat(arguments)):
+            continue
+        if len(arguments) == len(forms[0].parameters):
+            arguments = in_pairs(forms[0], arguments)
+        if len(arguments) != len(parameter_names(forms[0])):
             continue
         if status in {'', *STATUSES}:
             yield [names[name], '', arguments, STATUSES.get(status, 0), [] if status else list(result) if isinstance(result, tuple) else [result]]

@@ -3,15 +3,15 @@ from tools.bindings.exports import EACH, EXPORTS, Call, c_type, filled
 from tools.bindings.python import (
     CLASSES,
     LETTERS,
-    SHAPES,
     TYPES,
-    WEEKDAY,
     arguments,
     cells,
     divides,
+    number_names,
     parameter_names,
     public_calls,
     results,
+    shapes,
 )
 
 NUMPY = {
@@ -129,10 +129,7 @@ def shape(call: Call) -> str:
     """The letters of the parameters of a call."""
     if is_shared(call):
         return 'nl'
-    return ''.join(
-        'w' if parameter.name == WEEKDAY else SHAPES.get(parameter.kind, 'n')
-        for parameter in call.parameters
-    )
+    return shapes(call)
 
 
 def result(call: Call) -> str:
@@ -158,6 +155,7 @@ def table() -> str:
                 result(call),
                 EXPORTS().has_status(call),
                 tuple(k for k, by in enumerate(divides(call)) if by),
+                *([tuple(number_names(call))] * bool(number_names(call))),
             )
             rows += f'    {name!r}: Call{values!r},\n'
     return filled('_table.py', rows=rows)

@@ -3,11 +3,12 @@ import contextlib
 import re
 import shutil
 from pathlib import Path
+from typing import Any
 
 import pytest
 
 from tools import ROOT, as_made, write
-from tools.bindings import by_python, examples, exports, files, languages, orders, python
+from tools.bindings import by_python, examples, exports, files, fuzz, languages, orders, python
 from tools.erase import documentation
 from tools.erase.source import Source, Unknown
 from tools.pages import api, crate_page, picture, reference
@@ -31,9 +32,11 @@ def test_exports(tmp_path: Path, monkeypatch: pytest.MonkeyPatch, name: str, sli
 @pytest.mark.parametrize('name, forms', python.public_calls())
 def test_examples_of_python(name: str, forms: list[exports.Call]) -> None:
     """Each example of a comment is one that the tests of the package run."""
-    words = {'Date': lambda *parts: parts, name: lambda *given: [*given]}
+    def numbers(*given: Any, **named: Any) -> list[Any]:
+        return [*fuzz.flat([*given, *named.values()])]
+    words = dict.fromkeys(('Date', 'Congruence', 'Schedule', name), numbers)
     shown = [eval(given, words) for given, _ in python.examples(name)]
-    assert all(example.arguments in shown for example in examples.of_call(forms[0]))
+    assert all(numbers(*example.arguments) in shown for example in examples.of_call(forms[0]))
 
 
 @pytest.mark.parametrize('name, doc', [

@@ -19,17 +19,19 @@ export async function* rows(...words) {
 }
 
 export const camel = (name) => name.replace(/_(.)/g, (_, letter) => letter.toUpperCase());
-const parametersOf = (name, form) => CALLS[name].find(([symbol]) => !form || !/_[iu]64$/.test(symbol) || symbol.endsWith(form))[1]
+export const parametersOf = (name, form) => CALLS[name].find(([symbol]) => !form || !/_[iu]64$/.test(symbol) || symbol.endsWith(form))[1]
   .split(' ').map((it) => it.split(':')[1]);
+
+const isPair = (kind) => /^.64(Congruence|Schedule)$/.test(kind); // which has names alone
 
 // A number is passed as a BigInt and as a number, and a struct as an object, an array and at times a text.
 let turn = 0;
 const number = (text) => turn++ % 3 === 0 && Number.isSafeInteger(Number(text)) ? Number(text) : BigInt(text);
 const struct = (texts, kind) => {
   const numbers = texts.map(number);
-  return turn++ % 2 === 0 ? numbers : Object.fromEntries(STRUCTS[kind].map(([name], place) => [name, numbers[place]]));
+  return turn++ % 2 === 0 && !isPair(kind) ? numbers : Object.fromEntries(STRUCTS[kind].map(([name], place) => [name, numbers[place]]));
 };
-const argument = (given, kind) => {
+export const argument = (given, kind) => {
   const item = /\[(\w+)\]$/.exec(kind)?.[1];
   if (item === 'u8') return given;
   if (item && Array.isArray(given)) return given.map((it) => argument(it, item));

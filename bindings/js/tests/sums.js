@@ -98,7 +98,8 @@ export function sums({exports, BUILT_BY}, {CALLS, STRUCTS}) {
 
   /** The line of an export. */
   const line = ([symbol, parameters, result], place) => {
-    const kinds = parameters.split(' ').map((it) => it.split(':')[1]), places = kinds.map((_, k) => base + LIST * (k + 1)), last = places.at(-1);
+    const numbers = (kind) => /^[IU]64[CS]/.test(kind) ? STRUCTS[kind].map(([, type]) => type) : kind; // of a congruence or a schedule
+    const kinds = parameters.split(' ').flatMap((it) => numbers(it.split(':')[1])), places = kinds.map((_, k) => base + LIST * (k + 1)), last = places.at(-1);
     const makers = kinds.map((kind, k) => argument(kind, places[k])), inMemory = result in STRUCTS, {leaves} = layout(result);
     const isWritten = parameters.includes('&mut'), raw = exports[`cellarcove_${symbol}`];
     let results = 0;

@@ -5,7 +5,7 @@ import {createRequire} from 'node:module';
 import {test} from 'node:test';
 import {fileURLToPath, pathToFileURL} from 'node:url';
 import {inspect} from 'node:util';
-import {CALLS, camel, cellarcove, folder, judge, rows} from './rows.js';
+import {argument, CALLS, camel, cellarcove, folder, judge, parametersOf, rows} from './rows.js';
 
 const {BUILT_BY, Decimal, Fraction, fractionFromDecimal, PlainDate, ready, Refused, Status, tryFractionFromDecimal, VERSION, ...calls} = cellarcove;
 const {checkedDifference, divModFloor, easter, fractionAdd, gcd, gcdOf, inverseModulo, isLeapYear, isoWeek, lcm, nthRoot, plusMonths, shares, tryLcm} = calls;
@@ -13,7 +13,6 @@ const {choiceOfRank, daysBetween, daysInMonth, fractionCmp, fractionToDecimal, i
 const {sharesByLargestRemainder, tryFractionAdd, tryFractionToDecimal, tryPlusMonths, weekday} = calls;
 const found = [];
 const ofTry = (name) => `try${name[0].toUpperCase()}${name.slice(1)}`;
-const argument = (it) => Array.isArray(it) ? it.map(argument) : /^-?\d+$/.test(it) ? BigInt(it) : it;
 const LARGE = [['gcdOf', [[2n ** 60n]]], ['multinomial', [[30, 34]]], ['rank', [Array.from({length: 32}, (_, k) => k + 32), 64]], ['choiceOfRank', [2n ** 60n, 2n ** 61n, 1]],
   ...['daysBetween', 'monthsBetween', 'yearsBetween'].map((name) => [name, [[-(2n ** 53n), 1, 1], [2n ** 53n, 1, 1]]]),
   ['factorial', [20]], ['fractionToDecimal', [[1, 3], 18]], ['dayFromDate', [[2n ** 53n, 1, 1]]], ['fractionFromText', [`1/${2n ** 63n - 1n}`]],
@@ -190,9 +189,38 @@ test('an error has the name of the call, the parameter and the value in quotes',
     [() => gcdOf([4, 6, '8']), 'gcdOf: numbers[2] is "8", which is neither a BigInt nor a safe integer'],
     [() => shares(100, 3), 'shares: weights is 3, which is no list'],
     [() => divModFloor(1), 'divModFloor takes x, y'],
-    [() => calls.nextCommonSolutionOf(10, [[1, 4], [3]]), 'nextCommonSolutionOf: congruences[1] is [3], which has not the parts residue, modulus'],
+    [() => calls.nextCommonSolutionOf(10, [{residue: 1, modulus: 4}, [3]]), 'nextCommonSolutionOf: congruences[1] is [3], which has not the parts residue, modulus'],
+    [() => calls.nextCommonSolutionOf(10, [[1, 4]]), 'nextCommonSolutionOf: congruences[0] is [1, 4], which has not the parts residue, modulus'],
     [() => gcd(BigInt64Array.of(1n), new Int32Array(1)), 'gcd: the items of the arrays have different types, or are no integers of 64 bits'],
   ]) assert.throws(made, {message});
+});
+
+test('a congruence and a schedule have names, and no positions', () => {
+  const {chineseRemainder, countCongruent, countTimes, nextCommonSolution, nextCommonSolutionOf, nextCongruent, nextMeeting, previousCongruent, tryNextMeeting} = calls;
+  const one = {residue: 1, modulus: 4}, other = {modulus: 6, residue: 3}, bus = {first: 1, period: 4}, tram = {period: 6n, first: 3n};
+  assert.deepEqual([nextCongruent(10, one), previousCongruent(10, one), countCongruent(1, 10, one), nextCommonSolution(10, one, other), nextCommonSolutionOf(10, [one, other])], [13n, 9n, 3n, 21n, 21n]);
+  assert.deepEqual([chineseRemainder(one, other), nextMeeting(10, bus, tram), nextMeeting(10, tram, bus), countTimes(4, 15, tram), countTimes(-9, 15, tram)], [{first: 9n, step: 12n}, 21n, 21n, 2n, 3n]);
+  assert.ok(Object.isFrozen(chineseRemainder(one, other)) && Object.isFrozen(calls.solutions(6, 4, 10)));
+  assert.equal(nextCommonSolution(2n ** 63n, {residue: 2n ** 64n - 1n, modulus: 4}, {residue: 7, modulus: 8}), 2n ** 63n + 7n);
+  assert.equal(nextMeeting(10, {...bus, id: 7}, {...tram, name: 'x'}), 21n); // a row of a table may have other names
+  assert.deepEqual(nextMeeting(BigInt64Array.of(10n, -100n), bus, {first: BigInt64Array.of(3n, 0n), period: 6}), {value: BigInt64Array.of(21n, 0n), status: Uint8Array.of(0, 4)});
+  assert.deepEqual(chineseRemainder({residue: BigUint64Array.of(1n), modulus: 4}, {residue: 3, modulus: BigUint64Array.of(6n)}),
+    {first: BigUint64Array.of(9n), step: BigUint64Array.of(12n), status: Uint8Array.of(0)});
+  const noParts = (call, parameter, shown, names) => `${call}: ${parameter} is ${shown}, which has not the parts ${names}`, ofTime = 'first, period', ofResidue = 'residue, modulus';
+  for (const [made, message] of [
+    [() => chineseRemainder(1, 4, 3, 6), 'chineseRemainder takes one, other'], [() => nextCongruent(10, 1, 4), 'nextCongruent takes from, congruence'],
+    [() => nextMeeting(10, 1, 4, 3, 6), 'nextMeeting takes now, one, other'], [() => countTimes(4, 15, 3, 6), 'countTimes takes from, to, schedule'],
+    [() => nextCongruent(10, 4), noParts('nextCongruent', 'congruence', '4', ofResidue)], [() => nextCongruent(10, [1, 4]), noParts('nextCongruent', 'congruence', '[1, 4]', ofResidue)],
+    [() => nextMeeting(bus, 10, tram), 'nextMeeting: now is of type Object, which is neither a BigInt nor a safe integer'],
+    [() => nextMeeting(10, one, tram), noParts('nextMeeting', 'one', 'of type Object', ofTime)], [() => chineseRemainder(one, bus), noParts('chineseRemainder', 'other', 'of type Object', ofResidue)],
+    [() => nextMeeting(10, bus, {first: 3, step: 6}), noParts('nextMeeting', 'other', 'of type Object', ofTime)], [() => tryNextMeeting(10, bus, null), noParts('tryNextMeeting', 'other', 'null', ofTime)],
+    [() => nextMeeting(10, bus, '3'), noParts('nextMeeting', 'other', '"3"', ofTime)], [() => countTimes(4, 15, {period: 6}), noParts('countTimes', 'schedule', 'of type Object', ofTime)],
+    [() => nextMeeting(10, bus, {first: '3', period: 6}), 'nextMeeting: other is "3", which is neither a BigInt nor a safe integer'],
+    [() => nextMeeting(10, bus, {first: 3, period: 1.5}), 'nextMeeting: other is 1.5, which is no safe integer'],
+  ]) assert.throws(made, {name: 'TypeError', message});
+  for (const period of [0, -6]) assert.throws(() => nextMeeting(10, bus, {first: 3, period}), {status: Status.BAD_MODULUS});
+  assert.throws(() => nextMeeting(10, bus, {first: 2n ** 64n, period: 4}), {message: 'nextMeeting: NOT_FITTING: other is 18446744073709551616, which is out of range'});
+  assert.deepEqual(tryNextMeeting(0, {first: 0, period: 2}, {first: 1, period: 2}), {status: Status.NO_SOLUTION, value: undefined});
 });
 
 test('a row of a table is an object like any other', () => {
@@ -243,7 +271,7 @@ test('a result that is always below 2^53 is a number, and another is a BigInt', 
   const leaves = (place, value) => typeof value === 'boolean' ? undefined : typeof value !== 'object' ? look(place, value)
     : Array.isArray(value) ? value.forEach((it) => leaves(`${place}[]`, it)) : Object.entries(value).forEach(([name, it]) => leaves(`${place}.${name}`, it));
   for (const [name, given] of [...found.filter((row) => row[1] === '').map(([name, , given]) => [camel(name), given]), ...LARGE]) {
-    const {status, value} = calls[ofTry(name)](...CALLS[name][0][1].includes('[u8]') ? given : given.map(argument));
+    const {status, value} = calls[ofTry(name)](...given.map((it, place) => argument(it, parametersOf(name)[place])));
     if (status === 0) leaves(name, value);
   }
   assert.deepEqual([...kinds].filter(([, types]) => types.size !== 1), []);

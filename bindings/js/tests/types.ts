@@ -1,5 +1,5 @@
 // What compiles, and what does not: each line below `@ts-expect-error` has an error.
-import {cbrt, dayOfYear, daysInMonth, Decimal, easter, Fraction, fractionFromDecimal, ilog, lcm, ready, sqrtRem, sumOf, tryFractionFromDecimal, tryGcd, weekdayOfDate, fractionAdd, fractionToDecimal, gcd, gcdOf, isLeapYear, isoWeek, nextCommonSolutionOf, nthRoot, PlainDate, plusMonths, Refused, shares, Status, tryLcm, weekday} from 'cellarcove';
+import {cbrt, dayOfYear, daysInMonth, Decimal, easter, Fraction, fractionFromDecimal, ilog, lcm, ready, sqrtRem, sumOf, tryFractionFromDecimal, tryGcd, weekdayOfDate, fractionAdd, fractionToDecimal, gcd, gcdOf, isLeapYear, isoWeek, chineseRemainder, nextCommonSolutionOf, nextMeeting, Schedule, nthRoot, PlainDate, plusMonths, Refused, shares, Status, tryLcm, weekday} from 'cellarcove';
 
 const attempt = tryLcm(1, 2);
 const a: bigint = gcd(12n, 18);
@@ -35,9 +35,25 @@ gcdOf(['1']);
 const k: BigUint64Array = nthRoot(BigUint64Array.of(1n), 2).value;
 // @ts-expect-error
 nthRoot(1);
-const l: bigint = nextCommonSolutionOf(10, [[1, 4], {residue: 3, modulus: 6}]);
+const l: bigint = nextCommonSolutionOf(10, [{residue: 1, modulus: 4}, {residue: 3, modulus: 6n}]);
 // @ts-expect-error
 nextCommonSolutionOf(10, [1, 4]);
+// @ts-expect-error
+nextCommonSolutionOf(10, [[1, 4]]);
+const bus: Schedule = {first: 1, period: 4}, l2: bigint = nextMeeting(10, bus, {first: 3n, period: 6n}) + chineseRemainder({residue: 1, modulus: 4}, {residue: 3, modulus: 6}).step;
+// @ts-expect-error
+nextMeeting(10, 1, 4, 3, 6);
+// @ts-expect-error
+nextMeeting(10, bus, [3, 6]);
+// @ts-expect-error
+nextMeeting(10, bus, {first: 3, modulus: 6});
+// @ts-expect-error
+nextMeeting(10, bus, {first: 3, period: 6, id: 1});
+// @ts-expect-error
+nextMeeting(bus, 10, bus);
+// @ts-expect-error
+chineseRemainder({residue: 1, modulus: 4}, {residue: 3, modulus: 6}).step = 1n;
+const l3: BigInt64Array = nextMeeting(BigInt64Array.of(10n), bus, {first: BigInt64Array.of(3n), period: 6}).value;
 const m: number = weekday(4) + easter(2024).day;
 // @ts-expect-error
 new PlainDate('2024-01-01');

@@ -39,7 +39,7 @@ typedef struct {
     const char *name;
     Py_ssize_t count;
     const char *names[MAX_PARAMETERS];
-    const char *shapes;  /* of the parameters: a number, a day of the week, a fraction or a date */
+    const char *shapes;  /* of the parameters: a number, a fraction or the like */
     const bool *divides; /* whether the call divides by the number of a cell */
     const bool *follows; /* whether a cell has the type of the form */
     const form *only, *forms_i64, *forms_u64;
@@ -49,6 +49,7 @@ typedef struct {
 static PyObject *refusal, *out_of_range, *new_fraction, *new_decimal, *call_of_others, *items_of;
 static PyObject *add_others, *subtract_others, *class_tuple;
 static PyObject *class_date, *class_gcd, *class_solutions, *class_week, *class_weekday;
+static PyObject *call_of_pairs, *class_congruence, *class_schedule;
 static newfunc new_tuple;
 
 /* The names of the parts of an object that is a fraction, a date or a day of the week. */
@@ -412,7 +413,11 @@ static bool add_argument(numbers *to, PyObject *object, char shape) {
     if (shape == 'd' && is_date(object)) {
         return add_date(to, in(object));
     }
+    PyObject *class = shape == 'c' ? class_congruence : class_schedule;
     switch (shape) {
+    case 'c':
+    case 's':
+        return PyObject_TypeCheck(object, (PyTypeObject *)class) && add_parts(to, object, NULL, 2);
     case 'f': return add_parts(to, object, &names_of_parts[0], 2);
     case 'd': return add_parts(to, object, &names_of_parts[2], 3);
     default:
@@ -478,6 +483,19 @@ static PyObject *run(const call *c, PyObject *const *args, Py_ssize_t count, PyO
     }
     Py_XDECREF(others);
     return result;
+}
+
+/* Runs a call of congruences or schedules, or has the package bind what has another form. */
+static PyObject *run_pairs(const call *c, PyObject *args, PyObject *named) {
+    PyObject *given[MAX_PARAMETERS];
+    if (named != NULL || PyTuple_Size(args) != c->count) {
+        named = named == NULL ? Py_None : named;
+        return PyObject_CallFunction(call_of_pairs, "sOO", c->name, args, named);
+    }
+    for (Py_ssize_t p = 0; p < c->count; p++) {
+        given[p] = PyTuple_GetItem(args, p);
+    }
+    return run(c, given, c->count, NULL);
 }
 
 /* ---- lists ---- */
@@ -718,10 +736,10 @@ static int take_calls(void) {
 static PyObject *install(PyObject *module, PyObject *args) {
     static PyObject *kept;
     (void)module;
-    if (!PyArg_ParseTuple(args, "OOOOOOOOOOOOOO", &refusal, &out_of_range, &call_of_others,
-                          &items_of, &add_others, &subtract_others, &new_fraction, &new_decimal,
-                          &class_tuple, &class_date, &class_gcd, &class_solutions, &class_week,
-                          &class_weekday)) {
+    if (!PyArg_ParseTuple(args, "OOOOOOOOOOOOOOOOO", &refusal, &out_of_range, &call_of_others,
+                          &call_of_pairs, &items_of, &add_others, &subtract_others, &new_fraction,
+                          &new_decimal, &class_tuple, &class_date, &class_gcd, &class_solutions,
+                          &class_week, &class_weekday, &class_congruence, &class_schedule)) {
         return NULL;
     }
     Py_INCREF(args);

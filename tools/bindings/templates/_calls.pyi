@@ -8,8 +8,8 @@ from fractions import Fraction
 from typing import Any, Literal, Protocol, SupportsIndex, TypeVar, overload
 
 from . import (
-    Date, ExtendedGcd, IsoWeek, Solutions, SupportsColumn, SupportsColumns, SupportsDate,
-    SupportsFraction, Weekday,
+    Congruence, Date, ExtendedGcd, IsoWeek, Schedule, Solutions, SupportsColumn, SupportsColumns,
+    SupportsDate, SupportsFraction, Weekday,
 )
 
 class _Scalar(Protocol):  # a `datetime64` of numpy

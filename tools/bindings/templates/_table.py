@@ -10,11 +10,12 @@ class Call(NamedTuple):
     """A call. The types of its numbers have the letters of `array`, and `?` is a bool."""
 
     names: tuple[str, ...]
-    shapes: str                     # a number, a day of the week, a list, a fraction or a date
+    shapes: str                     # a number, a day of the week, a list, a fraction, a date, a congruence or a schedule
     forms: tuple[tuple[str, str], ...]  # the types of the numbers that a form takes and returns: the signed one first
     result: str                     # of several numbers: a date, or the name of a class
     has_status: bool
     divisors: tuple[int, ...]       # the numbers whose 0 is the reason of a status
+    numbers: tuple[str, ...] = ()   # of a call of congruences or schedules: the parameters if their numbers stand alone
 
 
 CALLS = {

@@ -11,8 +11,14 @@ export type Fractional = {readonly num: Integer; readonly den: Integer} | readon
 /** A date: one of this module or of Temporal in its calendar `iso8601`, another object of its parts, a tuple of them, or a text such as
  *  `2024-02-29`. A text that is no date is refused with `NO_DATE`. */
 export type Dated = {readonly year: Integer; readonly month: Integer; readonly day: Integer} | readonly [Integer, Integer, Integer] | string;
-/** A residue and a modulus. */
-export type Congruence = {readonly residue: Integer; readonly modulus: Integer} | readonly [Integer, Integer];
+/** The numbers that are `residue` modulo `modulus`. */
+export type Congruence = {readonly residue: Integer; readonly modulus: Integer};
+/** The times `first`, `first + period` and so on. */
+export type Schedule = {readonly first: Integer; readonly period: Integer};
+/** Many congruences. */
+export type CongruenceColumns<T> = {readonly residue: Integer | T; readonly modulus: Integer | T};
+/** Many schedules. */
+export type ScheduleColumns<T> = {readonly first: Integer | T; readonly period: Integer | T};
 /** Many fractions. */
 export type FractionColumns = {readonly num: Integer | BigInt64Array; readonly den: Integer | BigInt64Array};
 /** Many dates. */

@@ -15,6 +15,7 @@ export const STRUCTS = {
 
 // Each call, with one form or two: the symbol, the parameters with their types, the type of the result, and the types of its numbers if they
 // are smaller than those of the export.
+const both = (...row) => [row, row.map((it) => it.replaceAll('i64', 'u64').replaceAll('I64', 'U64'))];
 {calls}
 
 export const CALLS = {

@@ -27,19 +27,20 @@ from __future__ import annotations
 
 import datetime
 import enum
+import functools
 import operator
 from decimal import Decimal
 from fractions import Fraction
-from typing import Any, NamedTuple, NoReturn, Protocol, SupportsIndex, Union
+from typing import Any, NamedTuple, NoReturn, Protocol, SupportsIndex, TypeVar, Union
 
 from . import _calls, _columns
 from ._calls import *  # noqa: F401, F403
 
 __version__ = _calls.VERSION
 __all__ = [
-    'BUILT_BY', 'Date', 'DivisionByZero', 'ExtendedGcd', 'IsoWeek', 'NotFitting', 'Refused',
-    'Solutions', 'Status', 'SupportsColumn', 'SupportsColumns', 'SupportsDate', 'SupportsFraction',
-    'Weekday',
+    'BUILT_BY', 'Congruence', 'Date', 'DivisionByZero', 'ExtendedGcd', 'IsoWeek', 'NotFitting',
+    'Refused', 'Schedule', 'Solutions', 'Status', 'SupportsColumn', 'SupportsColumns',
+    'SupportsDate', 'SupportsFraction', 'Weekday',
 ]
 __all__ += _calls.__all__
 
@@ -169,6 +170,59 @@ class SupportsColumns(Protocol):
     def columns(self) -> Any: ...
     @property
     def iloc(self) -> Any: ...
+
+
+_Number = TypeVar('_Number', covariant=True)
+
+
+class _Pair(tuple[_Number, _Number]):
+    """Two numbers, which are given by their names, since their positions are easily swapped."""
+
+    __slots__ = ()
+    __match_args__: tuple[str, str]
+
+    def __repr__(self) -> str:
+        parts = ', '.join(f'{name}={value!r}' for name, value in zip(self.__match_args__, self))
+        return f'{type(self).__qualname__}({parts})'
+
+    def __reduce__(self) -> tuple[Any, ...]:
+        return functools.partial(type(self), **dict(zip(self.__match_args__, self))), ()
+
+
+class Congruence(_Pair[_Number]):
+    """The numbers that are `residue` modulo `modulus`. Either may be a column."""
+
+    __slots__ = ()
+    __match_args__ = ('residue', 'modulus')
+
+    def __new__(cls, *, residue: _Number, modulus: _Number) -> Congruence[_Number]:
+        return tuple.__new__(cls, (residue, modulus))
+
+    @property
+    def residue(self) -> _Number:
+        return self[0]
+
+    @property
+    def modulus(self) -> _Number:
+        return self[1]
+
+
+class Schedule(_Pair[_Number]):
+    """The times `first`, `first + period` and so on. Either number may be a column."""
+
+    __slots__ = ()
+    __match_args__ = ('first', 'period')
+
+    def __new__(cls, *, first: _Number, period: _Number) -> Schedule[_Number]:
+        return tuple.__new__(cls, (first, period))
+
+    @property
+    def first(self) -> _Number:
+        return self[0]
+
+    @property
+    def period(self) -> _Number:
+        return self[1]
 
 
 class ExtendedGcd(NamedTuple):
@@ -378,8 +432,9 @@ def _out_of_range(number: SupportsIndex, kind: str, place: int | None = None) ->
 _columns.refusal, _columns.out_of_range = _refusal, _out_of_range
 _columns.classes = {
     'Weekday': Weekday, 'ExtendedGcd': ExtendedGcd, 'Solutions': Solutions, 'IsoWeek': IsoWeek,
+    'c': Congruence, 's': Schedule,
 }
 _calls._install(
-    _refusal, _out_of_range, _columns.call, _columns.items, _add, _subtract, Fraction, Decimal,
-    _Tuple, Date, ExtendedGcd, Solutions, IsoWeek, Weekday,
+    _refusal, _out_of_range, _columns.call, _columns.call_of_pairs, _columns.items, _add, _subtract,
+    Fraction, Decimal, _Tuple, Date, ExtendedGcd, Solutions, IsoWeek, Weekday, Congruence, Schedule,
 )

@@ -11,6 +11,7 @@ import functools
 import importlib
 import operator
 import sys
+import warnings
 from collections.abc import Callable, Iterable, Sequence
 from decimal import Decimal
 from typing import Any, NamedTuple
@@ -177,6 +178,19 @@ def weight_cell(name: str, parameter: str, value: Any) -> Leaf:
     return Leaf(flat(value, 1), parameter)
 
 
+def pair_cells(name: str, parameter: str, value: Any, wanted: Any) -> list[Leaf]:
+    """The numbers of a congruence or of a schedule, or their columns."""
+    if not isinstance(value, wanted):
+        raise TypeError(f'{name}(): {parameter} is {value!r:.60}: pass {written(wanted)}')
+    named = zip(wanted.__match_args__, value)
+    return [cell(name, f'{parameter}.{part}', number) for part, number in named]
+
+
+def written(pair: Any) -> str:
+    """How a congruence or a schedule is written."""
+    return f'{pair.__name__}({", ".join(f"{name}=.." for name in pair.__match_args__)})'
+
+
 def leaves_of(name: str, call: Call, given: Sequence[Any]) -> list[list[Leaf]]:
     """The numbers and the columns of each argument."""
     found = []
@@ -185,6 +199,8 @@ def leaves_of(name: str, call: Call, given: Sequence[Any]) -> list[list[Leaf]]:
             found.append(date_cells(name, parameter, value))
         elif shape == 'f':
             found.append(fraction_cells(name, parameter, value))
+        elif shape in {'c', 's'}:
+            found.append(pair_cells(name, parameter, value, classes[shape]))
         elif shape == 'l':
             found.append([weight_cell(name, parameter, value)])
         else:
@@ -213,10 +229,61 @@ def call(name: str, given: Sequence[Any], named: dict[str, Any] | None) -> Any:
     if CALLS[name].shapes == 'nl':
         return shares_of_list(name, leaves[0].value, leaves[1].value)
     arguments = [
-        group[0].value if len(group) == 1 else tuple(leaf.value for leaf in group)
-        for group in found
+        pair_of(classes[shape], (leaf.value for leaf in group))
+        if shape in {'c', 's'}
+        else group[0].value
+        if len(group) == 1
+        else tuple(leaf.value for leaf in group)
+        for shape, group in zip(CALLS[name].shapes, found)
     ]
     return getattr(_calls, name)(*arguments)
+
+
+# ---- congruences and schedules
+
+
+def call_of_pairs(name: str, given: Sequence[Any], named: dict[str, Any] | None) -> Any:
+    """A call of congruences or schedules with names, or with the numbers of these one by one."""
+    names, shapes, numbers = CALLS[name].names, CALLS[name].shapes, CALLS[name].numbers
+    given, named = [value for value in given if value is not None], named or {}
+    options = {key: value for key, value in named.items() if key in NAMED}
+    named = {key: value for key, value in named.items() if not (key in NAMED or value is None)}
+    are_alone = len(given) > len(names) or bool(named.keys() & (set(numbers) - set(names)))
+    bound = bind(name, numbers if are_alone else names, given, named)
+    if are_alone:
+        start, pair = shapes.count('n'), classes[shapes[-1]]
+        if any(isinstance(value, pair) for value in bound):
+            raise TypeError(f'{name}() takes {written(pair)}, or its numbers by their names')
+        if len(shapes) - start > 1 or len(given) > start:
+            words = f'{name}() takes {written(pair)}: numbers alone are easily swapped'
+            warnings.warn(words, DeprecationWarning, stacklevel=2)
+        rest = iter(bound[start:])
+        bound = [*bound[:start], *(pair_of(pair, both) for both in zip(rest, rest))]
+    return call(name, bound, options) if options else getattr(_calls, name)(*bound)
+
+
+def pair_of(pair: Any, numbers: Iterable[Any]) -> Any:
+    """A congruence or a schedule of its numbers."""
+    return pair(**dict(zip(pair.__match_args__, numbers)))
+
+
+def bind(
+    name: str, names: Sequence[str], given: Sequence[Any], named: dict[str, Any]
+) -> list[Any]:
+    """The arguments in the order of the parameters."""
+    if len(given) > len(names):
+        raise TypeError(f'{name}() takes {len(names)} arguments and was given {len(given)}')
+    bound = dict(zip(names, given))
+    for key, value in named.items():
+        if key not in names:
+            raise TypeError(f'{name}() has no parameter {key}')
+        if key in bound:
+            raise TypeError(f'{name}() was given {key} twice')
+        bound[key] = value
+    missing = [key for key in names if key not in bound]
+    if missing:
+        raise TypeError(f'{name}() was given no {missing[0]}')
+    return [bound[key] for key in names]
 
 
 def shares_of_list(name: str, amount: int, weights: list[int]) -> Any:
@@ -235,6 +302,10 @@ def flat(value: Any, width: int) -> list[int]:
     if width == 1:
         return [operator.index(number) for number in value]
     numbers: list[int] = []
+    value = list(value)
+    if not all(isinstance(item, classes['c']) for item in value):
+        words = f'a pair is easily swapped: pass {written(classes["c"])}'
+        warnings.warn(words, DeprecationWarning, stacklevel=3)
     for item in value:
         parts = [operator.index(number) for number in item]
         if len(parts) != width:
