@@ -145,6 +145,18 @@ def test_slips_of_axioms(old: str, new: str, has: int, lacks: int) -> None:
     assert (found.count(True), found.count(False)) == (has, lacks)
 
 
+def test_facts_of_a_kit(tmp_path: Path) -> None:
+    """The name of a kit is no fact, so the page need not have it."""
+    write(tmp_path, {'rattle/logic/a/b.antt': 'x\n' * 1000, 'rattle/logic/c.antt': 'y\n',
+                     'rattle/logic/d.md': 'z\n', 'rattle/std/e.antt': 'z\n'})
+    facts = [*trust.facts_of_kit('rattle-kit-0 logic abc1\narchive 2\n', tmp_path)]
+    assert facts == ['sum=abc1', '1,001 lines of antt']
+    page = '`logic=proved sum=abc1` of a logic of 1,001 lines of antt.'
+    assert all(passed for _, passed in trust.compared(page, facts))
+    slips = trust.compared(page.replace('1,001', '1,002'), facts)
+    assert [line for line, passed in slips if not passed] == [f'{trust.PAGE} does not say: {facts[1]}']
+
+
 MUTANT = ROOT / 'crates/integer_core/must-fail-release/all_are_even.edit'
 
 
