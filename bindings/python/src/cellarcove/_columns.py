@@ -221,10 +221,11 @@ def call_of_others(name: str, given: Sequence[Any], names: Sequence[str] | None)
     if call.numbers:
         given = [value for value in given if value is not None]
         named = {key: value for key, value in named.items() if value is not None}
-        of_pairs = call.numbers[call.shapes.count('n') :]
-        if len(given) > len(call.names) or named.keys() & set(of_pairs):
-            return run(name, alone(name, given, named), options)
-    return run(name, bind(name, call.names, given, named), options)
+    if call.numbers and (len(given) > len(call.names) or named.keys() & set(call.pairs)):
+        bound = alone(name, given, named)
+    else:
+        bound = bind(name, call.names, given, named)
+    return run(name, bound, options) if options else getattr(_calls, name)(*bound)
 
 
 def run(name: str, given: Sequence[Any], named: dict[str, Any]) -> Any:
