@@ -216,7 +216,7 @@ def call_text(name: str, forms: list[Call]) -> str:
     named = {form.form: f'&form_{form.symbol.removeprefix("cellarcove_")}' for form in forms}
     of_many = filled('of_many.c', name=name) if name in OF_MANY else ''
     return filled(
-        'call_of_pairs.c' if number_names(call) else 'call.c', name=name, count=str(len(shapes(call))), names=quoted(parameter_names(call)), shapes=shapes(call),
+        'call.c', name=name, count=str(len(shapes(call))), shapes=shapes(call),
         divides=bools(divides(call)), follows=bools(follows), of_many=of_many,
         forms=f'NULL, {named["i64"]}, {named["u64"]}' if two else f'&form_{call.symbol.removeprefix("cellarcove_")}, NULL, NULL')
 
@@ -250,7 +250,7 @@ def method(name: str, forms: list[Call]) -> str:
     lines = f'{signature(name, forms)}\n--\n\n{docstring(name, forms)}'.replace('\\', '\\\\').replace('"', '\\"').split('\n')
     doc = '\n    '.join(f'"{line}\\n"' for line in lines)
     named = not forms[0].has_slice or len(forms[0].taken) < len(forms[0].parameters)
-    flags = 'METH_VARARGS | METH_KEYWORDS' if number_names(forms[0]) else 'METH_FASTCALL | METH_KEYWORDS' if named else 'METH_VARARGS' if len(forms[0].parameters) > 1 else 'METH_O'
+    flags = 'METH_FASTCALL | METH_KEYWORDS' if named else 'METH_VARARGS' if len(forms[0].parameters) > 1 else 'METH_O'
     cast = '(PyCFunction)(void (*)(void))' * named
     return f'    {{"{name}", {cast}py_{name}, {flags},\n    {doc}}},\n'
 
@@ -262,7 +262,7 @@ def calls_c() -> str:
     for name, forms in named:
         kinds = [parameter.item for parameter in forms[0].parameters if parameter.item]
         if len(kinds) == 2:
-            text += filled('divided.c', name=name, names=quoted(parameter_names(forms[0])), signed=forms[0].symbol if len(forms) == 2 else 'NULL', unsigned=forms[-1].symbol)
+            text += filled('divided.c', name=name, signed=forms[0].symbol if len(forms) == 2 else 'NULL', unsigned=forms[-1].symbol)
         elif kinds == ['u8']:
             text += filled('text.c', name=name, symbol=forms[0].symbol, kind=c_type(forms[0].result), result=object_of(forms[0]))
         elif kinds:

@@ -19,7 +19,7 @@
 #define METH_FASTCALL 0x0080
 #endif
 
-enum { MAX_PARAMETERS = 6, MAX_CELLS = 6 };
+enum { MAX_CELLS = 6 };
 
 /* The number of a cell. */
 typedef union {
@@ -38,7 +38,6 @@ typedef struct {
 typedef struct {
     const char *name;
     Py_ssize_t count;
-    const char *names[MAX_PARAMETERS];
     const char *shapes;  /* of the parameters: a number, a fraction or the like */
     const bool *divides; /* whether the call divides by the number of a cell */
     const bool *follows; /* whether a cell has the type of the form */
@@ -49,7 +48,7 @@ typedef struct {
 static PyObject *refusal, *out_of_range, *new_fraction, *new_decimal, *call_of_others, *items_of;
 static PyObject *add_others, *subtract_others, *class_tuple;
 static PyObject *class_date, *class_gcd, *class_solutions, *class_week, *class_weekday;
-static PyObject *call_of_pairs, *class_congruence, *class_schedule;
+static PyObject *class_congruence, *class_schedule;
 static newfunc new_tuple;
 
 /* The names of the parts of an object that is a fraction, a date or a day of the week. */
@@ -249,15 +248,6 @@ static Py_hash_t date_hash(PyObject *date) {
     return (Py_hash_t)days == -1 ? -2 : (Py_hash_t)days;
 }
 
-static PyObject *date_text(PyObject *object) {
-    cellarcove_date date = in(object);
-    char text[64];
-    bool is_near = 0 <= date.year && date.year <= 9999;
-    snprintf(text, sizeof text, is_near ? "%04lld-%02d-%02d" : "%+05lld-%02d-%02d",
-             (long long)date.year, date.month, date.day_of_month);
-    return PyUnicode_FromString(text);
-}
-
 static PyMemberDef date_members[] = {
     {"year", T_LONGLONG, offsetof(date_object, date.year), READONLY, NULL},
     {"month", T_UBYTE, offsetof(date_object, date.month), READONLY, NULL},
@@ -271,7 +261,6 @@ static PyType_Slot date_slots[] = {
     {Py_tp_new, (void *)date_new},
     {Py_tp_richcompare, (void *)date_compare},
     {Py_tp_hash, (void *)date_hash},
-    {Py_tp_str, (void *)date_text},
     {Py_nb_add, (void *)date_add},
     {Py_nb_subtract, (void *)date_subtract},
     {0, NULL},
@@ -318,53 +307,6 @@ static PyObject *run_one(const call *c, PyObject *const *objects, cell *cells, P
         result = c->forms_i64->one(cells, &status);
     }
     return status == 0 ? result : refused(status, by_zero);
-}
-
-/* Binds a named argument to its parameter, or adds it to the others. */
-static bool bind_name(const call *c, PyObject *name, PyObject *value, PyObject **bound,
-                      PyObject **others) {
-    Py_ssize_t p = 0;
-    while (p < c->count && PyUnicode_CompareWithASCIIString(name, c->names[p]) != 0) {
-        p++;
-    }
-    if (p < c->count && bound[p] != NULL) {
-        PyErr_Format(PyExc_TypeError, "%s() was given %U twice", c->name, name);
-        return false;
-    }
-    if (p < c->count) {
-        bound[p] = value;
-        return true;
-    }
-    if (*others == NULL) {
-        *others = PyDict_New();
-    }
-    return *others != NULL && PyDict_SetItem(*others, name, value) == 0;
-}
-
-/* The arguments of a call in the order of its parameters, which are borrowed, and the other named
- * ones. It is false after an error. */
-static bool bind(const call *c, PyObject *const *args, Py_ssize_t count, PyObject *names,
-                 PyObject **bound, PyObject **others) {
-    Py_ssize_t keywords = names == NULL ? 0 : PyTuple_Size(names), p = 0;
-    if (count > c->count) {
-        PyErr_Format(PyExc_TypeError, "%s() takes %zd arguments and was given %zd", c->name,
-                     c->count, count);
-        return false;
-    }
-    for (; p < c->count; p++) {
-        bound[p] = p < count ? args[p] : NULL;
-    }
-    for (Py_ssize_t k = 0; k < keywords; k++) {
-        if (!bind_name(c, PyTuple_GetItem(names, k), args[count + k], bound, others)) {
-            return false;
-        }
-    }
-    for (p = 0; p < c->count && bound[p] != NULL; p++) {
-    }
-    if (p < c->count) {
-        PyErr_Format(PyExc_TypeError, "%s() was given no %s", c->name, c->names[p]);
-    }
-    return p == c->count;
 }
 
 /* The numbers of a call: objects, which are owned, or NULL for one that is in its cell. */
@@ -451,51 +393,37 @@ static bool are_ints(const call *c, PyObject *const *args, Py_ssize_t count, PyO
     return p == count;
 }
 
-/* The call by the package, which takes what is no number. */
-static PyObject *run_others(const call *c, PyObject *const *bound, PyObject *others) {
-    PyObject *given = PyTuple_New(c->count);
-    for (Py_ssize_t p = 0; given != NULL && p < c->count; p++) {
-        Py_INCREF(bound[p]);
-        PyTuple_SetItem(given, p, bound[p]);
+/* The call by the package, which takes names, and what is no number. */
+static PyObject *run_others(const call *c, PyObject *const *args, Py_ssize_t count,
+                            PyObject *names) {
+    Py_ssize_t all = count + (names == NULL ? 0 : PyTuple_Size(names));
+    PyObject *given = PyTuple_New(all);
+    for (Py_ssize_t k = 0; given != NULL && k < all; k++) {
+        Py_INCREF(args[k]);
+        PyTuple_SetItem(given, k, args[k]);
     }
-    others = others == NULL ? Py_None : others;
+    names = names == NULL ? Py_None : names;
     return given == NULL ? NULL
-                         : PyObject_CallFunction(call_of_others, "sNO", c->name, given, others);
+                         : PyObject_CallFunction(call_of_others, "sNO", c->name, given, names);
 }
 
 static PyObject *run(const call *c, PyObject *const *args, Py_ssize_t count, PyObject *names) {
-    PyObject *bound[MAX_PARAMETERS], *others = NULL, *result = NULL;
+    PyObject *result = NULL;
     numbers found;
     found.count = 0;
     if (are_ints(c, args, count, names)) {
         return run_one(c, args, found.cells, count);
     }
-    if (bind(c, args, count, names, bound, &others)) {
-        if (others == NULL && add_arguments(&found, c, bound)) {
-            result = run_one(c, found.objects, found.cells, found.count);
-        } else if (!PyErr_Occurred() || PyErr_ExceptionMatches(PyExc_AttributeError)) {
-            PyErr_Clear();
-            result = run_others(c, bound, others);
-        }
+    if (names == NULL && count == c->count && add_arguments(&found, c, args)) {
+        result = run_one(c, found.objects, found.cells, found.count);
+    } else if (!PyErr_Occurred() || PyErr_ExceptionMatches(PyExc_AttributeError)) {
+        PyErr_Clear();
+        result = run_others(c, args, count, names);
     }
     while (found.count > 0) {
         Py_XDECREF(found.objects[--found.count]);
     }
-    Py_XDECREF(others);
     return result;
-}
-
-/* Runs a call of congruences or schedules, or has the package bind what has another form. */
-static PyObject *run_pairs(const call *c, PyObject *args, PyObject *named) {
-    PyObject *given[MAX_PARAMETERS];
-    if (named != NULL || PyTuple_Size(args) != c->count) {
-        named = named == NULL ? Py_None : named;
-        return PyObject_CallFunction(call_of_pairs, "sOO", c->name, args, named);
-    }
-    for (Py_ssize_t p = 0; p < c->count; p++) {
-        given[p] = PyTuple_GetItem(args, p);
-    }
-    return run(c, given, c->count, NULL);
 }
 
 /* ---- lists ---- */
@@ -675,20 +603,16 @@ typedef uint32_t by_unsigned(uint64_t, const uint64_t *, size_t, uint64_t *, siz
  * package, which takes arrays. It has a form for a negative number, or none. */
 static PyObject *divided(const call *c, PyObject *const *args, Py_ssize_t given, PyObject *names,
                          by_signed *of_signed, by_unsigned *of_unsigned) {
-    PyObject *bound[MAX_PARAMETERS], *others = NULL, *result = NULL;
+    PyObject *result = NULL;
     list of = {.width = 1};
     cell amount;
-    bool right = bind(c, args, given, names, bound, &others);
-    bool quick =
-        right && others == NULL && Py_TYPE(bound[0]) == &PyLong_Type && are_exact_ints(bound[1]);
-    int said = quick ? integer(bound[0], &amount) : 2;
+    bool quick = names == NULL && given == 2 && Py_TYPE(args[0]) == &PyLong_Type;
+    int said = quick && are_exact_ints(args[1]) ? integer(args[0], &amount) : 2;
     bool negative = is_negative(&amount, said);
     if (!fits(&amount, said, negative && of_signed != NULL ? 'q' : 'Q')) {
-        result = right ? run_others(c, bound, others) : NULL;
-        Py_XDECREF(others);
-        return result;
+        return run_others(c, args, given, names);
     }
-    if (!take_list(c->name, bound[1], false, &of)) {
+    if (!take_list(c->name, args[1], false, &of)) {
         return NULL;
     }
     size_t count = (size_t)of.count;
@@ -736,10 +660,10 @@ static int take_calls(void) {
 static PyObject *install(PyObject *module, PyObject *args) {
     static PyObject *kept;
     (void)module;
-    if (!PyArg_ParseTuple(args, "OOOOOOOOOOOOOOOOO", &refusal, &out_of_range, &call_of_others,
-                          &call_of_pairs, &items_of, &add_others, &subtract_others, &new_fraction,
-                          &new_decimal, &class_tuple, &class_date, &class_gcd, &class_solutions,
-                          &class_week, &class_weekday, &class_congruence, &class_schedule)) {
+    if (!PyArg_ParseTuple(args, "OOOOOOOOOOOOOOOO", &refusal, &out_of_range, &call_of_others,
+                          &items_of, &add_others, &subtract_others, &new_fraction, &new_decimal,
+                          &class_tuple, &class_date, &class_gcd, &class_solutions, &class_week,
+                          &class_weekday, &class_congruence, &class_schedule)) {
         return NULL;
     }
     Py_INCREF(args);

@@ -17,6 +17,11 @@ class Call(NamedTuple):
     divisors: tuple[int, ...]       # the numbers whose 0 is the reason of a status
     numbers: tuple[str, ...] = ()   # of a call of congruences or schedules: the parameters if their numbers stand alone
 
+    @property
+    def pairs(self) -> tuple[str, ...]:
+        """The numbers of the congruences or schedules."""
+        return self.numbers[self.shapes.count('n'):]
+
 
 CALLS = {
 {rows}

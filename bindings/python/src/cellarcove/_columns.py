@@ -209,14 +209,27 @@ def leaves_of(name: str, call: Call, given: Sequence[Any]) -> list[list[Leaf]]:
     return found
 
 
-def call(name: str, given: Sequence[Any], named: dict[str, Any] | None) -> Any:
-    """A call whose arguments are not all integers."""
-    if named is None and (found := quick(name, given)) is not None:
-        return found
-    named = named or {}
-    unknown = [key for key in named if key not in NAMED]
-    if unknown:
-        raise TypeError(f'{name}() has no parameter {unknown[0]}')
+def call_of_others(name: str, given: Sequence[Any], names: Sequence[str] | None) -> Any:
+    """A call with names, the last arguments, or whose arguments are not all integers."""
+    call = CALLS[name]
+    if names is None and len(given) == len(call.names):
+        found = quick(name, given)
+        return run(name, given, {}) if found is None else found
+    count = len(given) - len(names or ())
+    named, given = dict(zip(names or (), given[count:])), given[:count]
+    options = {key: named.pop(key) for key in NAMED if key in named}
+    if call.numbers:
+        given = [value for value in given if value is not None]
+        named = {key: value for key, value in named.items() if value is not None}
+    if call.numbers and (len(given) > len(call.names) or named.keys() & set(call.pairs)):
+        bound = alone(name, given, named)
+    else:
+        bound = bind(name, call.names, given, named)
+    return run(name, bound, options) if options else getattr(_calls, name)(*bound)
+
+
+def run(name: str, given: Sequence[Any], named: dict[str, Any]) -> Any:
+    """A call of all its arguments, with `out`, `where` and `errors` by their names."""
     errors = named.get('errors', 'raise')
     if errors not in ERRORS:
         raise ValueError(f'{name}(): errors is one of {", ".join(ERRORS)}, and not {errors!r}')
@@ -242,24 +255,18 @@ def call(name: str, given: Sequence[Any], named: dict[str, Any] | None) -> Any:
 # ---- congruences and schedules
 
 
-def call_of_pairs(name: str, given: Sequence[Any], named: dict[str, Any] | None) -> Any:
-    """A call of congruences or schedules with names, or with the numbers of these one by one."""
-    names, shapes, numbers = CALLS[name].names, CALLS[name].shapes, CALLS[name].numbers
-    given, named = [value for value in given if value is not None], named or {}
-    options = {key: value for key, value in named.items() if key in NAMED}
-    named = {key: value for key, value in named.items() if not (key in NAMED or value is None)}
-    are_alone = len(given) > len(names) or bool(named.keys() & (set(numbers) - set(names)))
-    bound = bind(name, numbers if are_alone else names, given, named)
-    if are_alone:
-        start, pair = shapes.count('n'), classes[shapes[-1]]
-        if any(isinstance(value, pair) for value in bound):
-            raise TypeError(f'{name}() takes {written(pair)}, or its numbers by their names')
-        if len(shapes) - start > 1 or len(given) > start:
-            words = f'{name}() takes {written(pair)}: numbers alone are easily swapped'
-            warnings.warn(words, DeprecationWarning, stacklevel=2)
-        rest = iter(bound[start:])
-        bound = [*bound[:start], *(pair_of(pair, both) for both in zip(rest, rest))]
-    return call(name, bound, options) if options else getattr(_calls, name)(*bound)
+def alone(name: str, given: Sequence[Any], named: dict[str, Any]) -> list[Any]:
+    """The arguments of a call of congruences or schedules whose numbers stand alone."""
+    call = CALLS[name]
+    bound = bind(name, call.numbers, given, named)
+    start, pair = call.shapes.count('n'), classes[call.shapes[-1]]
+    if any(isinstance(value, pair) for value in bound):
+        raise TypeError(f'{name}() takes {written(pair)}, or its numbers by their names')
+    if len(call.shapes) - start > 1 or len(given) > start:
+        words = f'{name}() takes {written(pair)}: numbers alone are easily swapped'
+        warnings.warn(words, DeprecationWarning, stacklevel=3)
+    rest = iter(bound[start:])
+    return [*bound[:start], *(pair_of(pair, both) for both in zip(rest, rest))]
 
 
 def pair_of(pair: Any, numbers: Iterable[Any]) -> Any:
