@@ -29,3 +29,17 @@ pub use Rattle.applied.proofs.NaturalWords.{nearest_is_natural, nearest_answer_i
 pub use Rattle.applied.proofs.Timetables.{least_as, count_as}
 -- The next run comes within a period; by divisibility at `i64`; and how many runs are before a time.
 pub use Rattle.applied.proofs.Timetables.{next_congruent_below, next_run_by_divisors, count_before}
+-- ---- instalments
+
+-- An amount has one list of instalments of a count. Those of a natural number, by `/` and `%`.
+pub use Rattle.applied.proofs.Instalments.{instalments_are_only, instalments_are_natural}
+-- ---- more natural numbers
+
+-- Which pages have items, that those up to the last one hold all, and the range of a page that begins within the items.
+pub use Rattle.applied.proofs.NaturalPages.{page_has_items, pages_hold, range_of_begun_page}
+-- The smallest power of two that is at least a number, of std's `checked_next_power_of_two`. `using` finds it.
+pub use Rattle.applied.proofs.PowersOfTwo.{next_power_of_two_is_least}
+-- ---- lists
+
+-- What holds of each item of a list, at its place, and of one more item.
+pub use Rattle.applied.proofs.PushedItems.{each_pushed}

@@ -9,10 +9,14 @@ pub mod ListDivisors
 pub mod SignedSums
 pub mod WeightedShares
 pub mod LargestRemainders
+pub mod Instalments
 pub mod NearestAnswers
 pub mod FallingFactorials
 pub mod FirstMultiples
 pub mod Timetables
 pub mod NaturalWords
+pub mod NaturalPages
+pub mod PowersOfTwo
+pub mod PushedItems
 pub mod Laws
 pub mod ForCallers

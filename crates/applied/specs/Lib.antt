@@ -6,6 +6,7 @@ pub mod Hashes
 pub mod Lists
 pub mod ReducedPairs
 pub mod Shares
+pub mod Instalments
 pub mod Totals
 pub mod SharesError
 pub use Rattle.num_integer.specs.Rounding

@@ -6,9 +6,11 @@ ghost use Rattle.std.specs.Prelude.{◌≡◌, ◌≢◌, ◌↔◌, ◌<◌, �
 ghost use Rattle.num_integer.specs.Only.{IsOnly};
 ghost use Rattle.applied.specs.Shares.{AreShares, AreSignedShares, CanBeShared, IsNearShare, signed_sum};
 
+mod equal;
 mod error;
 mod remainders;
 
+pub use equal::{IterInstalments, instalments};
 pub use error::SharesError;
 use num_integer::Magnitudes;
 pub use remainders::{shares_by_largest_remainder, signed_shares_by_largest_remainder};

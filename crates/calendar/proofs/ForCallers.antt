@@ -30,3 +30,5 @@ pub use Rattle.calendar.proofs.YearLengths.{length_range}
 -- The days from a first one on, to the one before an end, are as many as the end is after the first.
 -- They begin with the first, and go on with the days from the next one on.
 pub use Rattle.calendar.proofs.DayRanges.{days_from_first, first_of_days, no_days}
+-- The result of `plus_weeks` that `?` passes on, with a number of weeks that is an argument. `using` finds it.
+pub use Rattle.calendar.proofs.PassedOn.{weeks_passed_on}

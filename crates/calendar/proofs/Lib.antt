@@ -18,4 +18,5 @@ pub mod NextLastWeekdays
 pub mod IsoWeeks
 pub mod DatesOfDays
 pub mod EasterSundays
+pub mod PassedOn
 pub mod ForCallers

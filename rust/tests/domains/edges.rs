@@ -2,7 +2,7 @@
 //! value, and the first for which it panics. A guard that asks for one more or one less fails here.
 
 use cellarcove::applied::rolling_hash::RollingHash;
-use cellarcove::applied::{counting, layout, lists, paging, powers, ranking, schedules};
+use cellarcove::applied::{counting, layout, lists, paging, powers, ranking, schedules, shares};
 use cellarcove::bounded_integers::Percent;
 use cellarcove::calendar::days_in_month;
 use cellarcove::counted::{power_modulo_counted, SqrtCounted};
@@ -224,6 +224,22 @@ fn choices_and_ranks() {
         ranking::choice_of_rank(0, 3, &mut [0; 3]) => ();
         // more than 2^64 choices
         ranking::choice_of_rank(u64::MAX, u64::MAX, &mut [0; 3]) => ();
+    }
+}
+
+#[test]
+fn equal_instalments() {
+    let count = "the number of instalments is not positive";
+    panics! {
+        count {
+            shares::instalments(100i64, 0);
+            shares::instalments(100i64, -1);
+            shares::instalments(100u8, 0);
+        }
+    }
+    returns! {
+        shares::instalments(100i64, 1).next() => Some(100);
+        shares::instalments(100u8, 1).next() => Some(100);
     }
 }
 

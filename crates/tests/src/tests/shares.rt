@@ -2,7 +2,7 @@
 
 use super::rows::holds_at;
 use applied::shares::{
-    SharesError, shares_by_largest_remainder, signed_shares_by_largest_remainder,
+    SharesError, instalments, shares_by_largest_remainder, signed_shares_by_largest_remainder,
 };
 
 const MAX: u64 = u64::MAX;
@@ -94,5 +94,28 @@ fn largest_remainders_of_wrong_weights(rt: HostRuntime) {
         holds_at(&rt, length <= parts.len(), row);
         let shared = shares_by_largest_remainder(100, weights, &mut parts[..length]);
         holds_at(&rt, shared == Err(*error) && parts == [9, 8, 7], row);
+    }
+}
+
+/// An amount, a number of instalments, and the first three of them, or fewer, from divisions by hand.
+static INSTALMENTS: [(i64, i64, &[i64]); 7] = [
+    (100, 3, &[34, 33, 33]),
+    (-100, 3, &[-34, -33, -33]),
+    (99999, 12, &[8336, 8333, 8333]),
+    (2, 3, &[2, 0, 0]),
+    (5, 1, &[5]),
+    (i64::MIN, 1, &[i64::MIN]),
+    (i64::MIN, 2, &[i64::MIN / 2, i64::MIN / 2]),
+];
+
+#[test]
+fn instalments_of_amounts(rt: HostRuntime) {
+    for row in &INSTALMENTS {
+        let &(amount, count, first) = row;
+        let mut found = instalments(amount, count);
+        for item in first {
+            holds_at(&rt, found.next() == Some(*item), row);
+        }
+        holds_at(&rt, found.next().is_none() == (count <= 3), row);
     }
 }
