@@ -3,6 +3,7 @@
 //! The type of fractions, its arithmetic, and its string.
 
 mod limit;
+mod places;
 mod powers;
 mod rounding;
 mod sign;
@@ -348,9 +349,9 @@ impl Default for Ratio {
 
 /// Prints `num/den`, and only `num` if the denominator is 1.
 ///
-/// A precision prints the decimals that [`Ratio::to_decimal`] returns, `+` and `0` do what they do
-/// for integers, and a width puts the number on the right. A precision above 18 is a `fmt::Error`,
-/// with which `format!` panics.
+/// A precision prints the nearest decimal number with so many places, and of two equally near the
+/// one whose last digit is even, `+` and `0` do what they do for integers, and a width puts the
+/// number on the right.
 ///
 /// # Examples
 ///
@@ -359,6 +360,7 @@ impl Default for Ratio {
 ///
 /// assert_eq!(Ratio::new(6, -4).unwrap().to_string(), "-3/2");
 /// assert_eq!(format!("{:.2}", Ratio::new(1234, 5).unwrap()), "246.80");
+/// assert_eq!(format!("{:.20}", Ratio::new(2, 3).unwrap()), "0.66666666666666666667");
 /// assert_eq!(format!("{:+}", Ratio::new(1, 2).unwrap()), "+1/2");
 /// assert_eq!(format!("{:05}", Ratio::new(1, 2).unwrap()), "001/2");
 /// assert_eq!(format!("{:5}", Ratio::new(1, 2).unwrap()), "  1/2");
@@ -367,12 +369,10 @@ impl Default for Ratio {
 /// [Contract](crate::definitions::ratio64#display-for-ratio)
 impl fmt::Display for Ratio {
     fn fmt(&self, f: &mut fmt::Formatter<'_>) -> fmt::Result {
-        let Some(places) = f.precision() else {
-            return self.pad_number(f);
-        };
-        let places = u32::try_from(places).map_err(|_| fmt::Error)?;
-        let rounded = self.to_decimal(places).ok_or(fmt::Error)?;
-        rounded.pad_number(f)
+        match f.precision() {
+            Some(places) => self.pad_with_places(places, f),
+            None => self.pad_number(f),
+        }
     }
 }
 
