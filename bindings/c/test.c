@@ -194,6 +194,28 @@ static void roots(void) {
     REFUSES(cellarcove_nth_root_u64(1024, 0), CELLARCOVE_OUTSIDE);
 }
 
+/* A number has this square root, and what is left, at each type that it fits. */
+static bool has_root(uint64_t x, uint64_t root) {
+    uint64_t rest = x - root * root;
+    cellarcove_u64_root parts = cellarcove_sqrt_rem_u64(x);
+    if (cellarcove_sqrt_u64(x).value != root || parts.root != root || parts.rest != rest) {
+        return false;
+    }
+    cellarcove_i64_root of_signed = cellarcove_sqrt_rem_i64((int64_t)x);
+    return x > INT64_MAX || (cellarcove_sqrt_i64((int64_t)x).value == (int64_t)root && of_signed.root == (int64_t)root && of_signed.rest == (int64_t)rest);
+}
+
+/* The first roots, the last ones and random ones, each of its square, of the last number before the next square, and of a number
+   between them. */
+static void square_roots(void) {
+    uint64_t bits = 1;
+    for (uint64_t i = 0; i < 30000; i++) {
+        bits = bits * UINT64_C(6364136223846793005) + UINT64_C(1442695040888963407);
+        uint64_t root = i < 10000 ? i : i < 20000 ? UINT32_MAX - (i - 10000) : bits >> 32 >> i % 32, square = root * root;
+        CHECK(has_root(square, root) && has_root(square + 2 * root, root) && has_root(square + bits % (2 * root + 1), root));
+    }
+}
+
 /* By Pascal's rule, all binomial coefficients that a table of the library has, and those beside it. */
 static void small_coefficients(void) {
     uint64_t row[70] = {1}; /* that of n, with zeros after it */
@@ -650,6 +672,7 @@ int main(void) {
     divisors();
     lists();
     roots();
+    square_roots();
     powers();
     small_coefficients();
     coefficients();

@@ -1,6 +1,6 @@
 //! Tests of squares and of other powers of integers, square roots with what is left, and logarithms.
 
-ghost use Rattle.std.specs.Prelude.{◌≡◌, ◌≢◌, ◌↔◌, ◌≤◌, ◌<ℤ◌, ◌≤ℤ◌, ◌*ℤ◌, ℕ, ℤ, pos, IsTrue};
+ghost use Rattle.std.specs.Prelude.{◌≡◌, ◌≢◌, ◌↔◌, ◌<◌, ◌≤◌, ◌<ℤ◌, ◌≤ℤ◌, ◌*ℤ◌, ◌^◌, ℕ, ℤ, pos, IsTrue};
 ghost use Rattle.std.specs.Int.{int_pow};
 ghost use Rattle.applied.specs.Powers.{IsLogarithm};
 ghost use Rattle.cellarcove_c.specs.Answers.{Answers, Refuses};
@@ -8,6 +8,7 @@ ghost use Rattle.cellarcove_c.specs.Roots.{IsRootWithRest};
 ghost use Rattle.cellarcove_c.specs.Statuses.{StatusIs, answer_of, outside};
 
 use crate::answers::{OUTSIDE, U64Answer, with_status};
+use crate::square_roots::floor_square_root;
 use applied::powers::{checked, is_perfect_power, is_power, is_square};
 
 /// A status, and a square root with what is left.
@@ -89,7 +90,12 @@ pub extern "C" fn cellarcove_sqrt_rem_i64(x: i64) -> I64Root
     ensures { Answers {A = ℤ × ℤ} (pos 0 ≤ℤ x) (λ (root, rest). IsRootWithRest x root rest)
         (StatusIs outside) (pos 0, pos 0) result.status (result.root, result.rest) }
 {
-    I64Root::of(checked::sqrt_rem(x))
+    I64Root::of(if x < 0 {
+        None
+    } else {
+        let (root, rest) = root_with_rest(x as u64);
+        Some((root as i64, rest as i64))
+    })
 }
 
 /// Returns the square root rounded down, and what is left: `x` minus the square of the root. Those of 99 are 9
@@ -101,7 +107,7 @@ pub extern "C" fn cellarcove_sqrt_rem_u64(x: u64) -> U64Root
         (StatusIs outside) (0, 0) result.status (result.root, result.rest) }
     ensures always { result.status ≡ 0 }
 {
-    U64Root::of(checked::sqrt_rem(x))
+    U64Root::of(Some(root_with_rest(x)))
 }
 
 /// Returns the logarithm rounded down: the largest degree of a power of `base` that is at most `x`. For
@@ -149,6 +155,15 @@ impl U64Root {
         let (status, (root, rest)) = with_status(option, (0, 0), OUTSIDE);
         U64Root { status, root, rest }
     }
+}
+
+/// Returns the square root rounded down, and what is left. Those of 99 are 9 and 18.
+fn root_with_rest(x: u64) -> (u64, u64)
+    ensures parts { IsRootWithRest (pos x) (pos result.0) (pos result.1) }
+    ensures small { result.0 < 2 ^ 32 }
+{
+    let root = floor_square_root(x);
+    (root, x - root * root)
 }
 
 /// Returns the result of a logarithm.

@@ -7,6 +7,7 @@ ghost use Rattle.cellarcove_c.specs.Answers.{I64Answers, U64Answers};
 ghost use Rattle.cellarcove_c.specs.Statuses.{StatusIs, outside};
 
 use crate::answers::{I64Answer, OUTSIDE, U64Answer};
+use crate::square_roots::floor_square_root;
 use num_integer::{average_ceil, average_floor, cbrt, checked};
 
 /// Returns the average rounded down. That of 3 and 10 is 6, and that of 2^63 - 1 and 2^63 - 1 is 2^63 - 1.
@@ -48,17 +49,20 @@ pub extern "C" fn cellarcove_average_ceil_u64(x: u64, y: u64) -> u64
 pub extern "C" fn cellarcove_sqrt_i64(x: i64) -> I64Answer
     ensures { I64Answers (pos 0 ≤ℤ x) (IsRoot x 2) (StatusIs outside) result }
 {
-    I64Answer::of(checked::sqrt(x), OUTSIDE)
+    if x < 0 {
+        I64Answer::none(OUTSIDE)
+    } else {
+        I64Answer::some(floor_square_root(x as u64) as i64)
+    }
 }
 
 /// Returns the square root rounded down. That of 99 is 9, and that of 2^64 - 1 is 4294967295.
 #[unsafe(no_mangle)]
-#[tactic(auto, using(crate::proofs::NumbersReadBack::read_integers))]
 pub extern "C" fn cellarcove_sqrt_u64(x: u64) -> U64Answer
     ensures answer { U64Answers (pos 0 ≤ℤ pos x) (IsRoot (pos x) 2) (StatusIs outside) result }
     ensures always { result.status ≡ 0 }
 {
-    U64Answer::of(checked::sqrt(x), OUTSIDE)
+    U64Answer::some(floor_square_root(x))
 }
 
 /// Returns the cube root rounded toward 0. That of -9 is -2.
