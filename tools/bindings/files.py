@@ -1,6 +1,7 @@
 """Writes what C, C++, JavaScript and Python know of the exports, from the sources of
-crates/cellarcove_c, and the statuses on docs/ERRORS.md. The calls of Python in C are in no commit:
-bindings/python/hatch_build.py has them made."""
+crates/cellarcove_c, and the statuses on docs/ERRORS.md. languages.txt loses the lines of calls that
+have an export now. The calls of Python in C are in no commit: bindings/python/hatch_build.py has
+them made."""
 import re
 
 from tools import ROOT, write
@@ -8,7 +9,7 @@ from tools.bindings import javascript
 from tools.bindings.c import header
 from tools.bindings.cpp import hpp
 from tools.bindings.exports import EXPORTS
-from tools.bindings.languages import page
+from tools.bindings.languages import LIST, current, page
 from tools.bindings.python import calls_c, stubs
 from tools.bindings.ufuncs import table, ufuncs_c
 
@@ -31,7 +32,7 @@ def made() -> dict[str, str]:
     package = 'bindings/python/src/cellarcove'
     return {'bindings/c/cellarcove.h': header(), 'bindings/c/cellarcove.hpp': hpp(),
             f'{package}/_table.py': table(), f'{package}/_calls.pyi': stubs(),
-            'docs/LANGUAGES.md': page(), ERRORS: errors()} | javascript.made()
+            'docs/LANGUAGES.md': page(), LIST: current(), ERRORS: errors()} | javascript.made()
 
 
 def calls() -> dict[str, str]:

@@ -9,6 +9,7 @@ from tools.bindings.exports import EXPORTS, filled, listed
 from tools.bindings.javascript import camel
 from tools.bindings.python import ALIASES, RENAMED
 
+LIST = 'tools/bindings/languages.txt'
 CHECKED = re.compile(r'\bchecked::')
 RATIO = 'ratio64::Ratio::'
 CRATES = ('applied', 'bounded_integers', 'calendar', 'modular', 'ratio64')
@@ -67,8 +68,10 @@ class Row(NamedTuple):
 
 def rows() -> list[Row]:
     """A row of each call. Those below a path that has one reason share a row."""
-    names, reasons = listed('languages.txt', ' = '), listed('languages.txt', ': ')
-    forms, used, made = EXPORTS().forms(), set[str](), list[Row]()
+    names, forms = listed('languages.txt', ' = '), EXPORTS().forms()
+    reasons = {path: words for path, words in listed('languages.txt', ': ').items()
+               if not has_export(path)}
+    used, made = set[str](), list[Row]()
     for whole in sorted(paths(), key=lambda path: CHECKED.sub('', path)):
         path = CHECKED.sub('', whole)
         reason = reason_of(path, reasons)
@@ -89,6 +92,19 @@ def rows() -> list[Row]:
     assert not unknown and not lost, (f'tools/bindings/languages.txt: no such call '
                                       f'{sorted(unknown)}, no row of {sorted(lost)}')
     return made
+
+
+def has_export(path: str) -> bool:
+    """Whether a call of which languages.txt says why it has no export has one now."""
+    return not path.endswith('::') and default_of(path) in EXPORTS().forms()
+
+
+def current() -> str:
+    """languages.txt without the lines of calls that have an export now."""
+    stale = {f'{path}: {words}\n' for path, words in listed('languages.txt', ': ').items()
+             if has_export(path)}
+    lines = (ROOT / LIST).read_text().splitlines(keepends=True)
+    return ''.join(line for line in lines if line not in stale)
 
 
 def reason_of(path: str, reasons: Container[str]) -> str:

@@ -14,10 +14,12 @@ place, through all re-exports. `RULES` are the differences that are allowed. Eac
 alone, or says what it leaves out.
 
 An item that differs otherwise is `changed`; one that Rust lacks is `absent`; one that is in Rust
-alone is `by hand`, as is a file that decides what cargo compiles. tools/checks/erased.txt names
-each of these with a reason and a checksum of the text that was read for it, and no other item. So
-none comes, goes or changes unseen. What this script can't read, such as a module within a file, is
-an error. tools/tests/test_erased.py tries it on small trees, and on changes of the crate."""
+alone is `by hand`, as is a file that decides what cargo compiles. A name that an older place of
+a library gives out is none of these if it leads to that name in the library.
+tools/checks/erased.txt names each of these with a reason and a checksum of the text that was
+read for it, and no other item. So none comes, goes or changes unseen. What this script can't
+read, such as a module within a file, is an error. tools/tests/test_erased.py tries it on small
+trees, and on changes of the crate."""
 import collections
 import functools
 import hashlib
@@ -34,6 +36,7 @@ REPOSITORY = pathlib.Path(__file__).resolve().parent.parent.parent
 LIBRARIES = ('integer_core', 'integer_roots', 'num_integer', 'modular', 'ratio64', 'calendar',
              'bounded_integers', 'applied')
 AT_ROOT = 'num_integer'             # the library whose modules stand at the root in Rust
+MOVED = 'applied'                   # the library whose modules stood there, and give out its names
 # The crates for C and of the program, each with the root of its source and that of Rust.
 OTHERS = {'cellarcove_c': ('lib.rt', 'rust/c/src/lib.rs'),
           'intcalc_core': ('lib.rt', 'rust/intcalc/src/lib.rs'),
@@ -404,10 +407,15 @@ def form(item: Item, is_source: bool, rules: Collection[str]) -> str:
     return NAME.sub(led, text)
 
 
+def spaced(path: str) -> str:
+    return path.replace('::', ' :: ')
+
+
 def compare(source: Item | None, rust: Item | None) -> tuple[str, list[str]]:
     """The grade of an item, and the rules without which it would be changed."""
     if not source or not rust:
-        return ('absent' if source else 'by hand'), []
+        is_moved = rust and rust.text == f' pub use crate :: {MOVED} :: {spaced(rust.key[4:])} '
+        return ('same' if is_moved else 'absent' if source else 'by hand'), []
     if form(source, SOURCE, ()) == form(rust, RUST, ()):
         return 'same', []
     if form(source, SOURCE, RULES) != form(rust, RUST, RULES):

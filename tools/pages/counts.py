@@ -1,8 +1,9 @@
 """Counts what was tried, and writes the counts into pages.
 
 The table `Counts` of docs/TESTING.md has a row for each count, and README.md a sentence with some
-of them. Most are counted in the repository. What only a run of .ci/run can count, such as the tests of
-other packages, is in counts.txt:
+of them. Two pages have the sentence of tools/checks/erased.py, and docs/TRUST.md how long that is.
+Most are counted in the repository. What only a run of .ci/run can count, such as the tests of other
+packages, is in counts.txt:
 
     tools/cellarcove make counted LOG
     tools/cellarcove check counted LOG
@@ -15,8 +16,10 @@ from pathlib import Path
 
 from tools import ROOT, counted
 from tools.bindings.exports import EXPORTS
+from tools.checks import erased
 
 TABLE, PAGE, FRONT = ROOT / 'tools/pages/counts.txt', 'docs/TESTING.md', 'README.md'
+TRUST = 'docs/TRUST.md'
 EACH = 20_000                   # random calls of each export, which both archives answer alike
 OTHERS = ('num-bigint', 'num-rational', 'bigdecimal', 'num', 'num-iter', 'chrono')
 # What a run prints of a count. Those of several lines are added.
@@ -112,11 +115,30 @@ def replaced(name: str, place: re.Pattern[str], words: str) -> str:
     return text
 
 
+def renumbered(text: str, words: str) -> str:
+    """A page whose one sentence has the numbers of these words. Its lines stay as they are."""
+    parts = re.split(r'\d[\d,]*', words)
+    place = r'\d[\d,]*'.join(re.escape(part).replace(r'\ ', r'\s+') for part in parts)
+    numbers = iter(re.findall(r'\d[\d,]*', words))
+    found = [match[0] for match in re.finditer(place, text)]
+    assert len(found) == 1, f'{len(found)} places for: {words}'
+    return text.replace(found[0], re.sub(r'\d[\d,]*', lambda _: str(next(numbers)), found[0]))
+
+
+def of_erased() -> dict[str, str]:
+    """The pages with what tools/checks/erased.py finds, and how many lines it has."""
+    words = erased.sentence([*erased.rows(ROOT)])
+    pages = {name: renumbered((ROOT / name).read_text(), words) for name in erased.PAGES}
+    lines = Path(erased.__file__).read_text().count('\n')
+    pages[TRUST] = renumbered(pages[TRUST], f'**checked** by {lines} lines')
+    return pages
+
+
 def made() -> dict[str, str]:
     count = in_files() | of_runs()
     table = HEAD + ''.join(f'| {what} | {number} |\n' for what, number in rows(count))
     return {PAGE: replaced(PAGE, ROWS, table),
-            FRONT: replaced(FRONT, SENTENCE, wrapped(sentence(count)))}
+            FRONT: replaced(FRONT, SENTENCE, wrapped(sentence(count)))} | of_erased()
 
 
 def make_counted(words: list[str]) -> bool:

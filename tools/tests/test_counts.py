@@ -3,6 +3,7 @@ from pathlib import Path
 
 import pytest
 
+from tools.checks import erased
 from tools.pages import counts
 
 LOG = '''\
@@ -37,6 +38,15 @@ def test_another_count(tmp_path: Path, monkeypatch: pytest.MonkeyPatch, said: st
 def test_places() -> None:
     """A page has one place for the counts, and nothing else changes."""
     pages = counts.made()
-    assert set(pages) == {counts.PAGE, counts.FRONT}
+    assert set(pages) == {counts.PAGE, counts.FRONT, *erased.PAGES, counts.TRUST}
     assert counts.ROWS.sub('', pages[counts.PAGE]).count('| what | how many |') == 0
     assert len(counts.SENTENCE.findall(pages[counts.FRONT])) == 1
+
+
+def test_numbers_of_a_sentence() -> None:
+    page = 'It has 2 of them.\nOf 7 functions,\n1,000 are  here. Of 7 others, none.\n'
+    assert counts.renumbered(page, 'Of 10 functions, 999 are here.') == (
+        'It has 2 of them.\nOf 10 functions,\n999 are  here. Of 7 others, none.\n')
+    for slip in ('Of 7 functions are here.', 'Of 7 '):
+        with pytest.raises(AssertionError):
+            counts.renumbered(page, slip)

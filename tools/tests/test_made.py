@@ -181,4 +181,4 @@ def test_files_of_a_new_export(tmp_path: Path, monkeypatch: pytest.MonkeyPatch) 
     assert shown == [(f'{name}(8, 15)', 'True'), (f'{name}(8, 6)', 'False')]
     lacking = {place for place, text in made.items()
                if not re.search(f'{name}|hasNoCommonFactor', text)}
-    assert lacking == {files.ERRORS}    # which has the statuses, and no calls
+    assert lacking == {files.ERRORS, languages.LIST}    # which have other calls alone, or none
