@@ -1,20 +1,127 @@
 #!/usr/bin/env bash
-# Tries the mutants that CI does not try, crates/NAME/must-fail-release/*.edit: the prover must reject each. In a temporary copy of the
-# crates, it tries them in place of those of must-fail. With names of crates, it tries theirs alone. It prints a line for each that was
-# rejected, then what else `rt` said, and a count.
+# Tries the mutants that CI does not try, crates/NAME/must-fail-release/*.edit: the prover must
+# reject each. With names of crates, it tries theirs alone. The crates themselves are proved before,
+# by `.ci/run` or `rt check`.
 #
-# Once all of a crate were tried, `rt` keeps on this machine what it rejected, by the checksums of the edit and of the sources of the crate
-# and of those below it. So a run tries what has changed since an earlier one in any checkout, and a run that was stopped goes on with the
-# crate at which it was stopped. If nothing has changed, no library is built.
+# It tries lists of mutants side by side, RT_JOBS at once, each in a temporary copy in which they
+# take the place of those of must-fail. As soon as a list was tried, it prints a line for each
+# mutant that was rejected, and out/rejected keeps that line by the checksums of the mutant, of the
+# kit, and of the sources of the crate and of those below it. So a run tries what has changed, and a
+# run that was stopped goes on. At the end it prints what else `rt` said, and a count.
+#
+# The libraries below are those that `.ci/run` has left, if it has passed at this commit, or that
+# `rt lib` makes of what `rt check` has kept.
 #
 # usage: tools/gate/check_must_fail_release.sh [NAME..]
 set -uo pipefail
 cd "$(dirname "$0")/../.." || exit
 source tools/gate/lib.sh
+trap 'kill $(jobs -p) 2>/dev/null; rm -rf "$work"' EXIT
 
-refused='^(rt: )?must-fail [a-z0-9_]+/[^ ]+\.edit: refused, as it must be'
+most=36 # mutants of a list: its first one takes as long as the proof of the crate
+at_once=${RT_JOBS:-$(lanes)}
+kept=$PWD/out/rejected
+copy=$work/copy
 names=("$@")
 [ $# -gt 0 ] || mapfile -t names < <(printf '%s\n' crates/*/must-fail-release | cut -d / -f 2)
+mkdir -p "$kept" "$copy" "$work/lists" "$work/said"
+
+# sum_of NAME: a checksum of the kit, and of the sources of the crate and of those below it.
+sum_of() {
+    local below each folders=()
+    for below in $(crates_of "$1" | sort -u); do
+        for each in "crates/$below"/{src,specs,proofs}; do
+            [ ! -d "$each" ] || folders+=("$each")
+        done
+    done
+    { rt version && cat HANDLES &&
+        find "${folders[@]}" -type f | LC_ALL=C sort | xargs sha256sum; } |
+        sha256sum | cut -d ' ' -f 1
+}
+
+# key SUM EDIT: the words by which a line is kept.
+key() { echo "$1 $(sha256sum <"$2" | cut -d ' ' -f 1)"; }
+
+# has_kept NAME SUM EDIT: the prover has rejected the mutant.
+has_kept() { grep -qs "^$(key "$2" "$3") " "$kept/$1"; }
+
+# lists NAME: lists of the mutants that are left to try, in files, and the lines of the others.
+lists() {
+    local edit sum
+    sum=$(sum_of "$1") && touch "$kept/$1" || return
+    grep "^$sum " "$kept/$1" >"$work/line"
+    cp "$work/line" "$kept/$1" && echo "$sum" >"$work/$1.sum"
+    for edit in "crates/$1/must-fail-release"/*.edit; do
+        if has_kept "$1" "$sum" "$edit"; then
+            grep "^$(key "$sum" "$edit") " "$kept/$1" | head -n 1 | cut -d ' ' -f 3-
+        else
+            echo "$edit" >>"$work/$1.left"
+        fi
+    done
+    [ ! -e "$work/$1.left" ] || split -l "$most" "$work/$1.left" "$work/lists/$1."
+}
+
+# were_left NAME..: `rt ci` has proved the libraries of these crates, as they are, and left them.
+# Those that `rt lib` has made have a stamp.
+were_left() {
+    local name
+    [ -z "$(git status --porcelain)" ] &&
+        grep -qs "^gate: commit $(git rev-parse HEAD), kit $(rt version)," out/passed || return
+    for name; do [ ! -e "crates/$name/out/rlib/stamp" ] || return; done
+}
+
+# copies: the crates that are tried and those below them, with their libraries.
+copies() {
+    local list name part tried needed below
+    mapfile -t tried < <(for list in "$work"/lists/*; do basename "${list%.*}"; done | sort -u)
+    mapfile -t needed < <(for name in "${tried[@]}"; do crates_of "$name"; done | sort -u)
+    mapfile -t below < <(for name in "${tried[@]}"; do crates_of "$name" | sed 1d; done | sort -u)
+    grep -E "^($(IFS='|' && echo "${needed[*]}"))[: ]" crates.txt >"$copy/crates.txt"
+    cp HANDLES "$copy" || return
+    if ! were_left "${below[@]}"; then
+        for name in "${below[@]}"; do
+            (cd "crates/$name" && rt lib --jobs "$at_once") >"$work/log" 2>&1 ||
+                { tail -n 40 "$work/log" && return 1; }
+        done
+    fi
+    for name in "${needed[@]}"; do
+        mkdir -p "$copy/crates/$name/out" || return
+        for part in src specs proofs out/rlib; do
+            [ ! -d "crates/$name/$part" ] || linked "crates/$name/$part" || return
+        done
+    done
+    ! were_left "${below[@]}" || python3 tools/gate/stamps.py "$copy"
+}
+
+# linked FOLDER: has links to the files of a folder in the copy, or else copies of them.
+linked() {
+    cp -al "$1" "$copy/$1" 2>/dev/null || { rm -rf "${copy:?}/$1" && cp -a "$1" "$copy/$1"; }
+}
+
+# try_list LIST: tries its mutants, and keeps what was rejected.
+try_list() {
+    local name edit line there=$work/tried.${1##*/} said=$work/said/${1##*/}
+    name=$(basename "${1%.*}")
+    cp -al "$copy" "$there" && mkdir "$there/crates/$name/must-fail" &&
+        xargs cp -t "$there/crates/$name/must-fail" <"$1" &&
+        (cd "$there" && rt must-fail "$name") >"$said.all" 2>&1
+    while read -r edit; do
+        line="must-fail $name/${edit##*/}: refused, as it must be"
+        line=$(grep -E -m 1 "^(rt: )?${line//./\\.}" "$said.all") || continue
+        echo "$(key "$(cat "$work/$name.sum")" "$edit") ${line#rt: }" >>"$kept/$name"
+        echo "${line#rt: }" >>"$said.rejected"
+    done <"$1"
+    grep -vE '^(rt: )?must-fail [^ ]+: refused, as it must be' "$said.all" >"$said.other"
+    rm -rf "$there" "$said.all"
+}
+
+# show: prints what was rejected since it was called last.
+show() {
+    local each
+    for each in "$work/said"/*.other; do
+        [ ! -e "$each" ] || { cat "${each%.other}.rejected" 2>/dev/null; mv "$each" "$each.shown"; }
+    done
+}
 
 wanted=0
 for name in "${names[@]}"; do
@@ -24,23 +131,23 @@ for name in "${names[@]}"; do
         exit 2
     fi
     wanted=$((wanted + ${#edits[@]}))
+    lists "$name" || exit 2
 done
 
-# copy: these crates and those below them. In the copy the second suite is the first one, which the prover tries.
-copy() {
-    local name needed
-    mapfile -t needed < <(for name in "${names[@]}"; do crates_of "$name"; done | sort -u)
-    mkdir -p "$work/repository/crates" && cp -a "${needed[@]/#/crates/}" "$work/repository/crates" && cp HANDLES "$work/repository" &&
-        grep -E "^($(IFS='|' && echo "${needed[*]}"))[: ]" crates.txt >"$work/repository/crates.txt" || return
-    cd "$work/repository/crates" && rm -rf "${needed[@]/%//must-fail}" && for name in "${names[@]}"; do mv "$name/"must-fail{-release,} || return; done
-}
-
-(copy) || exit 2
-status=0
-(cd "$work/repository" && rt must-fail "${names[@]}") >"$work/tried" 2>&1 || status=1
-grep -E "$refused" "$work/tried" >"$work/refused"
-passed=$(wc -l <"$work/refused")
+if compgen -G "$work/lists/*" >/dev/null; then
+    copies || exit 2
+    for list in $(wc -l "$work/lists"/* | sort -rn | awk '$2 != "total" { print $2 }'); do
+        while [ "$(jobs -rp | wc -l)" -ge "$at_once" ]; do wait -n; show; done
+        try_list "$list" &
+    done
+    while [ -n "$(jobs -rp)" ]; do wait -n; show; done
+    show
+    cat "$work/said"/*.other.shown
+fi
+for name in "${names[@]}"; do
+    for edit in "crates/$name/must-fail-release"/*.edit; do
+        ! has_kept "$name" "$(cat "$work/$name.sum")" "$edit" || passed=$((passed + 1))
+    done
+done
 failed=$((wanted - passed))
-cat "$work/refused"
-grep -vE "$refused" "$work/tried" | if [ "$status" -eq 0 ]; then grep '^rt: '; else cat; fi
-finish && [ "$status" -eq 0 ]
+finish

@@ -35,6 +35,18 @@ tests() { awk '/^test result: ok/ { count += $4 } END { print count + 0, "tests"
 counted() { note=last_line check "$@"; }
 last_line() { tail -n 1 "$1"; }
 
+# lanes: how many checks run side by side: as many as there are processors, and 4 GB of memory for
+# each. A check with a second job takes less clock and over a fifth more processor time, so each has
+# one.
+lanes() {
+    local processors memory
+    processors=$(nproc)
+    memory=$(awk '/^MemAvailable:/ { print int($2 / 4000000) }' /proc/meminfo)
+    [ "$memory" -lt "$processors" ] && processors=$memory
+    [ "$processors" -gt 0 ] || processors=1
+    echo "$processors"
+}
+
 # has PROGRAM WHAT: the program is on the machine, or a line says that what needs it is skipped.
 has() {
     command -v "$1" >/dev/null || { echo "$2: skipped, since there is no $1"; return 1; }
