@@ -1,9 +1,10 @@
-"""What Python's own arithmetic answers where the tests of crates/replay ask ratio64, modular, calendar and applied, for
-crates/replay/src/tests/libraries.rt. `tools/cellarcove make python` writes it.
+"""What Python's own arithmetic answers where the tests of crates/replay ask ratio64, modular,
+calendar and applied, for crates/replay/src/tests/libraries.rt. `tools/cellarcove make python`
+writes it.
 
-Each function stands beside the one of its name in crates/replay, and goes over the same inputs in the same order. Most results are
-those of tools/bindings/by_python.py, with which the exports are compared too.
-"""
+Each function stands beside the one of its name in crates/replay, and goes over the same inputs in
+the same order. Most results are those of tools/bindings/by_python.py, with which the exports are
+compared too. """
 import tomllib
 from collections.abc import Callable, Iterable, Iterator, Sequence
 from fractions import Fraction
@@ -21,7 +22,8 @@ BEYOND = (True, 0)
 NOT_FITTING = (True, (1 << 128) - 1)
 
 Number = int | tuple[bool, int]
-Numbers = tuple[Number, ...] | int | None       # those of a result. It has none if it is a status, or None
+# those of a result. It has none if it is a status, or None
+Numbers = tuple[Number, ...] | int | None
 Line = tuple[str | int, str, "Answered"]
 
 
@@ -36,7 +38,8 @@ class Answered:
                 for n in (*arguments, *result):
                     negative, magnitude = n if isinstance(n, tuple) else (n < 0, abs(n))
                     for part in (magnitude & MASK, magnitude >> 64, negative):
-                        self.checksum = ((self.checksum << 5 & MASK | self.checksum >> 59) ^ part) * FACTOR & MASK
+                        self.checksum = (((self.checksum << 5 & MASK | self.checksum >> 59) ^ part)
+                                         * FACTOR & MASK)
 
 
 def mixed(index: int) -> int:
@@ -48,8 +51,8 @@ def mixed(index: int) -> int:
 
 
 class Shape:
-    """A type's number of bits and its ends, and its inputs, as src/inputs.rs computes them. No input is below the
-    least one, which i128 has one above its end."""
+    """A type's number of bits and its ends, and its inputs, as src/inputs.rs computes them. No
+    input is below the least one, which i128 has one above its end."""
 
     def __init__(self, width: int, least: int, greatest: int, end: int) -> None:
         self.width, self.least, self.greatest = width, least, greatest
@@ -93,9 +96,11 @@ def signed(width: int) -> Shape:
 
 
 TYPES = {"I16": signed(16), "I64": signed(64), "U64": Shape(64, 0, (1 << 64) - 1, 0),
-         "I128": Shape(128, 1 - (1 << 127), (1 << 127) - 1, -(1 << 127)), "U128": Shape(128, 0, (1 << 128) - 1, 0)}
+         "I128": Shape(128, 1 - (1 << 127), (1 << 127) - 1, -(1 << 127)),
+         "U128": Shape(128, 0, (1 << 128) - 1, 0)}
 
-# By table, each call and what makes its result: a name in by_python.py, and letters for the arguments.
+# By table, each call and what makes its result: a name in by_python.py, and letters for the
+# arguments.
 CALLS = tomllib.loads((ROOT / "compare/libraries.toml").read_text())
 NUMBERS = "abms"                                # two numbers, a modulus and a size
 FRACTIONS = "xynz"                              # two fractions, a number and 0
@@ -105,7 +110,9 @@ DATES = "dne"                                   # a date, a number and the date 
 def model_of(given: str, words: str) -> Callable[..., Result]:
     """What makes the result of the ends of the type and of the arguments of these letters."""
     name, *letters = words.split()
-    return lambda ends, *arguments: model.RESULTS[name](ends, *[arguments[given.index(letter)] for letter in letters])
+    return lambda ends, *arguments: model.RESULTS[name](ends,
+                                                        *[arguments[given.index(letter)]
+                                                          for letter in letters])
 
 
 def next_common_solution(ends: Pair, a: int, m: int, b: int, n: int) -> Numbers:
@@ -115,13 +122,15 @@ def next_common_solution(ends: Pair, a: int, m: int, b: int, n: int) -> Numbers:
 
 def of_one_modulus(shape: Shape, words: str) -> Answered:
     numbers, call = shape.spread(36), model_of(NUMBERS, words)
-    return Answered(((a, b, m), call(shape.bounds, a, b, m, abs(b))) for a in numbers for b in numbers for m in numbers if m > 0)
+    return Answered(((a, b, m), call(shape.bounds, a, b, m, abs(b))) for a in numbers
+                    for b in numbers for m in numbers if m > 0)
 
 
 def of_two_moduli(shape: Shape, call: Callable[..., Numbers]) -> Answered:
     numbers = shape.spread(24)
     moduli = [m for m in numbers if m > 0]
-    return Answered(((a, m, b, n), call(shape.bounds, a, m, b, n)) for a in numbers for m in moduli for b in numbers for n in moduli)
+    return Answered(((a, m, b, n), call(shape.bounds, a, m, b, n)) for a in numbers for m in moduli
+                    for b in numbers for n in moduli)
 
 
 def residue_lines(calls: str, types: Iterable[str] = TYPES) -> Iterator[Line]:
@@ -129,15 +138,18 @@ def residue_lines(calls: str, types: Iterable[str] = TYPES) -> Iterator[Line]:
         for call, words in CALLS[calls].items():
             yield name, call, of_one_modulus(TYPES[name], words)
         if calls == "modular":
-            yield name, "ChineseRemainder", of_two_moduli(TYPES[name], model.RESULTS["chinese_remainder"])
+            yield (name, "ChineseRemainder",
+                   of_two_moduli(TYPES[name], model.RESULTS["chinese_remainder"]))
             yield name, "NextSolution", of_two_moduli(TYPES[name], next_common_solution)
 
 
 # Of these, that there is no result is counted too.
-COUNTED = {"Negation", "Magnitude", "Reciprocal", "Power", "Sum", "Difference", "Product", "Quotient"}
+COUNTED = {"Negation", "Magnitude", "Reciprocal", "Power", "Sum", "Difference", "Product",
+           "Quotient"}
 
 
-def of_fractions(call: str, words: str, inputs: Iterable[tuple[tuple[int, ...], Pair, Pair, int]]) -> Answered:
+def of_fractions(call: str, words: str,
+                 inputs: Iterable[tuple[tuple[int, ...], Pair, Pair, int]]) -> Answered:
     """What is counted of a call: its results, or why there are none. A sign is a fraction."""
     models = [model_of(FRACTIONS, each) for each in words.split(",")]
 
@@ -148,7 +160,8 @@ def of_fractions(call: str, words: str, inputs: Iterable[tuple[tuple[int, ...], 
         for made in models:
             part = made(model.I64, x, y, n, (0, 1))
             if isinstance(part, int):
-                return (BEYOND if part == model.ZERO_DENOMINATOR else NOT_FITTING,) if call in COUNTED else None
+                return (BEYOND if part == model.ZERO_DENOMINATOR
+                        else NOT_FITTING,) if call in COUNTED else None
             found += part
         return (*found, *[1] * (call == "Sign"))
     return Answered((arguments, counted(x, y, n)) for arguments, x, y, n in inputs)
@@ -167,30 +180,36 @@ def fraction_lines() -> Iterator[Line]:
         for call, words in CALLS["fraction"].items():
             yield bits, call, of_fractions(call, words, ((x, x, x, 0) for x in all_fractions))
         for call, words in CALLS["fraction_and_number"].items():
-            yield bits, call, of_fractions(call, words, (((*x, n), x, x, n) for x in few for n in numbers))
+            yield (bits, call,
+                   of_fractions(call, words, (((*x, n), x, x, n) for x in few for n in numbers)))
         for call, words in CALLS["two_fractions"].items():
-            yield bits, call, of_fractions(call, words, (((*x, *y), x, y, 0) for x in few for y in few))
+            yield (bits, call,
+                   of_fractions(call, words, (((*x, *y), x, y, 0) for x in few for y in few)))
 
 
 def day(n: int) -> Numbers:
     own = model.of_number(n)
-    return *own, own.near().timetuple().tm_yday, *own.iso_week(), n, own.near().isoweekday(), *own, *own
+    return (*own, own.near().timetuple().tm_yday, *own.iso_week(), n, own.near().isoweekday(), *own,
+            *own)
 
 
 def places(n: int, month: int, weekday: int) -> tuple[int, ...]:
-    """The days of the month that have the day of the week, the last one first, and 0 for the fifth if there is
-    none."""
+    """The days of the month that have the day of the week, the last one first, and 0 for the fifth
+    if there is none."""
     days = [date.day for date in model.weekdays(n, month, weekday)]
     return (days[-1], *days, *[0] * (5 - len(days)))
 
 
 OF_NUMBER: dict[str, Callable[[int], Numbers]] = {
     "Day": day,
-    "Year": lambda n: (model.is_leap(n), 365 + model.is_leap(n), model.weeks_in(n), *model.easter(n)),
+    "Year": lambda n: (model.is_leap(n), 365 + model.is_leap(n), model.weeks_in(n),
+                       *model.easter(n)),
     "Months": lambda n: tuple(model.days_in(n, month) for month in range(1, 13)),
-    "WeekdaysOfMonth": lambda n: tuple(d for month in range(1, 13) for d in places(n, month, month % 7 + 1)),
+    "WeekdaysOfMonth": lambda n: tuple(d for month in range(1, 13)
+                                       for d in places(n, month, month % 7 + 1)),
     "NearestWeekdays": lambda n: model.fitting(model.I64, *(
-        next(d for d in range(n, n + 7 * step, step) if (d + 3) % 7 + 1 == weekday) for weekday in range(1, 8) for step in (1, -1))),
+        next(d for d in range(n, n + 7 * step, step) if (d + 3) % 7 + 1 == weekday)
+        for weekday in range(1, 8) for step in (1, -1))),
 }
 
 
@@ -202,7 +221,9 @@ def date_lines() -> Iterator[Line]:
         numbers = signed(bits).spread(128)
         for call, words in CALLS["dates"].items():
             made = model_of(DATES, words)
-            yield bits, call, Answered(((d, n), made(model.I64, model.of_number(d), n, model.of_number(n))) for d in numbers for n in numbers)
+            yield (bits, call,
+                   Answered(((d, n), made(model.I64, model.of_number(d), n, model.of_number(n)))
+                            for d in numbers for n in numbers))
 
 
 def ranked_choices() -> Iterator[tuple[Sequence[int], Numbers]]:
@@ -216,7 +237,8 @@ def ranked_choices() -> Iterator[tuple[Sequence[int], Numbers]]:
 def table(name: str, key_type: str, calls: str, lines: Iterable[Line]) -> str:
     """The lines of a library, under the types or the numbers of bits: three in a row."""
     found = list(lines)
-    text = f"\npub(crate) const {name}: [LibraryLine<{key_type}, {calls}>; {len(found)}] = lines! {{ {calls}:\n"
+    text = (f"\npub(crate) const {name}: [LibraryLine<{key_type}, {calls}>; {len(found)}] = "
+            f"lines! {{ {calls}:\n")
     for key, of_key in groupby(found, key=itemgetter(0)):
         texts = [f"{call} {answered.count} {answered.checksum}" for _, call, answered in of_key]
         rows = [", ".join(texts[first:first + 3]) for first in range(0, len(texts), 3)]
@@ -227,8 +249,12 @@ def table(name: str, key_type: str, calls: str, lines: Iterable[Line]) -> str:
 def made() -> dict[str, str]:
     """The file."""
     choices = Answered(ranked_choices())
-    text = ((ROOT / "compare/libraries_head.rattle").read_text() + table("RESIDUES", "Type", "Residues", residue_lines("modular")) + table("FRACTIONS", "u32", "Fractions", fraction_lines())
-            + table("DATES", "u32", "Dates", date_lines()) + table("MODELS", "Type", "Models", residue_lines("applied", ("I64", "U64")))
+    text = ((ROOT / "compare/libraries_head.rattle").read_text()
+            + table("RESIDUES", "Type", "Residues", residue_lines("modular"))
+            + table("FRACTIONS", "u32", "Fractions", fraction_lines())
+            + table("DATES", "u32", "Dates", date_lines())
+            + table("MODELS", "Type", "Models", residue_lines("applied", ("I64", "U64")))
             + "\n/// All choices of the numbers below each number up to 14.\n"
-            + f"pub(crate) const CHOICES: Answered = Answered({choices.count}, Checksum({choices.checksum}));\n")
+            + f"pub(crate) const CHOICES: Answered = Answered({choices.count}, "
+            f"Checksum({choices.checksum}));\n")
     return {'crates/replay/src/tests/libraries.rt': text}

@@ -10,14 +10,17 @@ from collections.abc import Iterable, Iterator, Mapping
 
 ROOT = pathlib.Path(__file__).resolve().parent.parent
 MISSING = 3                     # the status of a part that needs a program which isn't there
-REGISTRY = pathlib.Path('/usr/share/cargo/registry')         # Debian's sources of packages for cargo
+# Debian's sources of packages for cargo
+REGISTRY = pathlib.Path('/usr/share/cargo/registry')
 DEBIAN = (ROOT / 'tools/gate/debian.toml').read_text() if REGISTRY.is_dir() else ''
 
 
 def dependencies(root: pathlib.Path = ROOT) -> dict[str, list[str]]:
     """The crates that the gate proves, each with those on which it depends."""
-    heads = (line.partition(':') for line in (root / 'crates.txt').read_text().splitlines() if re.match(r'\w.*:', line))
-    return {name.split()[0]: [word for word in below.split() if (root / 'crates' / word).is_dir()] for name, _, below in heads}
+    heads = (line.partition(':') for line in (root / 'crates.txt').read_text().splitlines()
+             if re.match(r'\w.*:', line))
+    return {name.split()[0]: [word for word in below.split() if (root / 'crates' / word).is_dir()]
+            for name, _, below in heads}
 
 
 def filled(template: pathlib.Path, **parts: str) -> str:
@@ -62,7 +65,8 @@ def run(*words: str) -> int:
 
 
 def write(root: pathlib.Path, made: Mapping[str, str | None]) -> bool:
-    """Writes the files that have another text, by their names below a folder. Where there is to be no text, a file goes."""
+    """Writes the files that have another text, by their names below a folder. Where there is to be
+    no text, a file goes."""
     for name, text in made.items():
         (root / name).parent.mkdir(parents=True, exist_ok=True)
         if text is None:
@@ -73,10 +77,13 @@ def write(root: pathlib.Path, made: Mapping[str, str | None]) -> bool:
 
 
 def as_made(root: pathlib.Path, made: Mapping[str, str | None]) -> bool:
-    """Whether the made files are what is made. Of each that is not, the first lines that differ are printed."""
+    """Whether the made files are what is made. Of each that is not, the first lines that differ
+    are printed."""
     def judged() -> Iterator[tuple[str, bool]]:
         for name, text in made.items():
             there = (root / name).read_text() if (root / name).is_file() else None
-            lines = difflib.unified_diff((there or '').split('\n'), (text or '').split('\n'), name, 'what is made', n=0, lineterm='')
-            yield '\n'.join([f'{name} differs from what is made: run tools/cellarcove make', *itertools.islice(lines, 20)]), there == text
+            lines = difflib.unified_diff((there or '').split('\n'), (text or '').split('\n'), name,
+                                         'what is made', n=0, lineterm='')
+            yield '\n'.join([f'{name} differs from what is made: run tools/cellarcove make',
+                             *itertools.islice(lines, 20)]), there == text
     return counted(judged())

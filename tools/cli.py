@@ -3,8 +3,9 @@
     tools/cellarcove make [PART [WORD..]]
     tools/cellarcove check [PART [WORD..]]
 
-Without a PART it runs those that need no WORD, one after the other, but for the slow ones. `--help` after a PART says more of it. The
-status is 1 if something fails, 2 if a form is not known, and 3 if nothing fails and a program is missing."""
+Without a PART it runs those that need no WORD, one after the other, but for the slow ones.
+`--help` after a PART says more of it. The status is 1 if something fails, 2 if a form is not
+known, and 3 if nothing fails and a program is missing."""
 import glob
 import importlib
 import sys
@@ -22,13 +23,15 @@ class Part(NamedTuple):
     named: bool = False
 
 
-PARTS = {verb: {name: Part(**row) for name, row in rows.items()} for verb, rows in tomllib.loads((ROOT / 'tools/parts.toml').read_text()).items()}
+PARTS = {verb: {name: Part(**row) for name, row in rows.items()}
+         for verb, rows in tomllib.loads((ROOT / 'tools/parts.toml').read_text()).items()}
 
 
 def run_part(verb: str, part: Part, words: list[str]) -> int:
     """The status of a part."""
     if ' ' in part.runs:
-        command = [file for word in part.runs.split() for file in (sorted(glob.glob(word, root_dir=ROOT)) if '*' in word else [word])]
+        command = [file for word in part.runs.split()
+                   for file in (sorted(glob.glob(word, root_dir=ROOT)) if '*' in word else [word])]
         return run(*command, *words)
     name, function = part.runs.split(':')
     module = importlib.import_module(name)
@@ -51,7 +54,9 @@ def main(words: list[str]) -> int:
     if verb not in PARTS or name and name not in PARTS[verb]:
         print(__doc__)
         for verb, parts in PARTS.items():
-            print('', f'    {verb}', *(f'        {name:<12}{part.does}{" *" * part.named}' for name, part in parts.items()), sep='\n')
+            print('', f'    {verb}',
+                  *(f'        {name:<12}{part.does}{" *" * part.named}'
+                    for name, part in parts.items()), sep='\n')
         print('\nThose with a star run only if they are named.')
         return 0 if words == ['--help'] else 2
     found = set[int]()

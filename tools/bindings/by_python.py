@@ -1,9 +1,12 @@
-"""What each call returns by the integers, the fractions and the dates of Python, for arguments of any size.
+"""What each call returns by the integers, the fractions and the dates of Python, for arguments of
+any size.
 
-`RESULTS` has a function for each call, by its name in C without the ending. It takes the range of the form and the arguments: a
-number, a pair for a fraction, a triple for a date, a list. It returns the numbers of the result, or the status. It is made of a row of
-by_python.toml, which is a function of Python's own numbers: it makes a number, a fraction or numbers of any size, or raises what Python
-raises. `PROPERTIES` has the calls whose result is tested instead: their function takes the numbers of the result too."""
+`RESULTS` has a function for each call, by its name in C without the ending. It takes the range of
+the form and the arguments: a number, a pair for a fraction, a triple for a date, a list. It
+returns the numbers of the result, or the status. It is made of a row of by_python.toml, which is a
+function of Python's own numbers: it makes a number, a fraction or numbers of any size, or raises
+what Python raises. `PROPERTIES` has the calls whose result is tested instead: their function takes
+the numbers of the result too."""
 import datetime
 import math
 import re
@@ -27,7 +30,8 @@ CYCLE = 400                                     # years, after which the calenda
 DAYS_OF_CYCLE = 146_097
 MOST_CONGRUENCES = 64                           # of a call with a list of them
 MOST_PLACES = 18                                # of a decimal number
-WIDEST_CHOICE = 34                              # of 2k things, k of them can be chosen in more than 2**64 ways from here on
+# of 2k things, k of them can be chosen in more than 2**64 ways from here on
+WIDEST_CHOICE = 34
 
 
 class No(Exception):
@@ -42,7 +46,8 @@ def fitting(bounds: Pair, *values: int) -> Result:
 
 def parts(made: Made) -> tuple[int, ...]:
     """The numbers of a result."""
-    return made if isinstance(made, tuple) else made.as_integer_ratio() if isinstance(made, Fraction) else (made,)
+    return (made if isinstance(made, tuple) else made.as_integer_ratio()
+            if isinstance(made, Fraction) else (made,))
 
 
 def taken(argument: Any) -> Any:
@@ -58,7 +63,8 @@ def taken(argument: Any) -> Any:
 
 
 def model(make: Maker, by_zero: int, by_value: int) -> Model:
-    """The call whose result is made so. The statuses are those of a division by 0, and of another argument for which there is no result."""
+    """The call whose result is made so. The statuses are those of a division by 0, and of another
+    argument for which there is no result."""
     def result(bounds: Pair, *arguments: Any) -> Result:
         try:
             return fitting(bounds, *parts(make(*map(taken, arguments))))
@@ -92,7 +98,8 @@ def ceil(x: int, y: int) -> int:
 
 
 def is_bezout(bounds: Pair, x: int, y: int, status: int, values: Sequence[int] | None) -> bool:
-    """Whether the result of extended_gcd is one: the equation holds, and the coefficients are small. Of 0 and 0 they are 1 and 0."""
+    """Whether the result of extended_gcd is one: the equation holds, and the coefficients are
+    small. Of 0 and 0 they are 1 and 0."""
     gcd = math.gcd(x, y)
     if gcd > bounds[1] or values is None:
         return gcd > bounds[1] and status == NOT_FITTING
@@ -107,7 +114,8 @@ def is_bezout(bounds: Pair, x: int, y: int, status: int, values: Sequence[int] |
 
 
 def last(end: int, holds: Callable[[int], Any]) -> int:
-    """The last number below an end for which something holds that holds for 0, and for no number after one for which it does not."""
+    """The last number below an end for which something holds that holds for 0, and for no number
+    after one for which it does not."""
     first = 0
     while first + 1 < end:
         middle = (first + end) // 2
@@ -118,7 +126,8 @@ def last(end: int, holds: Callable[[int], Any]) -> int:
 def root(x: int, degree: int) -> int:
     """The root rounded toward 0."""
     let(degree > 0 and (x >= 0 or degree % 2 == 1))
-    return -root(-x, degree) if x < 0 else last(2 << x.bit_length() // degree, lambda found: found**degree <= x)
+    return (-root(-x, degree) if x < 0
+            else last(2 << x.bit_length() // degree, lambda found: found**degree <= x))
 
 
 def is_power(x: int, degree: int) -> bool:
@@ -134,18 +143,21 @@ def ilog(x: int, base: int) -> int:
 
 
 def coefficient(n: int, k: int) -> int:
-    """The number of choices of k of n things. If it is above 2**64, it may be another such number."""
+    """The number of choices of k of n things. If it is above 2**64, it may be another such
+    number."""
     return 2**64 if min(k, n - k) >= WIDEST_CHOICE else math.comb(n, k)
 
 
 def rank(choice: Sequence[int], n: int) -> int:
-    """The number of the choices of so many numbers below n that come before it: the largest number that differs is smaller."""
+    """The number of the choices of so many numbers below n that come before it: the largest number
+    that differs is smaller."""
     let(all(low < high for low, high in zip(choice, [*choice[1:], n])))
     return sum(coefficient(number, place) for place, number in enumerate(choice, 1))
 
 
 def choice_of_rank(number: int, n: int, count: int) -> tuple[int, ...]:
-    """The choice of this rank: its largest number is the largest of which so many choices lie below it, and so on."""
+    """The choice of this rank: its largest number is the largest of which so many choices lie
+    below it, and so on."""
     let(coefficient(n, count) > number)
     found = [n]
     for place in range(count, 0, -1):
@@ -191,7 +203,8 @@ def solutions(a: int, b: int, m: int) -> Pair:
 
 
 def chinese_remainder(a: int, m: int, b: int, n: int) -> Pair:
-    """The first number that is not negative, is a modulo m and b modulo n, and the step to the next."""
+    """The first number that is not negative, is a modulo m and b modulo n, and the step to the
+    next."""
     gcd = math.gcd(modulus(m), modulus(n))
     let((b - a) % gcd == 0, NO_SOLUTION)
     step = m // gcd * n
@@ -262,7 +275,8 @@ class Day(NamedTuple):
         return self
 
     def number(self) -> int:
-        return self.near().toordinal() - DAY_0 + (self.year - near(self.year)) // CYCLE * DAYS_OF_CYCLE
+        return (self.near().toordinal() - DAY_0 + (self.year - near(self.year)) // CYCLE
+                * DAYS_OF_CYCLE)
 
     def iso_week(self) -> Pair:
         year, week = self.near().isocalendar()[:2]
@@ -271,7 +285,8 @@ class Day(NamedTuple):
     def plus_months(self, months: int) -> 'Day':
         """The date so many months later, with the last day of a shorter month."""
         years, month = divmod(self.month - 1 + months, 12)
-        return Day(self.year + years, month + 1, min(self.day, days_in(self.year + years, month + 1)))
+        return Day(self.year + years, month + 1,
+                   min(self.day, days_in(self.year + years, month + 1)))
 
 
 def dated(year: int, found: datetime.date) -> Day:
@@ -287,7 +302,9 @@ def of_number(number: int) -> Day:
 
 def date_from_text(text: str) -> Day:
     """A year of ISO 8601 has at least four digits, and a sign if it is not from 0 to 9999."""
-    found = re.fullmatch('(-(?!0000)[0-9]{4}|-[1-9][0-9]{4,}|[0-9]{4}|[+][1-9][0-9]{4,})-([0-9]{2})-([0-9]{2})', text, re.ASCII)
+    found = re.fullmatch(
+        '(-(?!0000)[0-9]{4}|-[1-9][0-9]{4,}|[0-9]{4}|[+][1-9][0-9]{4,})-([0-9]{2})-([0-9]{2})',
+        text, re.ASCII)
     made = Day(*map(int, found.groups() if found else (0, 0, 0)))
     let(I64[0] <= made.year <= I64[1], NO_DATE)
     return made.valid()
@@ -312,7 +329,8 @@ def see_weekday(weekday: int) -> bool:
 
 
 def near_weekday(day: int, weekday: int, step: int) -> int:
-    """The first day from one on, or by the step -1 the last day up to one, that is a day of the week."""
+    """The first day from one on, or by the step -1 the last day up to one, that is a day of the
+    week."""
     see_weekday(weekday)
     return day + step * (step * (weekday - (day + 3) % 7 - 1) % 7)
 
@@ -326,7 +344,8 @@ def easter(year: int) -> Day:
     """By the rule of Meeus, Jones and Butcher, which repeats after 5,700,000 years."""
     y = year % 5_700_000
     golden, (century, rest) = y % 19, divmod(y, 100)
-    moon = (19 * golden + century - century // 4 - (century - (century + 8) // 25 + 1) // 3 + 15) % 30
+    moon = (19 * golden + century - century // 4 - (century - (century + 8) // 25 + 1) // 3
+            + 15) % 30
     sunday = (32 + 2 * (century % 4) + 2 * (rest // 4) - moon - rest % 4) % 7
     late = (golden + 11 * moon + 22 * sunday) // 451
     month, day = divmod(moon + sunday - 7 * late + 114, 31)
@@ -346,12 +365,19 @@ def nth_weekday_of_month(year: int, month: int, weekday: int, n: int) -> Day:
     return dates[n - 1]
 
 
-# Of the tables of by_python.toml what a row makes, and the statuses of a division by 0 and of another argument for which there is no result.
-KINDS: dict[str, tuple[Callable[[Maker, int, int], Model], int, int]] = {
-    'numbers': (model, OUTSIDE, OUTSIDE), 'congruences': (model, BAD_MODULUS, NO_SOLUTION), 'fractions': (model, ZERO_DENOMINATOR, OUTSIDE),
-    'fractions_over': (over, ZERO_DENOMINATOR, OUTSIDE), 'dates': (model, NO_DATE, NO_DATE)}
+# Of the tables of by_python.toml what a row makes, and the statuses of a division by 0 and of
+# another argument for which there is no result.
+KINDS: dict[str,
+            tuple[Callable[[Maker, int, int], Model], int,
+                  int]] = ({'numbers': (model, OUTSIDE, OUTSIDE),
+                            'congruences': (model, BAD_MODULUS, NO_SOLUTION),
+                            'fractions': (model, ZERO_DENOMINATOR, OUTSIDE),
+                            'fractions_over': (over, ZERO_DENOMINATOR, OUTSIDE),
+                            'dates': (model, NO_DATE, NO_DATE)})
 TABLES = tomllib.loads(Path(__file__).with_suffix('.toml').read_text())
-RESULTS = {name: KINDS[table][0](eval(f'lambda {row}', globals()), *KINDS[table][1:]) for table, rows in TABLES.items() for name, row in rows.items()}
+RESULTS = {name: KINDS[table][0](eval(f'lambda {row}', globals()), *KINDS[table][1:])
+           for table, rows in TABLES.items() for name, row in rows.items()}
 # the integer part of a decimal number is below 2**64
-RESULTS['fraction_to_decimal'] = lambda _, *given: model(to_decimal, ZERO_DENOMINATOR, OUTSIDE)(U64, *given)
+RESULTS['fraction_to_decimal'] = (lambda _, *given: model(to_decimal, ZERO_DENOMINATOR,
+                                                          OUTSIDE)(U64, *given))
 PROPERTIES: dict[str, Callable[..., bool]] = {'extended_gcd': is_bezout}

@@ -7,7 +7,8 @@ from tools.bindings.exports import EXPORTS, TEXT, Call, Field, filled, listed, w
 WIDTH = 118
 PLAIN, RESULTS, FROM_C = (listed('cpp.txt', sign) for sign in (' = ', ': ', ' -> '))
 CLASSES = ('Fraction', 'Date')
-CONSTANT = {'div_rem', 'div_floor', 'div_mod_floor', 'mod_floor', 'div_ceil'}  # what the header computes in constant expressions
+# what the header computes in constant expressions
+CONSTANT = {'div_rem', 'div_floor', 'div_mod_floor', 'mod_floor', 'div_ceil'}
 
 
 def of(call: Call) -> tuple[str, str]:
@@ -15,24 +16,30 @@ def of(call: Call) -> tuple[str, str]:
     if call.writes:
         return 'status', ''
     if not EXPORTS().has_status(call):
-        plain = 'int' if call.result == 'u8' else PLAIN[call.result]  # a `std::uint8_t` prints as a character
+        # a `std::uint8_t` prints as a character
+        plain = 'int' if call.result == 'u8' else PLAIN[call.result]
         return plain, FROM_C.get(call.result, 'r')
     value = RESULTS[call.result]
     fields = [path.removeprefix('.') for path, _ in EXPORTS().leaves(call.result)]
-    made = FROM_C.get(call.result) or (f'{value}{{{", ".join(f"r.{field}" for field in fields)}}}' if '<' in value or value in ('bezout', 'week_of_year')
-                                       else f'r.{fields[0]}')
-    return f'result<{value}>', f'r.status == CELLARCOVE_ANSWER ? result<{value}>({made}) : result<{value}>(static_cast<status>(r.status))'
+    made = (FROM_C.get(call.result)
+            or (f'{value}{{{", ".join(f"r.{field}" for field in fields)}}}' if '<' in value
+                or value in ('bezout', 'week_of_year') else f'r.{fields[0]}'))
+    return (f'result<{value}>', f'r.status == CELLARCOVE_ANSWER ? result<{value}>({made}) : '
+            f'result<{value}>(static_cast<status>(r.status))')
 
 
 def lines_of(text: str, mark: str) -> str:
     """A comment, each line after its mark."""
-    lines = textwrap.wrap(text.replace('`', ''), WIDTH - len(mark) - 1, break_long_words=False, break_on_hyphens=False)
+    lines = textwrap.wrap(text.replace('`', ''), WIDTH - len(mark) - 1, break_long_words=False,
+                          break_on_hyphens=False)
     return ''.join(f'{mark} {line}\n' for line in lines)
 
 
 def comment(call: Call) -> str:
     statuses = (sentence.split('`', 2) for sentence in call.statuses)
-    return lines_of(' '.join([without_returns(call.doc), *(f'status::{name.lower()}{rest}' for _, name, rest in statuses)]), '///')
+    return lines_of(' '.join([without_returns(call.doc),
+                              *(f'status::{name.lower()}{rest}' for _, name, rest in statuses)]),
+                    '///')
 
 
 def named(parameter: Field) -> str:
@@ -41,13 +48,15 @@ def named(parameter: Field) -> str:
 
 
 def taken(call: Call, parameter: Field) -> str:
-    """A parameter that is no template: a class, a slice, or a number, which a call without a status takes only of an exact type."""
+    """A parameter that is no template: a class, a slice, or a number, which a call without a
+    status takes only of an exact type."""
     number = 'checked' if EXPORTS().has_status(call) else 'exact'
     if parameter.item == TEXT:
         return f'std::string_view {parameter.name}'
     if parameter.item:
         constant = '' if parameter.is_written else 'const '
-        return f'{constant}{PLAIN[parameter.item]} *{parameter.name}, detail::{number}<std::size_t> {parameter.name}_length'
+        return (f'{constant}{PLAIN[parameter.item]} *{parameter.name}, '
+                f'detail::{number}<std::size_t> {parameter.name}_length')
     if parameter.kind in CLASSES:
         return f'const {PLAIN[parameter.kind]} &{named(parameter)}'
     return f'detail::{number}<{PLAIN[parameter.kind]}> {named(parameter)}'
@@ -63,21 +72,26 @@ def given(parameter: Field) -> str:
 
 
 def refusal(call: Call, parameters: list[Field]) -> list[str]:
-    """The statement that refuses a number out of the range of its parameter. The call for C itself refuses the largest `u8`."""
-    numbers = [f'{p.name}_length' if p.item else named(p) for p in parameters if p.kind not in (*CLASSES, 'u8') and p.item != TEXT]
+    """The statement that refuses a number out of the range of its parameter. The call for C itself
+    refuses the largest `u8`."""
+    numbers = [f'{p.name}_length' if p.item else named(p) for p in parameters
+               if p.kind not in (*CLASSES, 'u8') and p.item != TEXT]
     if not numbers or not EXPORTS().has_status(call):
         return []
     returned = 'error' if call.writes else f'{of(call)[0]}(error)'
-    return [f'if (auto error = detail::error_of({", ".join(numbers)}); error != status::answer) {{', f'    return {returned};', '}']
+    return [f'if (auto error = detail::error_of({", ".join(numbers)}); error != status::answer) {{',
+            f'    return {returned};', '}']
 
 
 def plain_function(call: Call) -> str:
     """A function of one form."""
     parameters = ', '.join(taken(call, parameter) for parameter in call.parameters)
     called = f'{call.symbol}({", ".join(map(given, call.parameters))})'
-    last = [f'return static_cast<status>({called});'] if call.writes else [f'auto r = {called};', f'return {of(call)[1]};']
+    last = ([f'return static_cast<status>({called});'] if call.writes
+            else [f'auto r = {called};', f'return {of(call)[1]};'])
     body = '\n    '.join(refusal(call, call.parameters) + last)
-    return f'{comment(call)}[[nodiscard]] inline {of(call)[0]} {call.name}({parameters}) {{\n    {body}\n}}\n'
+    return (f'{comment(call)}[[nodiscard]] inline {of(call)[0]} {call.name}({parameters}) {{\n'
+            f'    {body}\n}}\n')
 
 
 def slice_functions(forms: list[Call]) -> str:
@@ -92,36 +106,52 @@ def slice_functions(forms: list[Call]) -> str:
         types += [own] if own else []
         of_list = f'{own} &&{p.name}' if p.is_written else f'const {own} &{p.name}'
         parameters.append(of_list if p.item else f'{own} {p.name}' if own else taken(call, p))
-    kinds = {p.name: list(dict.fromkeys(PLAIN[form.parameters[k].item] for form in forms)) for k, p in enumerate(call.parameters) if p.item}
-    passed = [f'detail::items<{", ".join(kinds[p.name])}>({p.name}), std::size({p.name})' if p.item else p.name for p in call.parameters]
-    asserts = [f'static_assert(detail::has_items<decltype({name}), {", ".join(of_items)}>, "the items of {name} have to be {" or ".join(of_items)}");'
+    kinds = {p.name: list(dict.fromkeys(PLAIN[form.parameters[k].item] for form in forms))
+             for k, p in enumerate(call.parameters) if p.item}
+    passed = [f'detail::items<{", ".join(kinds[p.name])}>({p.name}), std::size({p.name})' if p.item
+              else p.name for p in call.parameters]
+    asserts = [f'static_assert(detail::has_items<decltype({name}), {", ".join(of_items)}>, "the '
+               f'items of {name} have to be {" or ".join(of_items)}");'
                for name, of_items in kinds.items()]
-    asserts += [f'static_assert(detail::outlives_call<Items{k}>, "{p.name} ends with the call: pass a variable, or a view of one");'
-                for k, p in enumerate(call.parameters) if p.is_written]
+    asserts += [f'static_assert(detail::outlives_call<Items{k}>, "{p.name} ends with the call: '
+                'pass a variable, or a view of one");' for k, p in enumerate(call.parameters)
+                if p.is_written]
     items = ' or '.join(f'`{kind}`' for kind in dict.fromkeys(itertools.chain(*kinds.values())))
-    return text + filled('container.hpp', items=items, types=', '.join(f'class {kind}' for kind in types), name=call.name,
-                         parameters=', '.join(parameters), asserts='\n    '.join(asserts), passed=', '.join(passed))
+    return text + filled('container.hpp', items=items,
+                         types=', '.join(f'class {kind}' for kind in types), name=call.name,
+                         parameters=', '.join(parameters), asserts='\n    '.join(asserts),
+                         passed=', '.join(passed))
 
 
 def template(signed: Call, unsigned: Call) -> str:
     """A function of both forms."""
     follows = [a.kind != b.kind for a, b in zip(signed.parameters, unsigned.parameters)]
     types = [f'N{k}' for k, follow in enumerate(follows) if follow]
-    parameters = ', '.join(f'N{k} {p.name}' if follow else taken(signed, p) for k, (p, follow) in enumerate(zip(signed.parameters, follows)))
+    parameters = ', '.join(f'N{k} {p.name}' if follow else taken(signed, p)
+                           for k, (p, follow) in enumerate(zip(signed.parameters, follows)))
     others = [p for p, follow in zip(signed.parameters, follows) if not follow]
 
     def statements(call: Call) -> str:
-        arguments = ', '.join(f'static_cast<{PLAIN[p.kind]}>({p.name})' if follow else given(p) for p, follow in zip(call.parameters, follows))
-        computed = [f'if (CELLARCOVE_IS_CONSTANT) {{ return detail::constant::{call.name}({arguments}); }}'] if call.name in CONSTANT else []
-        return '\n        '.join([*computed, *refusal(call, others), f'auto r = {call.symbol}({arguments});', f'return {of(call)[1]};'])
-    return filled('both_forms.hpp', comment=comment(signed), constant='CELLARCOVE_CONSTEXPR ' * (signed.name in CONSTANT), types=', '.join(f'class {kind}' for kind in types), name=signed.name,
-                  parameters=parameters, uses=f'detail::is_signed<{", ".join(types)}>()', signed=statements(signed), unsigned=statements(unsigned))
+        arguments = ', '.join(f'static_cast<{PLAIN[p.kind]}>({p.name})' if follow else given(p)
+                              for p, follow in zip(call.parameters, follows))
+        computed = ([f'if (CELLARCOVE_IS_CONSTANT) {{ return '
+                     f'detail::constant::{call.name}({arguments}); }}'] if call.name in CONSTANT
+                    else [])
+        return '\n        '.join([*computed, *refusal(call, others),
+                                  f'auto r = {call.symbol}({arguments});',
+                                  f'return {of(call)[1]};'])
+    return filled('both_forms.hpp', comment=comment(signed),
+                  constant='CELLARCOVE_CONSTEXPR ' * (signed.name in CONSTANT),
+                  types=', '.join(f'class {kind}' for kind in types), name=signed.name,
+                  parameters=parameters, uses=f'detail::is_signed<{", ".join(types)}>()',
+                  signed=statements(signed), unsigned=statements(unsigned))
 
 
 def hpp() -> str:
     """The header for C++."""
     found = EXPORTS()
-    statuses = ''.join(f'    {status.name.lower()} = {status.number},\n' for status in found.statuses)
+    statuses = ''.join(f'    {status.name.lower()} = {status.number},\n'
+                       for status in found.statuses)
     text = module = ''
     for name, forms in found.all_forms().items():
         if forms[0].module != module:
@@ -129,6 +159,7 @@ def hpp() -> str:
             text += lines_of('---- ' + found.headings[module].rstrip('.'), '//') + '\n'
         if name == 'fraction_new':
             continue  # it is `fraction::make`
-        text += slice_functions(forms) if forms[0].has_slice else template(*forms) if len(forms) == 2 else plain_function(forms[0])
+        text += slice_functions(forms) if forms[0].has_slice else template(*forms) if len(
+            forms) == 2 else plain_function(forms[0])
         text += '\n'
     return filled('cellarcove.hpp', statuses=statuses, calls=text)

@@ -12,19 +12,24 @@ from tools.erase.source import Item, Source
 
 SOURCES = ROOT / 'crates/cellarcove_c/src'
 VERSION = re.findall(r'^version = "(.*)"$', (ROOT / 'rust/Cargo.toml').read_text(), re.M)[0]
-NUMBERS = {f'{sign}{bits}': f'{"u" if sign == "u" else ""}int{bits}_t' for sign in 'iu' for bits in (8, 16, 32, 64)}
+NUMBERS = {f'{sign}{bits}': f'{"u" if sign == "u" else ""}int{bits}_t' for sign in 'iu'
+           for bits in (8, 16, 32, 64)}
 NUMBERS |= {'usize': 'size_t', 'bool': 'bool'}
 # The order of the modules in the header. One that is not here comes last.
-ORDER = ('operators', 'division', 'invariant_divisors', 'divisors', 'coprime', 'lists', 'roots', 'powers', 'coefficients', 'counting', 'ranking', 'shares', 'paging',
-         'layout', 'modulo', 'congruences', 'several_congruences', 'schedules', 'fractions', 'rounding', 'decimals', 'dates', 'weekdays', 'years',
-         'texts', 'date_texts')
+ORDER = ('operators', 'division', 'invariant_divisors', 'divisors', 'coprime', 'lists', 'roots',
+         'powers', 'coefficients', 'counting', 'ranking', 'shares', 'paging', 'layout', 'modulo',
+         'congruences', 'several_congruences', 'schedules', 'fractions', 'rounding', 'decimals',
+         'dates', 'weekdays', 'years', 'texts', 'date_texts')
 
 
-# The pairs of numbers in a row whose positions are easily swapped, by the module of a call: their struct and their names.
-# Python and JavaScript take them by these names.
-PAIRS = {'congruences': ('Congruence', ('residue', 'modulus')), 'schedules': ('Schedule', ('first', 'period'))}
-IN_A_ROW = (('a', 'm'), ('b', 'n'), ('residue', 'modulus'), ('a', 'p'), ('b', 'q'), ('first', 'period'))
-OF_PAIRS = {'`m` or `n`': 'a modulus', '`p` or `q`': 'a period'}  # what a comment calls the parameters that these languages lack
+# The pairs of numbers in a row whose positions are easily swapped, by the module of a call: their
+# struct and their names. Python and JavaScript take them by these names.
+PAIRS = {'congruences': ('Congruence', ('residue', 'modulus')),
+         'schedules': ('Schedule', ('first', 'period'))}
+IN_A_ROW = (('a', 'm'), ('b', 'n'), ('residue', 'modulus'), ('a', 'p'), ('b', 'q'),
+            ('first', 'period'))
+# what a comment calls the parameters that these languages lack
+OF_PAIRS = {'`m` or `n`': 'a modulus', '`p` or `q`': 'a period'}
 EACH = '_each'  # after the name of the call that is made of each number of a list
 
 
@@ -36,7 +41,8 @@ class Field(NamedTuple):
     @property
     def item(self) -> str:
         """The type of the items of a slice, or an empty text."""
-        return self.kind.removeprefix('&').removeprefix('mut')[1:-1] if self.kind.endswith(']') else ''
+        return self.kind.removeprefix('&').removeprefix('mut')[1:-1] if self.kind.endswith(
+            ']') else ''
 
     @property
     def is_written(self) -> bool:
@@ -66,7 +72,8 @@ class Struct(NamedTuple):
 
 
 class Call(NamedTuple):
-    """An export. Its name is that of the symbol without `cellarcove_` and without the ending `_i64` or `_u64`."""
+    """An export. Its name is that of the symbol without `cellarcove_` and without the ending
+    `_i64` or `_u64`."""
     name: str
     form: str
     parameters: list[Field]
@@ -90,20 +97,23 @@ class Call(NamedTuple):
 
     @property
     def is_each(self) -> bool:
-        """Whether the call is another one of each number of a list, for languages that have no columns."""
+        """Whether the call is another one of each number of a list, for languages that have no
+        columns."""
         return self.name.endswith(EACH)
 
     @property
     def taken(self) -> list[Field]:
         """The parameters without a list that is written and as long as one that is read."""
         two_lists = sum(bool(parameter.item) for parameter in self.parameters) == 2
-        return [parameter for parameter in self.parameters if not (parameter.is_written and two_lists)]
+        return [parameter for parameter in self.parameters
+                if not (parameter.is_written and two_lists)]
 
 
 @functools.lru_cache(maxsize=1)
 def pairs() -> dict[str, Struct]:
     """The structs of pairs, which an export takes as two numbers."""
-    return {f'{form.upper()}{name}': Struct(f'{form.upper()}{name}', [Field(part, form) for part in parts], '')
+    return {f'{form.upper()}{name}': Struct(f'{form.upper()}{name}',
+                                            [Field(part, form) for part in parts], '')
             for name, parts in PAIRS.values() for form in ('i64', 'u64')}
 
 
@@ -114,14 +124,16 @@ def by_names(call: Call) -> Call:
     places = [place for place, names in enumerate(in_a_row) if name and names in IN_A_ROW]
     words = ['one', 'other'] if len(places) == 2 else [name.lower()]
     found = {place: Field(word, call.form.upper() + name) for place, word in zip(places, words)}
-    return call._replace(parameters=[found.get(place, field) for place, field in enumerate(call.parameters)
+    return call._replace(parameters=[found.get(place, field)
+                                     for place, field in enumerate(call.parameters)
                                      if place - 1 not in found])
 
 
 def in_pairs(call: Call, given: Sequence[Any]) -> list[Any]:
     """What is given for the parameters of an export, with a tuple for each pair."""
     rest = iter(given)
-    return [(next(rest), next(rest)) if parameter.pair else next(rest) for parameter in by_names(call).taken]
+    return [(next(rest), next(rest)) if parameter.pair else next(rest)
+            for parameter in by_names(call).taken]
 
 
 class Exports(NamedTuple):
@@ -131,7 +143,8 @@ class Exports(NamedTuple):
     headings: dict[str, str]  # of modules
 
     def has_status(self, call: Call) -> bool:
-        return call.writes or (call.result in self.structs and self.structs[call.result].fields[0].name == 'status')
+        return call.writes or (call.result in self.structs
+                               and self.structs[call.result].fields[0].name == 'status')
 
     def leaves(self, kind: str) -> list[tuple[str, str]]:
         """The numbers of a value of a type, as pairs of a path and a type, without its status."""
@@ -142,7 +155,8 @@ class Exports(NamedTuple):
                 for path, leaf in self.leaves(field.kind)]
 
     def forms(self) -> dict[str, list[Call]]:
-        """The calls by name, each with one form or two, in the order of the header, but for those of each number of a list."""
+        """The calls by name, each with one form or two, in the order of the header, but for those
+        of each number of a list."""
         return {name: forms for name, forms in self.all_forms().items() if not forms[0].is_each}
 
     def all_forms(self) -> dict[str, list[Call]]:
@@ -167,7 +181,8 @@ def c_parameters(call: Call) -> Iterator[str]:
         name = parameter.name
         if parameter.item:
             kind = 'char' if parameter.item == TEXT else c_type(parameter.item)
-            yield f'{kind} *CELLARCOVE_RESTRICT {name}' if parameter.is_written else f'const {kind} *{name}'
+            yield (f'{kind} *CELLARCOVE_RESTRICT {name}' if parameter.is_written
+                   else f'const {kind} *{name}')
             yield f'size_t {name}_len'
         else:
             yield f'{c_type(parameter.kind)} {name}'
@@ -175,34 +190,40 @@ def c_parameters(call: Call) -> Iterator[str]:
 
 def paragraphs(source: Source, item: Item) -> list[str]:
     """The paragraphs of the comment of an item, each on one line."""
-    return [' '.join(part.split()) for part in '\n'.join(source.doc(item)).split('\n\n') if part.strip()]
+    return [' '.join(part.split()) for part in '\n'.join(source.doc(item)).split('\n\n')
+            if part.strip()]
 
 
 def call_of(module: str, source: Source, item: Item) -> Call:
     name, form = item.name.removeprefix('cellarcove_'), re.search('_([iu]64)$', item.name)
     first, *others = paragraphs(source, item)
-    statuses = re.findall(r'`[A-Z_]+` if .*?\.(?= `[A-Z_]+` if |$)', others[-1]) if others and others[-1].startswith('`') else []
+    statuses = (re.findall(r'`[A-Z_]+` if .*?\.(?= `[A-Z_]+` if |$)', others[-1]) if others
+                and others[-1].startswith('`') else [])
     if statuses:
         others.pop()
     opening, closing = source.parameters(item)
     parameters = [Field(found.name, found.type) for found in source.fields(opening + 1, closing)]
-    return Call(name.removesuffix(form[0]) if form else name, form[1] if form else '', parameters, source.returned(item),
-                ' '.join([first, *others]), statuses, module)
+    return Call(name.removesuffix(form[0]) if form else name, form[1] if form else '', parameters,
+                source.returned(item), ' '.join([first, *others]), statuses, module)
 
 
 def read() -> Exports:
     """The exports of the sources, in the order of the header."""
     found = Exports([], {}, [], {})
-    for path in sorted(SOURCES.glob('*.rt'), key=lambda path: (ORDER.index(path.stem) if path.stem in ORDER else len(ORDER), path.stem)):
+    for path in sorted(SOURCES.glob('*.rt'),
+                       key=lambda path: (ORDER.index(path.stem) if path.stem in ORDER
+                                         else len(ORDER), path.stem)):
         source = Source(path.relative_to(SOURCES.parent), path.read_text())
         found.headings[path.stem] = ' '.join(source.head())
         for item in source.items():
             words = {source.at(k) for first, last in item.attributes for k in range(first, last)}
             if item.kind == 'const' and item.public and source.at(item.word + 3) == 'u32':
-                found.statuses.append(Status(item.name, int(source.at(item.word + 5)), ' '.join(paragraphs(source, item))))
+                found.statuses.append(Status(item.name, int(source.at(item.word + 5)),
+                                             ' '.join(paragraphs(source, item))))
             elif item.kind == 'struct' and 'repr' in words:
                 fields = [Field(field.name, field.type) for field in item.fields]
-                found.structs[item.name] = Struct(item.name, fields, ' '.join(paragraphs(source, item)))
+                found.structs[item.name] = Struct(item.name, fields,
+                                                  ' '.join(paragraphs(source, item)))
             elif item.kind == 'fn' and 'no_mangle' in words:
                 found.calls.append(call_of(path.stem, source, item))
     return found
@@ -217,11 +238,13 @@ def reworded(call: Call, doc: str) -> str:
 
 def without_returns(doc: str) -> str:
     """The comment of a call without its first word, for readers of other languages."""
-    return re.sub('^Returns (.)', lambda found: found[1].upper(), re.sub('^Returns `true` if', 'Whether', doc))
+    return re.sub('^Returns (.)', lambda found: found[1].upper(),
+                  re.sub('^Returns `true` if', 'Whether', doc))
 
 
 def listed(name: str, sign: str) -> dict[str, str]:
-    """The rows of a list beside this file that have the sign: what stands before it, and what after it."""
+    """The rows of a list beside this file that have the sign: what stands before it, and what
+    after it."""
     lines = (Path(__file__).parent / name).read_text().splitlines()
     return dict(line.split(sign, 1) for line in lines if sign in line and not line.startswith('#'))
 

@@ -21,8 +21,8 @@ NAMED = {'date_from_text': ('date_from_text', 'Date.fromisoformat, date_from_tex
 
 
 def paths() -> Iterator[str]:
-    """The calls of plain Rust. One of a module `checked` is there if no other call has its name, and
-    a method of a trait if no function has it."""
+    """The calls of plain Rust. One of a module `checked` is there if no other call has its name,
+    and a method of a trait if no function has it."""
     api = (ROOT / 'rust/api.txt').read_text()
     found = sorted(re.findall(r'^(?:const )?fn ([\w:]+)', api, re.M))
     plain = [path for path in found if not CHECKED.search(path) and not path.startswith(TRAITS)]

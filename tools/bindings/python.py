@@ -7,7 +7,8 @@ from typing import Any
 
 from tools import ROOT
 from tools.bindings.examples import DOCS, of_call, without_examples
-from tools.bindings.exports import EXPORTS, PAIRS, Call, Field, by_names, c_type, filled, reworded, without_returns
+from tools.bindings.exports import (EXPORTS, PAIRS, Call, Field, by_names, c_type, filled,
+                                    reworded, without_returns)
 
 RENAMED = {'fraction_limit_denominator': 'limit_denominator'}
 ALIASES = {'comb': 'binomial', 'isqrt': 'sqrt'}
@@ -18,14 +19,19 @@ WRITTEN = 'count'          # the parameter in place of an array that is written
 ROWS = (ROOT / 'bindings/python/tests/rows.txt').read_text().rpartition('\n\n')[2]
 
 LETTERS = {'i64': 'q', 'u64': 'Q', 'u32': 'I', 'u16': 'H', 'u8': 'B', 'i32': 'i', 'bool': '?'}
-TYPES = {'q': 'int64_t', 'Q': 'uint64_t', 'I': 'uint32_t', 'H': 'uint16_t', 'B': 'uint8_t', 'i': 'int32_t', '?': 'uint8_t'}
-OBJECTS = {'i64': 'PyLong_FromLongLong', 'u64': 'PyLong_FromUnsignedLongLong', 'u8': 'PyLong_FromLong', 'u16': 'PyLong_FromLong', 'i32': 'PyLong_FromLong',
+TYPES = {'q': 'int64_t', 'Q': 'uint64_t', 'I': 'uint32_t', 'H': 'uint16_t', 'B': 'uint8_t',
+         'i': 'int32_t', '?': 'uint8_t'}
+OBJECTS = {'i64': 'PyLong_FromLongLong', 'u64': 'PyLong_FromUnsignedLongLong',
+           'u8': 'PyLong_FromLong', 'u16': 'PyLong_FromLong', 'i32': 'PyLong_FromLong',
            'bool': 'PyBool_FromLong'}
 # The class of a result, and the scalar result of the stubs.
-CLASSES = {'Bezout': ('class_gcd', 'ExtendedGcd'), 'Solutions': ('class_solutions', 'Solutions'), 'IsoWeek': ('class_week', 'IsoWeek')}
+CLASSES = {'Bezout': ('class_gcd', 'ExtendedGcd'), 'Solutions': ('class_solutions', 'Solutions'),
+           'IsoWeek': ('class_week', 'IsoWeek')}
 SHAPES = {'Fraction': 'f', 'Date': 'd', 'Congruence': 'c', 'Schedule': 's'}
-MODULI = {'m', 'n', 'modulus', 'p', 'q', 'period'}  # the parameters whose 0 is the reason of `BAD_MODULUS`
-SEEN_TO = 'there is not one part for each weight, or if '  # a reason of a status that Python never meets, since it makes the parts
+# the parameters whose 0 is the reason of `BAD_MODULUS`
+MODULI = {'m', 'n', 'modulus', 'p', 'q', 'period'}
+# a reason of a status that Python never meets, since it makes the parts
+SEEN_TO = 'there is not one part for each weight, or if '
 DIVIDES = ('division', 'products')  # the modules whose parameters `y` and `d` are divisors
 OPTIONS = "out=None, where=True, errors='raise'"  # of a call with columns
 # What says, before there is room for the numbers that a call writes, whether it has a result.
@@ -38,7 +44,8 @@ def public_calls() -> list[tuple[str, list[Call]]]:
 
 
 def parameter_names(call: Call) -> list[str]:
-    return [WRITTEN if parameter.is_written else PARAMETERS.get(parameter.name, parameter.name) for parameter in by_names(call).taken]
+    return [WRITTEN if parameter.is_written else PARAMETERS.get(parameter.name, parameter.name)
+            for parameter in by_names(call).taken]
 
 
 def number_names(call: Call) -> list[str]:
@@ -49,7 +56,8 @@ def number_names(call: Call) -> list[str]:
 
 def shapes(call: Call) -> str:
     """The letters of the parameters of a call."""
-    return ''.join('w' if parameter.name == WEEKDAY else SHAPES.get(parameter.pair or parameter.kind, 'n')
+    return ''.join('w' if parameter.name == WEEKDAY
+                   else SHAPES.get(parameter.pair or parameter.kind, 'n')
                    for parameter in by_names(call).parameters)
 
 
@@ -67,7 +75,8 @@ def cells(call: Call) -> list[str]:
 def results(call: Call) -> list[tuple[str, str]]:
     """The paths and types of the numbers that it returns. A week of ISO 8601 has its year first."""
     found = EXPORTS().leaves(call.result)
-    return sorted(found, key=lambda leaf: leaf[0] != '.year') if call.result.startswith('IsoWeek') else found
+    return (sorted(found, key=lambda leaf: leaf[0] != '.year') if call.result.startswith('IsoWeek')
+            else found)
 
 
 def divides(call: Call) -> list[bool]:
@@ -75,30 +84,38 @@ def divides(call: Call) -> list[bool]:
     reasons = ' '.join(call.statuses)
     divisors = {'y', 'd'} if call.module in DIVIDES else set()
     divisors |= MODULI if '`BAD_MODULUS`' in reasons else set()
-    return [parameter.name in divisors for parameter in call.parameters for _ in EXPORTS().leaves(parameter.kind)]
+    return [parameter.name in divisors for parameter in call.parameters
+            for _ in EXPORTS().leaves(parameter.kind)]
 
 
 def grouped(call: Call, numbers: Sequence[Any]) -> list[Any]:
-    """The arguments that are made of the numbers of the cells: a number, or a tuple of those of a fraction or a date."""
-    rest, counts = iter(numbers), [len(EXPORTS().leaves(parameter.kind)) for parameter in call.parameters]
+    """The arguments that are made of the numbers of the cells: a number, or a tuple of those of a
+    fraction or a date."""
+    rest, counts = (iter(numbers),
+                    [len(EXPORTS().leaves(parameter.kind)) for parameter in call.parameters])
     return [next(rest) if count == 1 else tuple(itertools.islice(rest, count)) for count in counts]
 
 
 def arguments(call: Call, number: Callable[[int, str], str]) -> str:
     """The arguments in C, made of the numbers of the cells."""
-    given = zip(call.parameters, grouped(call, [number(k, kind) for k, kind in enumerate(cells(call))]))
-    return ', '.join(made if isinstance(made, str) else f'({c_type(parameter.kind)}){{{", ".join(made)}}}' for parameter, made in given)
+    given = zip(call.parameters,
+                grouped(call, [number(k, kind) for k, kind in enumerate(cells(call))]))
+    return ', '.join(made if isinstance(made, str)
+                     else f'({c_type(parameter.kind)}){{{", ".join(made)}}}'
+                     for parameter, made in given)
 
 
 def object_of(call: Call) -> str:
     """The result in Python of the result `r` in C."""
-    whole = {'FractionAnswer': 'fraction_of(r.value)', 'DateAnswer': 'date_of(r.date)', 'Date': 'date_of(r)',
+    whole = {'FractionAnswer': 'fraction_of(r.value)', 'DateAnswer': 'date_of(r.date)',
+             'Date': 'date_of(r)',
              'DecimalAnswer': f'decimal_of(r, (uint32_t)a[{len(cells(call)) - 1}].u)'}
     items = [f'{OBJECTS[kind]}(r{path})' for path, kind in results(call)]
     if call.result in whole or len(items) == 1:
         return whole.get(call.result, items[0])
     made = f'Py_BuildValue("({"N" * len(items)})", {", ".join(items)})'
-    return next((f'object_of({name}, {made})' for end, (name, _) in CLASSES.items() if end in call.result), made)
+    return next((f'object_of({name}, {made})' for end, (name, _) in CLASSES.items()
+                 if end in call.result), made)
 
 
 def form_text(call: Call) -> str:
@@ -109,8 +126,10 @@ def form_text(call: Call) -> str:
         return NULL;
     }''' if has_status else '    (void)status;'
     return filled(
-        'form.c', name=call.symbol.removeprefix('cellarcove_'), type=c_type(call.result), symbol=call.symbol, refused=refused,
-        taken=arguments(call, lambda k, kind: f'({TYPES[LETTERS[kind]]})a[{k}].{"i" if kind[0] == "i" else "u"}'),
+        'form.c', name=call.symbol.removeprefix('cellarcove_'), type=c_type(call.result),
+        symbol=call.symbol, refused=refused,
+        taken=arguments(call, lambda k, kind: (
+            f'({TYPES[LETTERS[kind]]})a[{k}].{"i" if kind[0] == "i" else "u"}')),
         object=object_of(call), cells=''.join(LETTERS[kind] for kind in cells(call)))
 
 
@@ -128,7 +147,8 @@ def signature(name: str, forms: list[Call]) -> str:
     if forms[0].has_slice and len(forms[0].taken) == len(forms[0].parameters):
         return f'{name}($module, {", ".join(parameter_names(forms[0]))}, /)'
     given, numbers = parameter_names(forms[0]), names_of_one(forms[0])
-    given = [*given[:-1], f'{given[-1]}=None', '*', *(f'{number}=None' for number in numbers)] if numbers else [*given, '*']
+    given = [*given[:-1], f'{given[-1]}=None', '*',
+             *(f'{number}=None' for number in numbers)] if numbers else [*given, '*']
     return f'{name}($module, /, {", ".join(given)}, {OPTIONS})'
 
 
@@ -151,9 +171,10 @@ def raised_by(call: Call, unsigned: Call | None) -> str:
 
 
 def examples(name: str) -> list[tuple[str, str]]:
-    """The calls of a name of which the docstring has the results, with these: those of the last part
-    of rows.txt, or if it has none those of the comment of the export."""
-    found = [(call, value) for call, value in re.findall(r'^(\w+\(.*\))  # (.*)$', ROWS, re.M) if call.startswith(f'{name}(')]
+    """The calls of a name of which the docstring has the results, with these: those of the last
+    part of rows.txt, or if it has none those of the comment of the export."""
+    found = [(call, value) for call, value in re.findall(r'^(\w+\(.*\))  # (.*)$', ROWS, re.M)
+             if call.startswith(f'{name}(')]
     return found or examples_of_comment(name)
 
 
@@ -187,26 +208,34 @@ def of_columns(call: Call) -> str:
     """What a docstring says of columns."""
     if call.has_slice:
         shared = len(call.taken) < len(call.parameters)
-        return 'Of a column of amounts, or of weights, it is an array, whose last axis is that of the weights.' * shared
+        return ('Of a column of amounts, or of weights, it is an array, whose last axis is that '
+                'of the weights.' * shared)
     if call.result.startswith('Date'):
         days = any(parameter.kind == 'Date' for parameter in call.parameters)
-        return f'Of columns it is {"a column of `datetime64[D]` if a date is one, and else " * days}three columns: year, month and day.'
+        return ('Of columns it is '
+                f'{"a column of `datetime64[D]` if a date is one, and else " * days}three '
+                'columns: year, month and day.')
     if call.result.startswith('Decimal'):
         return ''
     named = next((name for end, (_, name) in CLASSES.items() if end in call.result), '')
     count = len(results(call))
-    return 'Of columns it is a column.' if count == 1 else f'Of columns it is {f"a `{named}` of" if named else "a tuple of"} {count} columns.'
+    return ('Of columns it is a column.' if count == 1
+            else f'Of columns it is {f"a `{named}` of" if named else "a tuple of"} {count} '
+            'columns.')
 
 
 def docstring(name: str, forms: list[Call]) -> str:
-    """What a call does, its errors, its columns, and its examples, which the tests of the package run."""
+    """What a call does, its errors, its columns, and its examples, which the tests of the package
+    run."""
     many = 'It takes any count of numbers, or two columns. ' * (name in OF_MANY)
-    said = without_examples(without_returns(DOCS.get(name, forms[0].doc))).replace('For arrays it is', 'Of columns it is three columns:')
+    said = without_examples(without_returns(DOCS.get(name, forms[0].doc)))
+    said = said.replace('For arrays it is', 'Of columns it is three columns:')
     parts = [said, raised(*forms), many + of_columns(forms[0])]
     for old, new in PARAMETERS.items():
         parts = [part.replace(f'`{old}`', f'`{new}`') for part in parts]
     text = ['\n'.join(textwrap.wrap(part, 88)) for part in parts if part]
-    return '\n\n'.join([*text, '\n'.join(f'>>> {given}\n{result}' for given, result in examples(name))])
+    return '\n\n'.join([*text,
+                        '\n'.join(f'>>> {given}\n{result}' for given, result in examples(name))])
 
 
 def call_text(name: str, forms: list[Call]) -> str:
@@ -215,10 +244,10 @@ def call_text(name: str, forms: list[Call]) -> str:
     follows = [two and a != b for a, b in zip(cells(forms[0]), cells(forms[-1]))]
     named = {form.form: f'&form_{form.symbol.removeprefix("cellarcove_")}' for form in forms}
     of_many = filled('of_many.c', name=name) if name in OF_MANY else ''
-    return filled(
-        'call.c', name=name, count=str(len(shapes(call))), shapes=shapes(call),
-        divides=bools(divides(call)), follows=bools(follows), of_many=of_many,
-        forms=f'NULL, {named["i64"]}, {named["u64"]}' if two else f'&form_{call.symbol.removeprefix("cellarcove_")}, NULL, NULL')
+    return filled('call.c', name=name, count=str(len(shapes(call))), shapes=shapes(call),
+                  divides=bools(divides(call)), follows=bools(follows), of_many=of_many,
+                  forms=f'NULL, {named["i64"]}, {named["u64"]}' if two
+                  else f'&form_{call.symbol.removeprefix("cellarcove_")}, NULL, NULL')
 
 
 def list_text(name: str, forms: list[Call]) -> str:
@@ -226,31 +255,43 @@ def list_text(name: str, forms: list[Call]) -> str:
     count, items = len(forms[0].parameters), [parameter.item for parameter in forms[0].parameters]
     place, width = next((k, len(EXPORTS().leaves(item))) for k, item in enumerate(items) if item)
     for form in forms:
-        assert {parameter.kind for parameter in form.parameters if not parameter.item} <= {form.form} and not form.writes, form
+        assert {parameter.kind for parameter in form.parameters
+                if not parameter.item} <= {form.form} and not form.writes, form
 
     def case(form: Call) -> str:
-        passed = ', '.join('of.items, (size_t)of.count' if parameter.item else f'other.{form.form[0]}' for parameter in form.parameters)
-        return filled('list_case.c', type=c_type(form.result), symbol=form.symbol, passed=passed, object=OBJECTS[form.form])
+        passed = ', '.join('of.items, (size_t)of.count' if parameter.item
+                           else f'other.{form.form[0]}' for parameter in form.parameters)
+        return filled('list_case.c', type=c_type(form.result), symbol=form.symbol, passed=passed,
+                      object=OBJECTS[form.form])
     signed = f'\n    if (of.is_signed) {{\n{case(forms[0])}    }}\n' if len(forms) == 2 else ''
     parsed = f'!PyArg_ParseTuple(object, "OO:{name}", &given[0], &given[1]) || ' * (count > 1)
-    return filled('list.c', name=name, parsed=parsed, place=str(place), other=str(1 - place), width=str(width),
-                  has_signed='true' if len(forms) == 2 else 'false', signed=signed, unsigned=case(forms[-1]))
+    return filled('list.c', name=name, parsed=parsed, place=str(place), other=str(1 - place),
+                  width=str(width), has_signed='true' if len(forms) == 2 else 'false',
+                  signed=signed, unsigned=case(forms[-1]))
 
 
 def written_text(name: str, call: Call) -> str:
-    """The function of a call that writes unsigned numbers, whose other parameters are unsigned numbers before it."""
+    """The function of a call that writes unsigned numbers, whose other parameters are unsigned
+    numbers before it."""
     last = len(call.parameters) - 1
-    assert call.parameters[-1].is_written and {parameter.item or parameter.kind for parameter in call.parameters} == {'u64'}, call
+    assert call.parameters[-1].is_written and {parameter.item or parameter.kind
+                                               for parameter in call.parameters} == {'u64'}, call
     read = ', '.join(f'read_unsigned, &numbers[{k}]' for k in range(last + 1))
-    return filled('written.c', name=name, symbol=call.symbol, asked=ASKED[name], count=str(last + 1), last=str(last),
-                  letters='O&' * (last + 1), read=read, passed=', '.join(f'numbers[{k}].u' for k in range(last)))
+    return filled('written.c', name=name, symbol=call.symbol, asked=ASKED[name],
+                  count=str(last + 1), last=str(last), letters='O&' * (last + 1), read=read,
+                  passed=', '.join(f'numbers[{k}].u' for k in range(last)))
 
 
 def method(name: str, forms: list[Call]) -> str:
-    lines = f'{signature(name, forms)}\n--\n\n{docstring(name, forms)}'.replace('\\', '\\\\').replace('"', '\\"').split('\n')
+    lines = (f'{signature(name, forms)}\n--\n\n{docstring(name, forms)}'.replace('\\',
+                                                                                 '\\\\').replace(
+                                                                                     '"',
+                                                                                     '\\"').split(
+                                                                                         '\n'))
     doc = '\n    '.join(f'"{line}\\n"' for line in lines)
     named = not forms[0].has_slice or len(forms[0].taken) < len(forms[0].parameters)
-    flags = 'METH_FASTCALL | METH_KEYWORDS' if named else 'METH_VARARGS' if len(forms[0].parameters) > 1 else 'METH_O'
+    flags = 'METH_FASTCALL | METH_KEYWORDS' if named else 'METH_VARARGS' if len(
+        forms[0].parameters) > 1 else 'METH_O'
     cast = '(PyCFunction)(void (*)(void))' * named
     return f'    {{"{name}", {cast}py_{name}, {flags},\n    {doc}}},\n'
 
@@ -262,22 +303,27 @@ def calls_c() -> str:
     for name, forms in named:
         kinds = [parameter.item for parameter in forms[0].parameters if parameter.item]
         if len(kinds) == 2:
-            text += filled('divided.c', name=name, signed=forms[0].symbol if len(forms) == 2 else 'NULL', unsigned=forms[-1].symbol)
+            text += filled('divided.c', name=name, signed=forms[0].symbol if len(forms) == 2
+                           else 'NULL', unsigned=forms[-1].symbol)
         elif kinds == ['u8']:
-            text += filled('text.c', name=name, symbol=forms[0].symbol, kind=c_type(forms[0].result), result=object_of(forms[0]))
+            text += filled('text.c', name=name, symbol=forms[0].symbol,
+                           kind=c_type(forms[0].result), result=object_of(forms[0]))
         elif kinds:
             text += written_text(name, forms[0]) if forms[0].writes else list_text(name, forms)
     for name, forms in named:
         if not forms[0].has_slice:
             text += ''.join(map(form_text, forms)) + call_text(name, forms)
     methods = ''.join(method(name, forms) for name, forms in named)
-    methods += ''.join(method(alias, dict(named)[name]).replace(f'py_{alias}', f'py_{name}') for alias, name in ALIASES.items())
+    methods += ''.join(method(alias, dict(named)[name]).replace(f'py_{alias}', f'py_{name}')
+                       for alias, name in ALIASES.items())
     public = [*(name for name, _ in named), *ALIASES]
     return filled('calls.c', calls=text, methods=methods, strings='s' * len(public),
                   names='\n        '.join(textwrap.wrap(quoted(public), 92)))
 
 
-PYTHON = {'Fraction': '_Fraction', 'Date': '_Date'} | {f'{sign}64{name}': f'{name}[SupportsIndex]' for sign in 'IU' for name, _ in PAIRS.values()}
+PYTHON = {'Fraction': '_Fraction', 'Date': '_Date'} | {f'{sign}64{name}': f'{name}[SupportsIndex]'
+                                                       for sign in 'IU'
+                                                       for name, _ in PAIRS.values()}
 NUMBER, COLUMN = 'SupportsIndex', '_Column'
 # The parameters of a call with columns that have names alone.
 NAMED = 'out: Any = ..., where: Any = ..., errors: _Errors = ...'
@@ -296,7 +342,8 @@ def scalar_result(call: Call) -> str:
 
 def scalar_type(parameter: Field) -> str:
     """The type of a parameter that has no column."""
-    return f'Weekday | {NUMBER}' if parameter.name == WEEKDAY else PYTHON.get(parameter.kind, NUMBER)
+    return (f'Weekday | {NUMBER}' if parameter.name == WEEKDAY
+            else PYTHON.get(parameter.kind, NUMBER))
 
 
 def column_types(parameter: Field, chosen: bool) -> str:
@@ -307,7 +354,8 @@ def column_types(parameter: Field, chosen: bool) -> str:
         return COLUMN if chosen else f'{COLUMN} | {scalar_type(parameter)}'
     if not chosen:
         return f'{COLUMN} | {PYTHON[parameter.kind]} | tuple[{", ".join([each] * leaves)}]'
-    shapes = ([NUMBER] * first + [COLUMN] + [each] * (leaves - first - 1) for first in range(leaves))
+    shapes = ([NUMBER] * first + [COLUMN] + [each] * (leaves - first - 1)
+              for first in range(leaves))
     return ' | '.join([COLUMN, *(f'tuple[{", ".join(shape)}]' for shape in shapes)])
 
 
@@ -337,8 +385,10 @@ def stub(name: str, forms: list[Call]) -> str:
             (f'{amount}: {COLUMN}, {weights}: Iterable[{NUMBER}], *, {NAMED}', 'Any'),
             (f'{amount}: {NUMBER}, {weights}: Iterable[{NUMBER}]', 'tuple[int, ...]')])
     if call.has_slice:
-        taken = ', '.join(f'{given}: {listed_type(parameter)}' for given, parameter in zip(names, call.parameters))
-        return f'def {name}({taken}, /) -> {"tuple[int, ...]" if call.writes else scalar_result(call)}: ...\n'
+        taken = ', '.join(f'{given}: {listed_type(parameter)}'
+                          for given, parameter in zip(names, call.parameters))
+        return (f'def {name}({taken}, /) -> '
+                f'{"tuple[int, ...]" if call.writes else scalar_result(call)}: ...\n')
     if name in OF_MANY:
         return filled('of_many.pyi', name=name, array=COLUMN, number=NUMBER, options=NAMED)
     if number_names(call):
@@ -349,7 +399,8 @@ def stub(name: str, forms: list[Call]) -> str:
                  for k, parameter in enumerate(call.parameters)]
         given = ', '.join(f'{parameter}: {kind}' for parameter, kind in zip(names, kinds))
         found.append((f'{given}, *, {NAMED}', 'Any'))
-    scalars = ', '.join(f'{name}: {scalar_type(parameter)}' for name, parameter in zip(names, call.parameters))
+    scalars = ', '.join(f'{name}: {scalar_type(parameter)}'
+                        for name, parameter in zip(names, call.parameters))
     return overloads(name, [*found, (scalars, scalar_result(call))])
 
 
@@ -358,12 +409,16 @@ def stub_of_pairs(name: str, call: Call) -> str:
     taken, numbers = [*zip(parameter_names(call), by_names(call).parameters)], names_of_one(call)
     left_out = ''.join(f', {number}: None = ...' for number in numbers)
     found = []
-    for kind, each, options, result in ((NUMBER, NUMBER, '', scalar_result(call)), (f'{COLUMN} | {NUMBER}', 'Any', f', {NAMED}', 'Any')):
-        pairs = ', '.join(f'{given}: {parameter.pair}[{each}]' if parameter.pair else f'{given}: {kind}' for given, parameter in taken)
+    for kind, each, options, result in ((NUMBER, NUMBER, '', scalar_result(call)),
+                                        (f'{COLUMN} | {NUMBER}', 'Any', f', {NAMED}', 'Any')):
+        pairs = ', '.join(f'{given}: {parameter.pair}[{each}]' if parameter.pair
+                          else f'{given}: {kind}' for given, parameter in taken)
         found.append((f'{pairs}{", *" * bool(left_out or options)}{left_out}{options}', result))
         if numbers:
-            given = [f'{given}: {"None = ..." if parameter.pair else kind}' for given, parameter in taken]
-            found.append((f'{", ".join([*given, "*", *(f"{number}: {kind}" for number in numbers)])}{options}', result))
+            given = [f'{given}: {"None = ..." if parameter.pair else kind}'
+                     for given, parameter in taken]
+            named = [f'{number}: {kind}' for number in numbers]
+            found.append((f'{", ".join([*given, "*", *named])}{options}', result))
     return overloads(name, found)
 
 
@@ -371,5 +426,9 @@ def stubs() -> str:
     """The types of the calls for Python."""
     named = public_calls()
     public = sorted([name for name, _ in named] + list(ALIASES))
-    text = ''.join(stub(name, forms) for name, forms in named) + ''.join(f'{alias} = {name}\n' for alias, name in ALIASES.items())
-    return filled('_calls.pyi', calls=text, names='\n'.join(f'    {line}' for line in textwrap.wrap(', '.join(map(repr, public)) + ',', 110)))
+    text = (''.join(stub(name, forms) for name, forms in named)
+            + ''.join(f'{alias} = {name}\n' for alias, name in ALIASES.items()))
+    return filled('_calls.pyi', calls=text,
+                  names='\n'.join(f'    {line}'
+                                  for line in textwrap.wrap(', '.join(map(repr, public)) + ',',
+                                                            110)))

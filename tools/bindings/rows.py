@@ -1,10 +1,12 @@
-"""Prints calls with random arguments, with corners, and those of the literal lines of rows.txt, and what each returns by the integers, the
-fractions and the dates of Python (by_python.py), for the tests of JavaScript.
+"""Prints calls with random arguments, with corners, and those of the literal lines of rows.txt,
+and what each returns by the integers, the fractions and the dates of Python (by_python.py), for
+the tests of JavaScript.
 
-A line is an array of JSON: the name of the call in C; its form, if it is one of arrays, or an empty text; the arguments; the status; and
-the numbers of the result. An argument is a number, as a text; or an array of the parts of a struct, or of the items of a list. A row of
-arrays has an array of arguments for each item, and so of statuses and of results. Each call has COUNT rows of numbers, and a row for the
-arrays of each form. With SECONDS it goes on so long."""
+A line is an array of JSON: the name of the call in C; its form, if it is one of arrays, or an
+empty text; the arguments; the status; and the numbers of the result. An argument is a number, as a
+text; or an array of the parts of a struct, or of the items of a list. A row of arrays has an array
+of arguments for each item, and so of statuses and of results. Each call has COUNT rows of numbers,
+and a row for the arrays of each form. With SECONDS it goes on so long."""
 import itertools
 import json
 import random
@@ -22,21 +24,25 @@ from tools.bindings.python import RENAMED, cells, grouped, parameter_names
 ROWS = ROOT / 'bindings/python/tests/rows.txt'
 LITERAL = re.compile(r'(\w+)(\(.*\))  # (?:raises \w+: ([A-Z_]+)|(.*))')
 # What rows.txt calls pairs.
-NAMES = {'Congruence': lambda residue, modulus: (residue, modulus), 'Schedule': lambda first, period: (first, period),
+NAMES = {'Congruence': lambda residue, modulus: (residue, modulus),
+         'Schedule': lambda first, period: (first, period),
          'Solutions': lambda first, step: (first, step)}
 CORNERS = 36  # rows of a call whose numbers are at an end of their types, or beside 0
 STATUSES = {status.name: status.number for status in EXPORTS().statuses}
 
 
 def returned(call: Call | None, arguments: Sequence[Any]) -> tuple[int, list[int]]:
-    """The status, and the numbers of a result. Of `extended_gcd` it is the first number, which says what the others can be."""
-    found = RESULTS[call.name.removeprefix('extended_')](RANGES.get(call.form, I64), *arguments) if call else NOT_FITTING
+    """The status, and the numbers of a result. Of `extended_gcd` it is the first number, which
+    says what the others can be."""
+    found = (RESULTS[call.name.removeprefix('extended_')](RANGES.get(call.form, I64), *arguments)
+             if call else NOT_FITTING)
     return (found, []) if isinstance(found, int) else (0, list(found))
 
 
 def corners(call: Call) -> list[list[Any]]:
     """Arguments at the ends of their types, and beside 0."""
-    ends = [[low, low + 1, high - 1, high, 0, 1, 2, 4, *([-1] if low else [])] for low, high in (RANGES[kind] for kind in cells(call))]
+    ends = [[low, low + 1, high - 1, high, 0, 1, 2, 4, *([-1] if low else [])]
+            for low, high in (RANGES[kind] for kind in cells(call))]
     found = list(itertools.islice(itertools.product(*ends), 10_000))
     return [grouped(call, numbers) for numbers in random.sample(found, min(CORNERS, len(found)))]
 
@@ -49,8 +55,10 @@ def rows(forms: list[Call], count: int) -> Iterator[list[Any]]:
         found = [grouped(call, numbers) for numbers in zip(*columns(call))]
         given += found[:count] + corners(call)
         wanted = map(list, zip(*(returned(call, arguments) for arguments in found)))
-        yield [call.name, call.form or 'i64', [in_pairs(call, arguments) for arguments in found], *wanted]
-    yield from ([forms[0].name, '', in_pairs(forms[0], arguments), *returned(chosen(forms, arguments), arguments)] for arguments in given)
+        yield [call.name, call.form or 'i64', [in_pairs(call, arguments) for arguments in found],
+               *wanted]
+    yield from ([forms[0].name, '', in_pairs(forms[0], arguments),
+                 *returned(chosen(forms, arguments), arguments)] for arguments in given)
 
 
 def literal() -> Iterator[list[Any]]:
@@ -58,7 +66,8 @@ def literal() -> Iterator[list[Any]]:
     names = {RENAMED.get(name, name): name for name in EXPORTS().forms()}
     for name, given, status, value in LITERAL.findall(ROWS.read_text()):
         try:
-            arguments, result = eval(given[:-1] + ',)', dict(NAMES)), eval(value or '0', dict(NAMES))
+            arguments, result = (eval(given[:-1] + ',)', dict(NAMES)),
+                                 eval(value or '0', dict(NAMES)))
         except (AttributeError, NameError, SyntaxError, TypeError):
             continue
         forms = EXPORTS().forms().get(names.get(name, ''))
@@ -69,11 +78,13 @@ def literal() -> Iterator[list[Any]]:
         if len(arguments) != len(parameter_names(forms[0])):
             continue
         if status in {'', *STATUSES}:
-            yield [names[name], '', arguments, STATUSES.get(status, 0), [] if status else list(result) if isinstance(result, tuple) else [result]]
+            yield [names[name], '', arguments, STATUSES.get(status, 0),
+                   [] if status else list(result) if isinstance(result, tuple) else [result]]
 
 
 def as_text(value: Any) -> Any:
-    return [as_text(item) for item in value] if isinstance(value, (list, tuple)) else value if isinstance(value, str) else str(int(value))
+    return ([as_text(item) for item in value] if isinstance(value, (list, tuple)) else value
+            if isinstance(value, str) else str(int(value)))
 
 
 def make(words: list[str]) -> bool:
@@ -81,6 +92,9 @@ def make(words: list[str]) -> bool:
     random.seed(seed)
     end = time.monotonic() + sum(seconds)
     turns = itertools.takewhile(lambda turn: turn == 0 or time.monotonic() < end, itertools.count())
-    for row in itertools.chain(literal(), (row for _ in turns for forms in EXPORTS().forms().values() for row in rows(forms, count))):
-        print(json.dumps([*row[:2], as_text(row[2]), row[3], as_text(row[4])], separators=(',', ':')))
+    for row in itertools.chain(literal(),
+                               (row for _ in turns for forms in EXPORTS().forms().values()
+                                for row in rows(forms, count))):
+        print(json.dumps([*row[:2], as_text(row[2]), row[3], as_text(row[4])],
+                         separators=(',', ':')))
     return True

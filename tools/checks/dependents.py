@@ -1,8 +1,9 @@
 """Makes a workspace of packages of other authors, in which a package of ours replaces num-integer.
 
-REGISTRY is a folder of sources, from which each package is copied. PACKAGE is the folder of the package that
-replaces the one of that name, for each of them and for what they depend on. Benches, and dev-dependencies that the
-registry does not have, are taken out of the manifests. A line for each package says what."""
+REGISTRY is a folder of sources, from which each package is copied. PACKAGE is the folder of the
+package that replaces the one of that name, for each of them and for what they depend on. Benches,
+and dev-dependencies that the registry does not have, are taken out of the manifests. A line for
+each package says what."""
 import re
 import shutil
 import tomllib
@@ -13,7 +14,8 @@ from tools import filled, write
 
 WORKSPACE = Path(__file__).parent / 'templates' / 'dependents.toml'
 # A section of a manifest that may go, and what it has.
-SECTION = re.compile(r'^\[(?:\[bench\]\]\s+name = "([^"]+)"|dev-dependencies\.([\w-]+)\]).*?(?=^\[|\Z)', re.M | re.S)
+SECTION = re.compile(
+    r'^\[(?:\[bench\]\]\s+name = "([^"]+)"|dev-dependencies\.([\w-]+)\]).*?(?=^\[|\Z)', re.M | re.S)
 
 
 def newest(registry: Path, name: str) -> Path | None:
@@ -48,4 +50,6 @@ def make(words: list[str]) -> bool:
         take(registry, name, out)
     members = ', '.join(f'"{name}"' for name in names)
     patches = '\n'.join(f'{name} = {{ path = "{name}" }}' for name in names)
-    return write(out, {'Cargo.toml': filled(WORKSPACE, members=members, num_integer=str(num_integer), patches=patches)})
+    return write(out,
+                 {'Cargo.toml': filled(WORKSPACE, members=members, num_integer=str(num_integer),
+                                       patches=patches)})

@@ -20,13 +20,14 @@ PARTS = ('src/', 'specs/', 'proofs/')
 # nothing to change.
 THEOREMS = 'theorems'
 FUNCTION = re.compile(r'^pub fn (\w+).*?^(?:}|\{\})$', re.DOTALL | re.MULTILINE)
-# The forms of a first line. The calls and the values are expressions of Rust: wrong_lines.py runs them.
+# The forms of a first line. The calls and the values are expressions of Rust: wrong_lines.py runs
+# them.
 CLAUSE = r'(?:its clause|the clause of `\w+`|`\w+`(?: of (?:`\w+`|its clause))?)'
-FORMS = (
-    rf'wrong: at (?P<call>.+) it returns (?P<wrong>.+), and (?P<clause>{CLAUSE}) asks for (?P<right>.+?)\.(?: [A-Z].*\.)?',
-    rf'wrong: at (?P<call>.+) it overflows, which (?P<broken>{CLAUSE}) excludes, and (?P<clause>{CLAUSE}) asks for (?P<right>.+)\.',
-    r'wrong \(not run: (?P<reason>[^()]+)\): .+\.',
-)
+FORMS = (rf'wrong: at (?P<call>.+) it returns (?P<wrong>.+), and (?P<clause>{CLAUSE}) asks '
+         r'for (?P<right>.+?)\.(?: [A-Z].*\.)?',
+         rf'wrong: at (?P<call>.+) it overflows, which (?P<broken>{CLAUSE}) excludes, and '
+         rf'(?P<clause>{CLAUSE}) asks for (?P<right>.+)\.',
+         r'wrong \(not run: (?P<reason>[^()]+)\): .+\.')
 PAIR = re.compile(r'file: ?(?P<file>.+)\n|old: ?(?P<old>.+)\nnew: ?(?P<new>.*)(?:\n|\Z)')
 
 
@@ -35,7 +36,8 @@ class BadEdit(Exception):
 
 
 def replaced(crate: Path, name: str, texts: dict[str, str], old: str, new: str) -> str:
-    """Returns the file, as the pairs so far have left it, with the old text, which stands in it once, replaced."""
+    """Returns the file, as the pairs so far have left it, with the old text, which stands in it
+    once, replaced."""
     path = crate / name
     if '..' in path.parts or not name.startswith(PARTS) or not path.is_file():
         raise BadEdit(f'there is no file {name}')
@@ -56,8 +58,8 @@ def form_of(line: str) -> re.Match[str]:
 
 
 def apply(crate: Path, edit: Path) -> tuple[re.Match[str], dict[str, str]]:
-    """Applies the pairs of the edit, one after the other, to copies of the files. Returns what the first line says, and the
-    texts of the changed files by their names."""
+    """Applies the pairs of the edit, one after the other, to copies of the files. Returns what the
+    first line says, and the texts of the changed files by their names."""
     first, _, pairs = edit.read_text(encoding='utf-8').partition('\n')
     said, name, at, texts = form_of(first), '', 0, dict[str, str]()
     while at < len(pairs):
@@ -93,7 +95,8 @@ def functions(text: str) -> dict[str, str]:
 
 
 def changed(crate: Path) -> Iterator[tuple[str, str]]:
-    """The functions that some mutant of a crate changes, each as the name of its file and its own."""
+    """The functions that some mutant of a crate changes, each as the name of its file and its
+    own."""
     for edit in (edit for suite in SUITES for edit in sorted(crate.glob(f'{suite}/*.edit'))):
         try:
             texts = apply(crate, edit)[1]

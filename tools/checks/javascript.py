@@ -28,7 +28,8 @@ def check(_: list[str]) -> bool | None:
     if not shutil.which('tsc'):
         print('tsc is missing: tools/gate/install_packages.sh installs it if Node is there')
         return False if os.environ.get('CI') and shutil.which('node') else None
-    files = sorted(file.relative_to(ROOT).as_posix() for folder in ('bindings/js', 'bindings/js/tests')
+    files = sorted(file.relative_to(ROOT).as_posix()
+                   for folder in ('bindings/js', 'bindings/js/tests')
                    for file in (ROOT / folder).glob('*.js') if file.name != 'wasm.js')
     run = subprocess.run(['tsc', *WORDS, *files], cwd=ROOT, capture_output=True, text=True)
     return counted([*((line, False) for line in findings(run.stdout)), *[('', True)] * len(files)])

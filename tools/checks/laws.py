@@ -1,10 +1,12 @@
-"""Compares the laws of each `crates/*/specs/Laws.antt` with the clauses that the gate proves. Each law of a library stands in an
-`ensures` of a public function of crates/theorems/src/laws.rt. Those of cellarcove_c, on which no crate can stand, stand in its
-own src/laws_of_exports.rt. Both crates are in crates.txt.
+"""Compares the laws of each `crates/*/specs/Laws.antt` with the clauses that the gate proves. Each
+law of a library stands in an `ensures` of a public function of crates/theorems/src/laws.rt. Those
+of cellarcove_c, on which no crate can stand, stand in its own src/laws_of_exports.rt. Both crates
+are in crates.txt.
 
-A law is a definition that is `Type N` itself. One with arguments is a word: it stands in a clause too, or a law cites it. A
-name counts where the file imports it from that `Laws`, or writes it after the word by which it imports the whole file, as
-`dates.FirstDay`. A form that is not known is rejected by file and line."""
+A law is a definition that is `Type N` itself. One with arguments is a word: it stands in a clause
+too, or a law cites it. A name counts where the file imports it from that `Laws`, or writes it
+after the word by which it imports the whole file, as `dates.FirstDay`. A form that is not known is
+rejected by file and line."""
 import re
 from collections.abc import Iterator
 from pathlib import Path
@@ -20,8 +22,10 @@ THEOREMS = ('theorems', 'laws.rt')
 OWN = {'cellarcove_c': ('cellarcove_c', 'laws_of_exports.rt')}
 
 
-def named(text: str, imports: dict[str, tuple[str, str]], files: dict[str, str]) -> Iterator[tuple[str, str]]:
-    """The definitions of a `Laws` that the text of a clause names, each as its crate and its name."""
+def named(text: str, imports: dict[str, tuple[str, str]],
+          files: dict[str, str]) -> Iterator[tuple[str, str]]:
+    """The definitions of a `Laws` that the text of a clause names, each as its crate and its
+    name."""
     for name in cited(text, imports):
         if imports[name][1] == 'specs.Laws':
             yield imports[name][0], name
@@ -31,7 +35,8 @@ def named(text: str, imports: dict[str, tuple[str, str]], files: dict[str, str])
 
 
 def ensured(root: Path, specs: Specs, crate: str, file: str, public: bool) -> set[tuple[str, str]]:
-    """The definitions of a `Laws` that stand in an `ensures` of the file, each as a pair of its crate and its name."""
+    """The definitions of a `Laws` that stand in an `ensures` of the file, each as a pair of its
+    crate and its name."""
     path = root / 'crates' / crate / 'src' / file
     found: set[tuple[str, str]] = set()
     if crate not in dependencies(root) or not path.is_file():
@@ -63,7 +68,8 @@ def judged(root: Path) -> Iterator[tuple[str, bool]]:
         used = {below for law in laws for below in cited(words[law].text, words) if below != law}
         place = '/src/'.join(OWN.get(crate, THEOREMS))
         for name in (name for name in words if name in laws or name not in used):
-            yield f'{file.relative_to(root)}: no function of {place} ensures `{name}`', (crate, name) in stated
+            yield (f'{file.relative_to(root)}: no function of {place} ensures `{name}`',
+                   (crate, name) in stated)
 
 
 def check(_: list[str]) -> bool:

@@ -56,7 +56,8 @@ def leads(link: str, name: str, files: Mapping[str, bytes]) -> bool:
 def dead_links(files: Mapping[str, bytes]) -> Iterator[str]:
     """The dead links of a package."""
     for name, content in sorted(files.items()):
-        for link in () if NOT_READ.match(name) else links_of(name, content.decode(errors='replace')):
+        for link in (() if NOT_READ.match(name)
+                     else links_of(name, content.decode(errors='replace'))):
             if not SCHEME.match(link) and not leads(link, name, files):
                 yield f'{name} leads to {link}'
 

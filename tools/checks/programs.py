@@ -2,8 +2,10 @@
 
     tools/cellarcove check programs PROGRAM OTHER [COUNT]
 
-It asks them for the worked rows and the other fixed cases of crates/tests and those of docs/INTCALC.md, whose lines it knows, and for COUNT requests at random, a
-thousand if none is given. Some outputs are a full device, closed, or a pipe that nobody reads: then it compares the status."""
+It asks them for the worked rows and the other fixed cases of crates/tests and those of
+docs/INTCALC.md, whose lines it knows, and for COUNT requests at random, a thousand if none is
+given. Some outputs are a full device, closed, or a pipe that nobody reads: then it compares the
+status."""
 import os
 import pathlib
 import random
@@ -16,9 +18,11 @@ from tools import ROOT, counted
 
 TESTS = ROOT / 'crates/tests/src/tests'
 TYPES = {'signed': ('i8', 'i64'), 'unsigned': ('u8', 'u64'), 'native': ('i8', 'u8', 'i64', 'u64')}
-KINDS = {'i8': (-2**7, 2**7 - 1), 'u8': (0, 2**8 - 1), 'i64': (-2**63, 2**63 - 1), 'u64': (0, 2**64 - 1)}
+KINDS = {'i8': (-2**7, 2**7 - 1), 'u8': (0, 2**8 - 1), 'i64': (-2**63, 2**63 - 1),
+         'u64': (0, 2**64 - 1)}
 TEXT = r'"((?:[^"\\]|\\.)*)"'
-ODD = ('', '-', '+1', '007', '-0', '--1', '1 ', '1_0', '٣', '\udcff', '9' * 100, '-' + '9' * 100, str(2**127), str(-2**127 - 1))
+ODD = ('', '-', '+1', '007', '-0', '--1', '1 ', '1_0', '٣', '\udcff', '9' * 100, '-' + '9' * 100,
+       str(2**127), str(-2**127 - 1))
 OUTPUTS = ('full', 'closed', 'unread')
 SEED = 20261129
 Request = tuple[list[str], str | None]                  # the words, and the line if it is known
@@ -36,10 +40,12 @@ def worked_rows() -> Iterator[Request]:
     for row in re.findall(TEXT, (TESTS / 'worked_rows.rt').read_text()):
         asked, _, cases = row.partition(': ')
         types, _, call = asked.partition(' ')
-        for kind in (kind for name in types.split('/') for kind in TYPES.get(name, (name,)) if kind in KINDS and call in calls()):
+        for kind in (kind for name in types.split('/') for kind in TYPES.get(name, (name,))
+                     if kind in KINDS and call in calls()):
             for case in cases.split(', '):
                 operands, _, line = case.partition(' = ')
-                yield from (([kind, call, *words.split(' ')], line) for words in operands.split(' or '))
+                yield from (([kind, call, *words.split(' ')], line)
+                            for words in operands.split(' or '))
 
 
 def part(text: str, name: str) -> str:
@@ -48,8 +54,10 @@ def part(text: str, name: str) -> str:
 
 
 def fixed() -> Iterator[Request]:
-    """The other cases: words that ask for no call, words of numbers, calls, and operands that do not fit."""
-    for words, line in re.findall(r'^\| `(\w+ [^`]*)` \| `([^`]*)` \|', (ROOT / 'docs/INTCALC.md').read_text(), re.M):
+    """The other cases: words that ask for no call, words of numbers, calls, and operands that do
+    not fit."""
+    for words, line in re.findall(r'^\| `(\w+ [^`]*)` \| `([^`]*)` \|',
+                                  (ROOT / 'docs/INTCALC.md').read_text(), re.M):
         yield ['i64', *words.split(' ')], line
     program, outcomes = (TESTS / f'{name}.rt' for name in ('program', 'program/outcomes'))
     text = program.read_text()
@@ -61,7 +69,8 @@ def fixed() -> Iterator[Request]:
         yield from (([kind, 'gcd', word, '0'], None) for kind in KINDS)
     for words in re.findall(TEXT, part((TESTS / 'program/requests.rt').read_text(), 'REQUESTS')):
         yield words.split(' '), None
-    for kind, call, operands in re.findall(r'Kind::(\w+), Call::(\w+)\(([^)]*)\)', part(outcomes.read_text(), 'OUT_OF_TYPE')):
+    for kind, call, operands in re.findall(r'Kind::(\w+), Call::(\w+)\(([^)]*)\)',
+                                           part(outcomes.read_text(), 'OUT_OF_TYPE')):
         name = re.sub(r'(?<!^)([A-Z])', r'_\1', call).lower()
         numbers = operands.replace('i128::MIN', str(-2**127)).replace('i128::MAX', str(2**127 - 1))
         yield [kind.lower(), name, *numbers.split(', ')], 'refused 1 OutOfType'
@@ -77,7 +86,8 @@ def number(chance: random.Random, kind: str) -> str:
         return str(chance.choice((low, high, 0, low // 2, high // 2)) + chance.randint(-2, 2))
     if form < 8:
         return str(chance.randint(-20, 70) if low else chance.randint(0, 70))
-    return str(chance.randint(low >> (bits := chance.randrange(1, high.bit_length())), high >> bits))
+    return str(chance.randint(low >> (bits := chance.randrange(1, high.bit_length())),
+                              high >> bits))
 
 
 def at_random(count: int) -> Iterator[Request]:
@@ -87,7 +97,8 @@ def at_random(count: int) -> Iterator[Request]:
         size = known[call] if chance.randrange(30) else chance.randrange(6)
         words = [kind, call, *(number(chance, kind) for _ in range(size))]
         if not chance.randrange(40):
-            words[chance.randrange(2)] = chance.choice(('', 'i16', 'I64', 'divides', 'gcd ', 'lcm\n'))
+            words[chance.randrange(2)] = chance.choice(('', 'i16', 'I64', 'divides', 'gcd ',
+                                                        'lcm\n'))
         yield words, None
 
 
@@ -95,7 +106,8 @@ def outcome(program: str, words: list[str], output: str) -> tuple[int, bytes]:
     """The status of a program, and what it prints."""
     command = [os.fsencode(word) for word in [program, *words]]
     if output == 'closed':
-        return subprocess.run([b'sh', b'-c', b'exec "$0" "$@" >&-', *command], check=False).returncode, b''
+        return subprocess.run([b'sh', b'-c', b'exec "$0" "$@" >&-', *command],
+                              check=False).returncode, b''
     if output == 'full':
         with open('/dev/full', 'wb') as full:
             return subprocess.run(command, stdout=full, check=False).returncode, b''
@@ -112,7 +124,8 @@ def same(programs: list[str], request: Request, output: str) -> tuple[str, bool]
     """What went wrong, and whether nothing did."""
     words, line = request
     found = [outcome(program, words, output) for program in programs]
-    wanted = found[0] if line is None or output else ({'usage': 2, 'refused': 1}.get(line.split(' ')[0], 0), f'{line}\n'.encode())
+    wanted = (found[0] if line is None or output
+              else ({'usage': 2, 'refused': 1}.get(line.split(' ')[0], 0), f'{line}\n'.encode()))
     wanted = (4, b'') if output else wanted
     return f'{words} {output}: {found}, not {wanted}', all(each == wanted for each in found)
 

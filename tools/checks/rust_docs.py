@@ -1,8 +1,9 @@
-"""Reads the made crate of plain Rust: each public function, type and trait has an example that runs, each public function that
-panics with the place of its caller says below `# Panics` when, each link to a contract leads to a heading of rust/reference, and no
-line is wider than 100 columns, but for the first of a file. That each item has a comment, and each `Result` its `# Errors`, rustc and
-clippy see. With --links it reads the pages that rustdoc makes: each link
-leads to a file, and to a title that is there."""
+"""Reads the made crate of plain Rust: each public function, type and trait has an example that
+runs, each public function that panics with the place of its caller says below `# Panics` when,
+each link to a contract leads to a heading of rust/reference, and no line is wider than 100
+columns, but for the first of a file. That each item has a comment, and each `Result` its `#
+Errors`, rustc and clippy see. With --links it reads the pages that rustdoc makes: each link leads
+to a file, and to a title that is there."""
 import pathlib
 import re
 import urllib.parse
@@ -14,7 +15,8 @@ from tools.erase.prose import COLUMNS
 from tools.erase.source import Item, Source
 from tools.pages.api import Shown, shown
 
-CONTRACT = re.compile(r'crate::definitions::(\w+)#([^)]*)')      # the page of a library, and a heading of it
+# the page of a library, and a heading of it
+CONTRACT = re.compile(r'crate::definitions::(\w+)#([^)]*)')
 LINK = re.compile(r' href="(?![a-z]+:)([^"]+)"')        # one within the pages
 
 
@@ -23,7 +25,8 @@ def lacks(source: Source, item: Item) -> Iterator[str]:
     lines = source.doc(item)
     if '# Examples' not in lines and item.kind != 'const':
         yield 'an example'
-    if any(source.at(first + 2) == 'track_caller' for first, _ in item.attributes) and '# Panics' not in lines:
+    if any(source.at(first + 2) == 'track_caller'
+           for first, _ in item.attributes) and '# Panics' not in lines:
         yield 'the section `# Panics`'
 
 
@@ -44,8 +47,8 @@ def lost_contracts(folder: pathlib.Path) -> Iterator[str]:
 
 
 def dead_links(folder: pathlib.Path) -> Iterator[str]:
-    """The relative links of the pages below a folder that lead to no file, or to a title that a page
-    there does not have."""
+    """The relative links of the pages below a folder that lead to no file, or to a title that a
+    page there does not have."""
     texts = {path.resolve(): path.read_text() for path in folder.rglob('*.html')}
     titles = {path: set(re.findall(r' id="([^"]+)"', text)) for path, text in texts.items()}
     for path, text in sorted(texts.items()):
@@ -63,7 +66,9 @@ def check(words: list[str]) -> bool:
         folder = pathlib.Path(words[1])
         wrong, read = list(dead_links(folder)), len(list(folder.rglob('*.html')))
     else:
-        items = [(source, item, path) for source, item, path, owner in shown(Shown()) if item.kind == 'fn' or not owner]
-        wrong, read = [f'{path} lacks {what}' for source, item, path in items for what in lacks(source, item)], len(items)
+        items = [(source, item, path) for source, item, path, owner in shown(Shown())
+                 if item.kind == 'fn' or not owner]
+        wrong, read = [f'{path} lacks {what}' for source, item, path in items
+                       for what in lacks(source, item)], len(items)
         wrong += [*wide_lines(ROOT / 'rust' / 'src'), *lost_contracts(ROOT / 'rust')]
     return counted([*((line, False) for line in wrong), *[('', True)] * read])

@@ -1,8 +1,10 @@
-"""`#[track_caller]` of the functions of the Rust crate on the way to a panic, so that it names the place of the call from outside.
+"""`#[track_caller]` of the functions of the Rust crate on the way to a panic, so that it names the
+place of the call from outside.
 
-The functions by hand that panic have it, and a generic division panics too. A function that reaches one of these by calls gets it if its
-comment has the section `# Panics`, and if no other crate can call it and it stands between such a function and the panic. A function is
-found by its path, through imports, and a method by its name alone."""
+The functions by hand that panic have it, and a generic division panics too. A function that
+reaches one of these by calls gets it if its comment has the section `# Panics`, and if no other
+crate can call it and it stands between such a function and the panic. A function is found by its
+path, through imports, and a method by its name alone."""
 import collections
 from dataclasses import dataclass
 from pathlib import Path
@@ -10,7 +12,8 @@ from pathlib import Path
 from tools.erase.library import Made, Module
 from tools.erase.source import Item
 
-Name = tuple[str, ...]                          # the path of a function, or the name of a method alone
+# the path of a function, or the name of a method alone
+Name = tuple[str, ...]
 ATTRIBUTE = 'track_caller'
 
 
@@ -27,13 +30,15 @@ class Function:
 
     def has(self) -> bool:
         """Whether it has the attribute."""
-        return any(self.module.source.at(first + 2) == ATTRIBUTE for first, _ in self.item.attributes)
+        return any(self.module.source.at(first + 2) == ATTRIBUTE
+                   for first, _ in self.item.attributes)
 
     def divides(self) -> bool:
         """Whether it divides numbers of a type that it is generic over. Division panics."""
         source, item = self.module.source, self.item
-        return item.open is not None and source.at(item.word + 2) == '<' \
-            and any(source.is_sign(k, '/%') and source.at(k + 1) != '=' for k in range(item.open, item.last))
+        return (item.open is not None and source.at(item.word + 2) == '<'
+                and any(source.is_sign(k, '/%') and source.at(k + 1) != '='
+                        for k in range(item.open, item.last)))
 
     def says_so(self) -> bool:
         """Whether its comment says when it panics."""
@@ -45,13 +50,16 @@ class Callers(Made):
 
     def __init__(self, folder: Path) -> None:
         super().__init__(folder)
-        owners = [(module, owner) for module in self.modules.values() for owner in (None, *module.items)
-                  if owner is None or owner.kind in ('trait', 'impl')]
-        self.functions = [Function(module, item, owner) for module, owner in owners for item in (owner or module).items if item.kind == 'fn']
+        owners = [(module, owner) for module in self.modules.values()
+                  for owner in (None, *module.items) if owner is None
+                  or owner.kind in ('trait', 'impl')]
+        self.functions = [Function(module, item, owner) for module, owner in owners
+                          for item in (owner or module).items if item.kind == 'fn']
         self.called = collections.defaultdict[Name, set[Name]](set)
         for function in self.functions:
             self.called[function.name] |= self.calls(function)
-        self.traits = {item.name for module in self.modules.values() for item in module.items if item.kind == 'trait'}
+        self.traits = {item.name for module in self.modules.values() for item in module.items
+                       if item.kind == 'trait'}
 
     def calls(self, function: Function) -> set[Name]:
         """The functions and methods that a function names."""
@@ -70,16 +78,21 @@ class Callers(Made):
 
     def reaching(self) -> set[Name]:
         """The functions that reach a panic."""
-        found = {function.name for function in self.functions if function.has() or function.divides()}
-        while more := {function.name for function in self.functions if function.name not in found and self.called[function.name] & found}:
+        found = {function.name for function in self.functions if function.has()
+                 or function.divides()}
+        while more := {function.name for function in self.functions if function.name not in found
+                       and self.called[function.name] & found}:
             found |= more
         return found
 
     def on_the_way(self) -> set[Name]:
         """The functions between the calls whose comments say that they panic and the panics."""
-        reaching, closed = self.reaching(), {function.name for function in self.functions if self.is_closed(function)}
+        reaching, closed = (self.reaching(),
+                            {function.name for function in self.functions
+                             if self.is_closed(function)})
         found = {function.name for function in self.functions if function.says_so()} & reaching
-        while more := {name for known in found for name in self.called[known] & reaching & closed} - found:
+        while (more := {name for known in found for name in self.called[known] & reaching & closed}
+               - found):
             found |= more
         return found
 
@@ -91,10 +104,12 @@ class Callers(Made):
         return not owner.of_trait and not (item.public and owner.name in self.types)
 
     def put(self) -> None:
-        """Writes the attribute at each function that is to have it. An implementation has it of its trait, if that is of the crate."""
+        """Writes the attribute at each function that is to have it. An implementation has it of
+        its trait, if that is of the crate."""
         names = self.on_the_way()
         for function in self.functions:
             of_own = function.owner is not None and function.owner.of_trait in self.traits
-            if function.name in names and not function.has() and not of_own and (self.is_closed(function) or function.says_so()):
+            if function.name in names and not function.has() and not of_own and (
+                    self.is_closed(function) or function.says_so()):
                 function.module.source.put_before(function.item.first, f'#[{ATTRIBUTE}]\n')
         self.write()

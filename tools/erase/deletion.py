@@ -1,11 +1,14 @@
-"""Deletes from a file of Rattle what its contracts are: `ghost` items, members and fields, clauses, `final`, tests, and the traits that
-are of contracts alone. A form that is not known is rejected by file and line."""
+"""Deletes from a file of Rattle what its contracts are: `ghost` items, members and fields,
+clauses, `final`, tests, and the traits that are of contracts alone. A form that is not known is
+rejected by file and line."""
 from collections.abc import Iterable
 
 from tools.erase.source import Item, Source
 
-GHOST_TRAITS = {'Integral', 'FixedWidth', 'Model'}      # traits of contracts alone: no operation of their own
-GHOST_NAMES = GHOST_TRAITS | {'Number'}         # imports and implementations of these go; `Number` also names types
+# traits of contracts alone: no operation of their own
+GHOST_TRAITS = {'Integral', 'FixedWidth', 'Model'}
+# imports and implementations of these go; `Number` also names types
+GHOST_NAMES = GHOST_TRAITS | {'Number'}
 
 
 class Deletion:
@@ -15,7 +18,8 @@ class Deletion:
     def __init__(self, source: Source) -> None:
         self.source, self.texts = source, source.texts
         self.kind, self.at, self.refuse = source.kind, source.at, source.refuse
-        self.drop, self.drop_from_list, self.put_before = source.drop, source.drop_from_list, source.put_before
+        self.drop, self.drop_from_list, self.put_before = (source.drop, source.drop_from_list,
+                                                           source.put_before)
         self.fn_clauses = set[int]()
 
     def write(self, k: int, text: str) -> None:
@@ -25,7 +29,8 @@ class Deletion:
         """Drops an item, and the lines of comments right above it."""
         self.drop(first, last)
         tokens, i = self.source.tokens, self.source.code[first] - 1
-        while i > 1 and tokens[i].text.count('\n') == 1 and tokens[i - 1].kind == 'line' and '\n' in tokens[i - 2].text:
+        while (i > 1 and tokens[i].text.count('\n') == 1 and tokens[i - 1].kind == 'line'
+               and '\n' in tokens[i - 2].text):
             self.texts[i] = self.texts[i - 1] = ''
             i -= 2
 
@@ -41,7 +46,8 @@ class Deletion:
 
     def goes(self, item: Item) -> bool:
         """Whether an item is there for contracts or tests alone."""
-        is_test = any(self.at(first + 2) == 'cfg' and self.at(first + 4) == 'test' for first, _ in item.attributes)
+        is_test = any(self.at(first + 2) == 'cfg' and self.at(first + 4) == 'test'
+                      for first, _ in item.attributes)
         return item.kind == 'ghost' or item.of_trait in GHOST_NAMES or is_test
 
     def item(self, item: Item, owner: Item | None) -> None:
@@ -78,7 +84,8 @@ class Deletion:
 
     def clone(self, item: Item) -> None:
         """Writes the method of `Clone`, which returns `Ok(*self)` in Rattle, as Rust has it."""
-        result, ok = (next((k for k in range(item.word, item.last) if self.at(k) == word), item.last) for word in ('Result', 'Ok'))
+        result, ok = (next((k for k in range(item.word, item.last) if self.at(k) == word),
+                           item.last) for word in ('Result', 'Ok'))
         if [self.at(k) for k in range(ok, item.last)] != ['Ok', '(', '*', 'self', ')']:
             self.refuse(item.word, 'a `clone` that is not `Ok(*self)`')
         self.drop(result + 1, ok - 2)
@@ -87,8 +94,10 @@ class Deletion:
             self.drop(k, k)
 
     def attribute(self, first: int, last: int) -> None:
-        """Drops an attribute of proofs, and of a list of traits the one that only Rattle derives."""
-        derived = [k for k in range(first + 4, last) if self.at(first + 2) == 'derive' and self.kind(k) == 'word']
+        """Drops an attribute of proofs, and of a list of traits the one that only Rattle
+        derives."""
+        derived = [k for k in range(first + 4, last) if self.at(first + 2) == 'derive'
+                   and self.kind(k) == 'word']
         if self.at(first + 2) in self.dropped or [self.at(k) for k in derived] == ['Drop']:
             self.drop_line(first, last)
         for k in derived:
@@ -122,11 +131,13 @@ class Deletion:
         return k + 1
 
     def word(self, k: int) -> None:
-        """A token of code: the head of `fmt`, whose writer Rust's `Formatter` does not name, or a trait that is of contracts alone."""
+        """A token of code: the head of `fmt`, whose writer Rust's `Formatter` does not name, or a
+        trait that is of contracts alone."""
         if self.at(k - 1) == 'fn' and self.at(k + 1) == '<':
             opening = self.source.angle(k + 1)
             taken = {self.at(j) for j in range(opening, self.source.close(opening))}
-            if 'Formatter' in taken and ''.join(self.at(j) for j in range(k + 3, opening - 1)) == ':fmt::Write':
+            bound = ''.join(self.at(j) for j in range(k + 3, opening - 1))
+            if 'Formatter' in taken and bound == ':fmt::Write':
                 self.drop(k + 1, opening - 1)
         elif self.at(k) == 'Formatter' and self.at(k + 1) == '<':
             self.write(k + 2, "'_")

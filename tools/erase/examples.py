@@ -1,5 +1,6 @@
-"""The sections `# Examples` of the Rust crate: of each sentence `A` is `B` in the comment of a public item one assertion, then the
-code of the section that the comment has, below the `use` lines of their names. `cargo test` runs them."""
+"""The sections `# Examples` of the Rust crate: of each sentence `A` is `B` in the comment of a
+public item one assertion, then the code of the section that the comment has, below the `use` lines
+of their names. `cargo test` runs them."""
 import collections
 import functools
 import re
@@ -11,7 +12,8 @@ from tools.erase.source import Item, Source
 INDENT = 4                                      # of the members of a trait or a type
 SENTENCE = re.compile(r'`([^`]+)` is (?:`([^`]+)`)?')
 # A sentence of examples alone.
-ALONE = re.compile(r'(?:(?<=[.] )|^)`[^`]+` is `[^`]+`(?:(?:,|, and| and) `[^`]+` is `[^`]+`)*\.(?: |$)')
+ALONE = re.compile(
+    r'(?:(?<=[.] )|^)`[^`]+` is `[^`]+`(?:(?:,|, and| and) `[^`]+` is `[^`]+`)*\.(?: |$)')
 TEXT = r'"(?:[^"\\]|\\.)*"'
 NATIVE = r'\b[iu](?:8|16|32|64|128|size)'
 # Names that stand alone or begin a path, and names of methods.
@@ -20,7 +22,8 @@ METHOD = re.compile(rf'{TEXT}|(?:\.|{NATIVE}::)(\w+)\(')
 
 
 def sentences(source: Source, item: Item) -> list[tuple[str, str]]:
-    """The pairs A, B of an item's comment. A call that is said to be what is no code is rejected."""
+    """The pairs A, B of an item's comment. A call that is said to be what is no code is
+    rejected."""
     found = SENTENCE.findall(' '.join(source.doc(item)))
     for call, answer in found:
         if not answer and '(' in call:
@@ -38,7 +41,8 @@ def without_examples(lines: list[str]) -> list[str]:
     found: list[str] = []
     for paragraph in paragraphs(lines):
         text = ' '.join(paragraph)
-        rest = text if any(re.match(r'\||- |```', line) for line in paragraph) else ALONE.sub('', text).strip()
+        rest = (text if any(re.match(r'\||- |```', line) for line in paragraph)
+                else ALONE.sub('', text).strip())
         if rest:
             found += ['', *(paragraph if rest == text else wrapped(rest))]
     return found[1:] or lines
@@ -46,9 +50,11 @@ def without_examples(lines: list[str]) -> list[str]:
 
 @functools.cache
 def methods(library: RustLibrary) -> dict[str, set[tuple[Place, str]]]:
-    """The public traits of the library that have a method, by its name, each with its public place."""
+    """The public traits of the library that have a method, by its name, each with its public
+    place."""
     found = collections.defaultdict[str, set[tuple[Place, str]]](set)
-    traits = [(library.place_of(module, item), item) for module in library.modules.values() for item in module.items if item.kind == 'trait']
+    traits = [(library.place_of(module, item), item) for module in library.modules.values()
+              for item in module.items if item.kind == 'trait']
     for place, item in traits:
         if place is not None:
             for inner in item.items:
@@ -66,16 +72,21 @@ def places(library: RustLibrary) -> dict[str, set[Place]]:
 
 
 def imports(library: RustLibrary, code: str, place: Place) -> list[str]:
-    """The lines that import the names of an example of an item at `place`, each from there, from the root, or from its only place; types last."""
+    """The lines that import the names of an example of an item at `place`, each from there, from
+    the root, or from its only place; types last."""
     names: dict[Place, set[str]] = {}
     for match in NAME.finditer(code):
         found = places(library).get(match.group(1), set())
-        for at in [at for at in (place, ()) if at in found][:1] or (found if len(found) == 1 else ()):
-            names.setdefault(at[-1:] if at[-1:] and at[-1] in JOINED else at, set()).add(match.group(1))
+        for at in ([at for at in (place, ()) if at in found][:1]
+                   or (found if len(found) == 1 else ())):
+            names.setdefault(at[-1:] if at[-1:] and at[-1] in JOINED else at,
+                             set()).add(match.group(1))
     for match in METHOD.finditer(code):
         for at, trait in methods(library).get(match.group(1), ()):
             names.setdefault(at, set()).add(trait)
-    return [use('::'.join(('cellarcove',) + at), sorted(names[at], key=lambda name: (name[0].isupper(), name))) for at in sorted(names)]
+    return [use('::'.join(('cellarcove',) + at),
+                sorted(names[at], key=lambda name: (name[0].isupper(), name)))
+            for at in sorted(names)]
 
 
 def use(path: str, names: list[str]) -> str:
@@ -88,15 +99,18 @@ def assertion(call: str, answer: str) -> list[str]:
     if answer in ('true', 'false') and not re.search(r' [<>=&|]', call):
         return [f'assert!({"" if answer == "true" else "!"}{call});']
     line = f'assert_eq!({call}, {answer});'
-    return [line] if len(line) <= WIDTH - INDENT else ['assert_eq!(', f'    {call},', f'    {answer}', ');']
+    return ([line] if len(line) <= WIDTH - INDENT
+            else ['assert_eq!(', f'    {call},', f'    {answer}', ');'])
 
 
-def section(source: Source, library: RustLibrary, item: Item, place: Place, lines: list[str]) -> list[str]:
-    """The lines of the section of an item at a public place, whose own section has these lines, a block of code: an assertion of each
-    sentence, and that code."""
+def section(source: Source, library: RustLibrary, item: Item, place: Place,
+            lines: list[str]) -> list[str]:
+    """The lines of the section of an item at a public place, whose own section has these lines, a
+    block of code: an assertion of each sentence, and that code."""
     if lines and (lines[0] != '```' or lines.index('```', 1) != len(lines) - 1):
         source.refuse(item.word, 'a section `# Examples` that is no block of code')
     pairs, more = sentences(source, item), lines[1:-1]
-    head = imports(library, '\n'.join([*(f'{call}\n{answer}' for call, answer in pairs), *more]), place)
+    head = imports(library, '\n'.join([*(f'{call}\n{answer}' for call, answer in pairs), *more]),
+                   place)
     body = [line for pair in pairs for line in assertion(*pair)] + more
     return ['# Examples', '', '```', *head, *[''] * bool(head), *body, '```'] if body else []

@@ -1,4 +1,5 @@
-"""Crates of Rattle: their modules, and where a caller finds each public item, in Rattle or in the crate of plain Rust."""
+"""Crates of Rattle: their modules, and where a caller finds each public item, in Rattle or in the
+crate of plain Rust."""
 import functools
 from collections.abc import Iterable, Sequence
 from dataclasses import dataclass, field
@@ -11,16 +12,20 @@ Key = tuple[str, tuple[str, ...], str]          # of an item: its crate, its mod
 Public = dict[Key, Place]
 
 ROOT = 'num_integer'                            # its root becomes that of the Rust crate
-# The crates of the Rust crate: how the root declares the module of each, or nothing for the one whose modules stand there.
-CRATES = {'integer_core': 'mod', 'integer_roots': 'mod', 'num_integer': '',
-          'modular': 'pub mod', 'ratio64': 'pub mod', 'calendar': 'pub mod', 'bounded_integers': 'pub mod', 'applied': 'pub mod'}
+# The crates of the Rust crate: how the root declares the module of each, or nothing for the one
+# whose modules stand there.
+CRATES = {'integer_core': 'mod', 'integer_roots': 'mod', 'num_integer': '', 'modular': 'pub mod',
+          'ratio64': 'pub mod', 'calendar': 'pub mod', 'bounded_integers': 'pub mod',
+          'applied': 'pub mod'}
 # The crate whose modules stood at the root until a version, and are there too, deprecated.
 MOVED, SINCE = 'applied', '0.5.0'
 # The names of modules of which one at the root has all items in the Rust crate.
 JOINED = ('checked', 'counted')
-# The public modules that are private in the Rust crate: others export what they have, or no caller there needs it.
-WITHIN = {('integer_core', 'counted'), ('integer_core', 'guards'), ('integer_core', 'padded'), ('integer_core', 'fitting'),
-          ('integer_roots', 'counted'), ('num_integer', 'sign_magnitude'), ('applied', 'guards')}
+# The public modules that are private in the Rust crate: others export what they have, or no caller
+# there needs it.
+WITHIN = {('integer_core', 'counted'), ('integer_core', 'guards'), ('integer_core', 'padded'),
+          ('integer_core', 'fitting'), ('integer_roots', 'counted'),
+          ('num_integer', 'sign_magnitude'), ('applied', 'guards')}
 # The public items that are private in the Rust crate, for the same reason.
 HIDDEN = {('integer_core', 'Magnitudes')}
 NOT_READ = {'tests', 'assertions'}               # modules that only tests have
@@ -38,7 +43,8 @@ class Module:
     @functools.cached_property
     def imported(self) -> dict[str, tuple[str, ...]]:
         """The path of each name that the file imports."""
-        return {name: path for item in self.items if item.kind == 'use' for path, name in self.source.imports(item)}
+        return {name: path for item in self.items if item.kind == 'use'
+                for path, name in self.source.imports(item)}
 
     def rust_file(self) -> str:
         """Its file below src/ of the Rust crate."""
@@ -53,11 +59,14 @@ class Library:
 
     def __init__(self, folder: Path, crates: Iterable[str]) -> None:
         self.folder, self.crates = folder, set(crates)
-        self.names: dict[Key, str] = {}             # of the public items that are exported under another name
-        self.others: list[tuple[Place, Key]] = []   # the further places of public items, each with its name
+        # of the public items that are exported under another name
+        self.names: dict[Key, str] = {}
+        # the further places of public items, each with its name
+        self.others: list[tuple[Place, Key]] = []
         self.modules: dict[tuple[str, tuple[str, ...]], Module] = {}
         for crate in crates:
-            roots = [(folder / crate / 'src' / name).with_suffix(self.SUFFIX) for name in ('lib', 'main')]
+            roots = [(folder / crate / 'src' / name).with_suffix(self.SUFFIX)
+                     for name in ('lib', 'main')]
             self.read(crate, (), next((root for root in roots if root.is_file()), roots[0]))
 
     def read(self, crate: str, path: tuple[str, ...], file: Path) -> None:
@@ -67,7 +76,8 @@ class Library:
         for item in self.below(module):
             if item.open:
                 source.refuse(item.word, f'the module `{item.name}` within a file')
-            below = (self.folder / crate / 'src').joinpath(*path, item.name).with_suffix(self.SUFFIX)
+            below = (self.folder / crate / 'src').joinpath(*path,
+                                                           item.name).with_suffix(self.SUFFIX)
             if not below.is_file():
                 source.refuse(item.word, f'the module `{item.name}`, which has no file')
             self.read(crate, path + (item.name,), below)
@@ -76,7 +86,8 @@ class Library:
         """The modules in a module that code can name outside tests."""
         at = module.source.at
         return [item for item in module.items if item.kind == 'mod' and item.name not in NOT_READ
-                and not any((at(first + 2), at(first + 4)) in self.LEFT_OUT for first, _ in item.attributes)]
+                and not any((at(first + 2), at(first + 4)) in self.LEFT_OUT
+                            for first, _ in item.attributes)]
 
     def published(self, crate: str) -> Public:
         """The place of each public item in a crate, as a caller in Rattle finds it."""
@@ -88,7 +99,8 @@ class Library:
         return path[0] in OUTSIDE or path[0] in self.crates or path[0] in names
 
     def find(self, module: Module, path: Sequence[str]) -> tuple[Module, str | None] | None:
-        """The module and the name to which a path leads; the module and None where it leads to a module; or None."""
+        """The module and the name to which a path leads; the module and None where it leads to a
+        module; or None."""
         crate, at, names = module.crate, module.path, list(path)
         if names[0] in self.crates:
             crate, at = names.pop(0), ()
@@ -99,26 +111,32 @@ class Library:
         here = self.modules[crate, at]
         if not names:
             return here, None
-        if len(names) > 1 and here.imported.get(names[0], path) != path:        # a module that is exported there
+        # a module that is exported there
+        if len(names) > 1 and here.imported.get(names[0], path) != path:
             return self.find(here, [*here.imported[names[0]], *names[1:]])
         return self.find_name(here, names[0]) if len(names) == 1 else None
 
     def find_name(self, module: Module, name: str) -> tuple[Module, str | None] | None:
-        """The module that has an item that this one has or exports, and the item's name there; or None."""
+        """The module that has an item that this one has or exports, and the item's name there; or
+        None."""
         if module.imported.get(name, (name,)) != (name,):
             return self.find(module, module.imported[name])
-        named = (item for item in module.items if item.name == name and item.kind not in ('impl', 'ghost', 'use', 'attribute'))
+        named = (item for item in module.items if item.name == name
+                 and item.kind not in ('impl', 'ghost', 'use', 'attribute'))
         return (module, name) if next(named, None) else None
 
     def named(self, module: Module, path: Sequence[str]) -> tuple[Module, str | None] | None:
-        """As `find`, for a path in the code of a module, which begins with a name that the module has or imports."""
+        """As `find`, for a path in the code of a module, which begins with a name that the module
+        has or imports."""
         return self.find(module, [*module.imported.get(path[0], path[:1]), *path[1:]])
 
     def publish(self, public: Public, module: Module, place: Place) -> Public:
-        """Notes the public items of a module that stands at this place: its own first, then those of the modules in it."""
+        """Notes the public items of a module that stands at this place: its own first, then those
+        of the modules in it."""
         for item in module.items:
             exports = module.source.imports(item) if item.public and item.kind == 'use' else []
-            for path, name in (pair for pair in exports if pair[0][0] not in OUTSIDE - {'crate', 'self', 'super'}):
+            for path, name in (pair for pair in exports
+                               if pair[0][0] not in OUTSIDE - {'crate', 'self', 'super'}):
                 found = self.find(module, path)
                 if not found:
                     raise Unknown(f'{module.source.path}: the export of `{"::".join(path)}`')
@@ -155,15 +173,16 @@ class Library:
 
 
 class Made(Library):
-    """The crate that is made, whose sources are below a folder, with the public place of each item."""
+    """The crate that is made, whose sources are below a folder, with the public place of each
+    item."""
     SUFFIX = '.rs'
 
     def __init__(self, folder: Path) -> None:
         super().__init__(folder.parent, [folder.name])
         self.name, root = folder.name, self.modules[folder.name, ()]
         below = [item.name for item in self.below(root) if item.public]
-        self.late = {name for item in self.below(root) for first, _ in item.attributes for name in [item.name]
-                     if root.source.at(first + 2) == 'deprecated'}
+        self.late = {name for item in self.below(root) for first, _ in item.attributes
+                     for name in [item.name] if root.source.at(first + 2) == 'deprecated'}
         self.public = self.published(self.name)
         self.late, late = set(), [name for name in below if name in self.late]
         for name in late:
@@ -174,7 +193,8 @@ class Made(Library):
         return not (module.path and module.path[0] in self.late)
 
     def note(self, public: Public, key: Key, place: Place, name: str) -> None:
-        """Notes an export. The shortest place of an item counts, but for those in modules that are deprecated."""
+        """Notes an export. The shortest place of an item counts, but for those in modules that are
+        deprecated."""
         if len(place) < len(public.get(key, ())) and self.late:
             self.others.append(((*public.pop(key), self.names.pop(key, key[2])), key))
         super().note(public, key, place, name)
@@ -212,8 +232,10 @@ class RustLibrary(Library):
 
     def moved(self) -> dict[str, list[str]]:
         """The public modules of the crate that has moved, each with the names that it gives out."""
-        below = [(item.name, self.modules[MOVED, (item.name,)]) for item in self.below(self.modules[MOVED, ()])]
-        return {name: sorted({key[2] for key, place in self.public.items() if place == (MOVED, name)}
+        below = [(item.name, self.modules[MOVED, (item.name,)])
+                 for item in self.below(self.modules[MOVED, ()])]
+        return {name: sorted({key[2] for key, place in self.public.items()
+                              if place == (MOVED, name)}
                              | {inner.name for inner in self.below(module) if inner.public})
                 for name, module in below if self.is_open(module)}
 
@@ -227,4 +249,5 @@ class RustLibrary(Library):
 
     def place_of_type(self, module: Module, name: str) -> Place | None:
         """The public place of a type that the module's crate has."""
-        return next((place for (crate, _, found), place in self.public.items() if crate == module.crate and found == name), None)
+        return next((place for (crate, _, found), place in self.public.items()
+                     if crate == module.crate and found == name), None)

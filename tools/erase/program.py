@@ -1,8 +1,9 @@
-"""Takes the contracts out of the crate below the program `intcalc`, and makes a Cargo package of the program over the crate of plain
-Rust.
+"""Takes the contracts out of the crate below the program `intcalc`, and makes a Cargo package of
+the program over the crate of plain Rust.
 
-The library of the package is `intcalc_core`, erased as crate.py does it. What else changes: paths lead to the crate `cellarcove`, and
-`std::io` stays what it is. The program itself is by hand, since in Rattle the system hands it words and memory in other types."""
+The library of the package is `intcalc_core`, erased as crate.py does it. What else changes: paths
+lead to the crate `cellarcove`, and `std::io` stays what it is. The program itself is by hand,
+since in Rattle the system hands it words and memory in other types."""
 from tools import ROOT
 from tools.erase.crate import BY_HAND, Eraser, files, made_from
 from tools.erase.library import RustLibrary
@@ -28,7 +29,8 @@ def made() -> dict[str, str | None]:
         rust, sources = Program(module, library).rust(), str(module.source.path)
         if not module.path:             # the root: its comment, the head by hand, and the modules
             comment = ''.join(line for line in rust.splitlines(True) if line.startswith('//!'))
-            modules = ''.join(line for line in rust.splitlines(True) if not line.startswith('//!')).lstrip()
+            modules = ''.join(line for line in rust.splitlines(True)
+                              if not line.startswith('//!')).lstrip()
             rust = comment + (BY_HAND / 'intcalc_head.rs').read_text() + '\n' + modules
             sources = f'{sources} and rust/by_hand/intcalc_head.rs'
         texts[f'{"/".join(module.path) or "lib"}.rs'] = made_from(sources, 'program') + rust

@@ -5,24 +5,28 @@ import textwrap
 from collections.abc import Iterator
 
 COLUMNS = 100                                   # of a line of Rust
-WIDTH = 96                                      # of the lines of a comment in Rust, before it is indented
+# of the lines of a comment in Rust, before it is indented
+WIDTH = 96
 WHOLE = re.compile(r'`[^`]*`|\[[^\]]*\]\(')      # a span of code, or a link up to its target
-HEAD = re.compile(r' *(?:///|//!|//)|')         # the margin and the sign of a line of a comment, or an empty text
+# the margin and the sign of a line of a comment, or an empty text
+HEAD = re.compile(r' *(?:///|//!|//)|')
 # What begins a line that is no part of a paragraph, or the first of one.
 ALONE = re.compile(r'$|#|\||</?\w|```|@')
 ITEM = re.compile(r'(- |\d+\. )')
 
 
 def wrapped(text: str, width: int = WIDTH, indent: str = '') -> list[str]:
-    """The lines of a text, broken at spaces that are neither in a span of code nor in a link. `indent` is that of the lines after
-    the first."""
+    """The lines of a text, broken at spaces that are neither in a span of code nor in a link.
+    `indent` is that of the lines after the first."""
     text = WHOLE.sub(lambda whole: whole.group().replace(' ', '\0'), text)
-    lines = textwrap.wrap(text, width, subsequent_indent=indent, break_on_hyphens=False, break_long_words=False)
+    lines = textwrap.wrap(text, width, subsequent_indent=indent, break_on_hyphens=False,
+                          break_long_words=False)
     return [line.replace('\0', ' ') for line in lines]
 
 
 def paragraphs(lines: list[str]) -> list[tuple[bool, list[str]]]:
-    """The lines of a comment in groups, each with whether it is prose: paragraphs and items of a list, and lines that stand alone."""
+    """The lines of a comment in groups, each with whether it is prose: paragraphs and items of a
+    list, and lines that stand alone."""
     found: list[tuple[bool, list[str]]] = []
     is_code = False
     for line in lines:
@@ -48,7 +52,8 @@ def within(lines: list[str], width: int) -> Iterator[str]:
 def within_columns(text: str) -> str:
     """The text of a file of Rust, with its comments within the columns."""
     found: list[str] = []
-    for head, lines in itertools.groupby(text.split('\n'), lambda line: next(HEAD.finditer(line)).group()):
+    for head, lines in itertools.groupby(text.split('\n'),
+                                         lambda line: next(HEAD.finditer(line)).group()):
         if head:
             block = [line.removeprefix(head).removeprefix(' ') for line in lines]
             found += [f'{head} {line}'.rstrip() for line in within(block, COLUMNS - len(head) - 1)]
@@ -58,12 +63,14 @@ def within_columns(text: str) -> str:
 
 
 def anchor(title: str) -> str:
-    """The fragment that a title has, in the documentation of Rust and in the browser of a repository."""
+    """The fragment that a title has, in the documentation of Rust and in the browser of a
+    repository."""
     return re.sub(r'[^\w\- ]', '', title).replace(' ', '-').lower()
 
 
 class Anchors(dict[str, int]):
-    """How often the titles of a page have an anchor. In the browser of a repository each but the first has a number behind it."""
+    """How often the titles of a page have an anchor. In the browser of a repository each but the
+    first has a number behind it."""
 
     def of(self, title: str) -> str:
         slug = anchor(title)

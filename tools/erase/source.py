@@ -1,7 +1,8 @@
-"""Reads the sources of Rattle, `.rt`, by tokens: comments, texts, brackets, items, and the clauses that items have.
+"""Reads the sources of Rattle, `.rt`, by tokens: comments, texts, brackets, items, and the clauses
+that items have.
 
-It reads Rust too, of which Rattle is a subset with contracts. A form that it does not know it rejects by file and
-line."""
+It reads Rust too, of which Rattle is a subset with contracts. A form that it does not know it
+rejects by file and line."""
 import re
 from collections.abc import Container, Iterator
 from dataclasses import dataclass, field
@@ -14,7 +15,8 @@ MODIFIERS = ('final', 'const')                  # words before `fn`
 
 LEXER = re.compile(r'''(?P<space>\s+) | (?P<line>//[^\n]*) | (?P<block>/\*)
     | (?P<raw>[bc]?r(?P<hashes>\#*)".*?"(?P=hashes)) | (?P<text>[bc]?"(?:[^"\\]|\\.)*")
-    | (?P<char>b?'(?:[^'\\]|\\(?:x..|u\{[^}]*\}|.))') | (?P<label>'\w+) | (?P<word>\w+) | (?P<sign>.)''', re.X | re.S)
+    | (?P<char>b?'(?:[^'\\]|\\(?:x..|u\{[^}]*\}|.))') | (?P<label>'\w+)
+     | (?P<word>\w+) | (?P<sign>.)''', re.X | re.S)
 
 
 class Unknown(Exception):
@@ -51,8 +53,8 @@ class Field:
 
 @dataclass
 class Item:
-    """An item from its first attribute to its last place. `word` is the place of its keyword, and `open` that of the
-    brace of its body, or None."""
+    """An item from its first attribute to its last place. `word` is the place of its keyword, and
+    `open` that of the brace of its body, or None."""
     kind: str
     name: str
     first: int
@@ -74,7 +76,8 @@ class Item:
 
 
 class Source:
-    """A file. A place is the number of a token that is no comment; `texts` are what a writer may change."""
+    """A file. A place is the number of a token that is no comment; `texts` are what a writer may
+    change."""
 
     def __init__(self, path: str | Path, text: str) -> None:
         self.path, self.tokens = Path(path), list(self.scan(path, text))
@@ -124,13 +127,14 @@ class Source:
         return self.refuse(opened, f'`{self.at(opened)}` without its end')
 
     def end(self, k: int, signs: str, words: Container[str] = ()) -> int:
-        """The place of the first of these signs or words from `k` on, outside brackets; the end of the block at
-        most."""
+        """The place of the first of these signs or words from `k` on, outside brackets; the end of
+        the block at most."""
         while k < len(self.code) and not self.is_sign(k, signs) and self.at(k) not in words:
             if self.is_sign(k, ')]}'):
                 return k - 1
             k = 1 + (self.close(k) if self.is_sign(k, '([{') else k)
-        return k if k < len(self.code) else self.refuse(len(self.code) - 1, 'the end of the file within an item')
+        return (k if k < len(self.code)
+                else self.refuse(len(self.code) - 1, 'the end of the file within an item'))
 
     def angle(self, k: int) -> int:
         """The place after the generics that begin at `k`, or `k` where there are none."""
@@ -183,7 +187,8 @@ class Source:
 
     def head(self) -> list[str]:
         """The lines of the comment at the head of the file."""
-        return [token.text[3:].removeprefix(' ') for token in self.tokens if token.kind == 'line' and token.text.startswith('//!')]
+        return [token.text[3:].removeprefix(' ') for token in self.tokens if token.kind == 'line'
+                and token.text.startswith('//!')]
 
     def parameters(self, item: Item) -> tuple[int, int]:
         """The places of the brackets around the parameters of a function."""
@@ -199,9 +204,12 @@ class Source:
 
     def imports(self, item: Item) -> list[tuple[tuple[str, ...], str]]:
         """The paths that a `use` imports, each with the name that it gives."""
-        text = ''.join(f' {self.at(k)} ' if self.at(k) == 'as' else self.at(k) for k in range(item.word + 1, item.last))
+        text = ''.join(f' {self.at(k)} ' if self.at(k) == 'as' else self.at(k)
+                       for k in range(item.word + 1, item.last))
         while '{' in text:                      # `a::{b, c}` is `a::b, a::c`
-            text = re.sub('([^{},]*){([^{}]*)}', lambda found: ','.join(found[1] + end for end in found[2].split(',') if end), text)
+            text = re.sub('([^{},]*){([^{}]*)}',
+                          lambda found: ','.join(found[1] + end for end in found[2].split(',')
+                                                 if end), text)
         other = re.search(r'[^\w:, ]', text)
         if other:
             self.refuse(item.word, f'`{other[0]}` in a `use`')
@@ -269,8 +277,9 @@ class Source:
         item.open, item.last = brace, self.close(brace)
         item.items = self.items(brace + 1, item.last)
         # a ghost member is a clause without its proof
-        item.clauses = [Clause('ghost', inner.name, inner.word, self.close(self.end(inner.word, '{')))
-                        for inner in item.items if inner.kind == 'ghost' and inner.name != 'use']
+        item.clauses = [Clause('ghost', inner.name, inner.word,
+                               self.close(self.end(inner.word, '{'))) for inner in item.items
+                        if inner.kind == 'ghost' and inner.name != 'use']
 
     def read_impl(self, item: Item) -> None:
         brace = self.end(item.word, '{')
@@ -308,8 +317,9 @@ class Source:
         item.last = self.close(brace) if self.at(brace) == '{' else brace
         if self.at(brace) == '{':
             item.open, item.fields = brace, self.fields(brace + 1, item.last)
-            item.clauses = [Clause('ghost', field.name, field.first, self.close(self.end(field.first, '{')))
-                            for field in item.fields if field.ghost]
+            item.clauses = [Clause('ghost', field.name, field.first,
+                                   self.close(self.end(field.first, '{'))) for field in item.fields
+                            if field.ghost]
 
     def read_enum(self, item: Item) -> None:
         item.open = self.end(item.word, '{')

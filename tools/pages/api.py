@@ -1,9 +1,10 @@
-"""Makes rust/api.txt of rust/src: a line for each public item of the crate of plain Rust, so that a change of it is seen in each
-diff.
+"""Makes rust/api.txt of rust/src: a line for each public item of the crate of plain Rust, so that
+a change of it is seen in each diff.
 
-A line has the path by which a caller names the item, and its declaration without the body. A line `use PATH = PATH` has
-another or a further name of it. An implementation stands by its head,
-if its trait or its type is public or of another crate. What `#[doc(hidden)]` leaves out of the documentation is no line.
+A line has the path by which a caller names the item, and its declaration without the body. A line
+`use PATH = PATH` has another or a further name of it. An implementation stands by its head, if its
+trait or its type is public or of another crate. What `#[doc(hidden)]` leaves out of the
+documentation is no line.
 
 Copies the changelog, without its links, into the folder of the crate, whose package has it."""
 import re
@@ -26,10 +27,13 @@ class Shown(Made):
         super().__init__(folder)
 
     def place(self, module: Module, item: Item) -> Place | None:
-        """The public place of an item, or of the type of an implementation that is of no trait, or None."""
+        """The public place of an item, or of the type of an implementation that is of no trait, or
+        None."""
         if item.kind == 'impl' and not item.of_trait:
-            return next((place for (_, _, name), place in self.public.items() if name == item.name), None)
-        return self.public.get((CRATE, module.path, item.name)) if item.public and item.kind in SHOWN else None
+            return next((place for (_, _, name), place in self.public.items() if name == item.name),
+                        None)
+        return (self.public.get((CRATE, module.path, item.name)) if item.public
+                and item.kind in SHOWN else None)
 
 
 def folded(text: str) -> str:
@@ -48,14 +52,16 @@ def declaration(source: Source, item: Item) -> str:
     while source.at(first - 1) in ('const', 'unsafe', 'extern'):
         first -= 1
     if item.kind == 'struct' and item.open:
-        shown = ''.join(f'pub {field.name}: {field.type}, ' for field in item.fields if field.public)
+        shown = ''.join(f'pub {field.name}: {field.type}, ' for field in item.fields
+                        if field.public)
         rest = '.. ' * any(not field.public for field in item.fields)
         return folded(source.text(first, item.open) + f' {shown}{rest}}}')
     return folded(source.text(first, last).rstrip(';'))
 
 
 def shown(made: Shown) -> Iterator[tuple[Source, Item, str, Item | None]]:
-    """The public items that the documentation shows, each with its source, its path, and the trait or the implementation that has it."""
+    """The public items that the documentation shows, each with its source, its path, and the trait
+    or the implementation that has it."""
     for module in made.modules.values():
         for item in module.items:
             place = made.place(module, item)
@@ -65,7 +71,9 @@ def shown(made: Shown) -> Iterator[tuple[Source, Item, str, Item | None]]:
             if item.kind != 'impl':
                 yield module.source, item, path, None
             for inner in item.items if item.kind in ('trait', 'impl') else ():
-                if inner.kind in SHOWN and (inner.public or item.kind == 'trait') and not is_hidden(module.source, inner):
+                if inner.kind in SHOWN and (inner.public
+                                            or item.kind
+                                            == 'trait') and not is_hidden(module.source, inner):
                     yield module.source, inner, f'{path}::{inner.name}', item
 
 
@@ -73,21 +81,28 @@ def lines_of(made: Shown) -> Iterator[str]:
     for source, item, path, owner in shown(made):
         provided = ' { .. }' if owner and owner.kind == 'trait' and item.open is not None else ''
         yield re.sub(rf'\b{item.name}\b', path, declaration(source, item), count=1) + provided
-        derived = (range(first + 4, last) for first, last in item.attributes if source.at(first + 2) == 'derive')
-        yield from (f'impl {source.at(k)} for {path}' for places in derived for k in places if source.kind(k) == 'word')
+        derived = (range(first + 4, last) for first, last in item.attributes if source.at(first + 2)
+                   == 'derive')
+        yield from (f'impl {source.at(k)} for {path}' for places in derived for k in places
+                    if source.kind(k) == 'word')
     for key, renamed in made.names.items():
         yield f'use {"::".join((*made.public[key], renamed))} = {"::".join((*key[1], key[2]))}'
     for name, key in made.others:
-        yield f'use {"::".join(name)} = {"::".join((*made.public[key], made.names.get(key, key[2])))}'
-    own = {item.name for module in made.modules.values() for item in module.items if item.kind in ('struct', 'enum', 'trait')}
-    for source, item in ((module.source, item) for module in made.modules.values() for item in module.items):
+        yield (f'use {"::".join(name)} = '
+               f'{"::".join((*made.public[key], made.names.get(key, key[2])))}')
+    own = {item.name for module in made.modules.values() for item in module.items
+           if item.kind in ('struct', 'enum', 'trait')}
+    for source, item in ((module.source, item) for module in made.modules.values()
+                         for item in module.items):
         if item.kind == 'macro':
             words = source.text(item.word, item.last).rstrip(';')
             yield 'impl by ' + folded(re.sub(r',?\s*"(?:[^"\\]|\\.)*"', '', words))
-        elif item.of_trait and all(name in made.types or name not in own for name in (item.of_trait, item.name)):
+        elif item.of_trait and all(name in made.types or name not in own
+                                   for name in (item.of_trait, item.name)):
             yield declaration(source, item)
 
 
 def made() -> dict[str, str]:
     return {'rust/api.txt': FIRST + ''.join(line + '\n' for line in sorted(set(lines_of(Shown())))),
-            'rust/CHANGELOG': re.sub(r'\[([^]\n]*)\]\([^()\s]+\)', r'\1', (ROOT / 'CHANGELOG.md').read_text())}
+            'rust/CHANGELOG': re.sub(r'\[([^]\n]*)\]\([^()\s]+\)', r'\1',
+                                     (ROOT / 'CHANGELOG.md').read_text())}

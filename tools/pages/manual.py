@@ -17,7 +17,8 @@ SPAN = re.compile(r'`([^`]*)`|\[([^\]]*)\]\([^)]*\)')
 
 def version() -> str:
     """The version of the crate."""
-    return re.search('^version = "(.*)"$', (ROOT / 'rust/Cargo.toml').read_text(), re.M)[1]   # type: ignore[index]
+    text = (ROOT / 'rust/Cargo.toml').read_text()
+    return re.search('^version = "(.*)"$', text, re.M)[1]   # type: ignore[index]
 
 
 def roff(text: str) -> str:
@@ -28,11 +29,13 @@ def roff(text: str) -> str:
 
 
 def table(lines: list[str]) -> Iterator[str]:
-    """The rows of a table as entries: the first cell, and below it the others, the last of them on a line of its own."""
+    """The rows of a table as entries: the first cell, and below it the others, the last of them on
+    a line of its own."""
     for line in lines[2:]:
         first, *others = (cell.strip() for cell in line.strip('|').split('|'))
         yield from ['.TP', roff(first if '`' in first else f'`{first}`')]
-        yield from [roff(others[-1] + '.'), *(line for cell in others[:-1] for line in ('.br', roff(f'Prints {cell}.')))]
+        yield from [roff(others[-1] + '.'),
+                    *(line for cell in others[:-1] for line in ('.br', roff(f'Prints {cell}.')))]
 
 
 def block(lines: list[str]) -> Iterator[str]:
@@ -48,14 +51,17 @@ def block(lines: list[str]) -> Iterator[str]:
 def manual() -> str:
     """The manual page."""
     head, *sections = re.split('^## ', PAGE.read_text().split('\n', 1)[1], flags=re.M)
-    lines = [f'.TH INTCALC 1 "" "Cellarcove {version()}"', '.SH NAME', r'intcalc \- exact integer arithmetic, one call at a time', '.SH SYNOPSIS',
+    lines = [f'.TH INTCALC 1 "" "Cellarcove {version()}"', '.SH NAME',
+             r'intcalc \- exact integer arithmetic, one call at a time', '.SH SYNOPSIS',
              r'.B intcalc', r'.I type call operand \fR..', '.SH DESCRIPTION']
     for section in [head, *sections]:
         title, text = section.split('\n', 1) if section is not head else ('', section)
         if title != LEFT_OUT:
             lines += [f'.SH {TITLES.get(title, title.upper())}'] if title else []
-            lines += [line for part in re.split(r'\n\n+', text.strip()) for line in block(part.split('\n'))]
-    return '\n'.join([*lines, '.SH COPYRIGHT', roff('The Cellarcove authors. MIT or Apache-2.0.'), ''])
+            lines += [line for part in re.split(r'\n\n+', text.strip())
+                      for line in block(part.split('\n'))]
+    return '\n'.join([*lines, '.SH COPYRIGHT', roff('The Cellarcove authors. MIT or Apache-2.0.'),
+                      ''])
 
 
 def calls() -> dict[str, str]:
@@ -68,10 +74,14 @@ def files() -> dict[str, str]:
     """The manual page and the completions, by name."""
     kinds = re.findall('`(i8|u8|i64|u64)`', PAGE.read_text().split('\n')[2])
     zsh = [f"        '{name}:{text}'" for name, text in calls().items()]
-    fish = [f"complete -c intcalc -n $second -a {name} -d '{text}'" for name, text in calls().items()]
-    parts = {'types': ' '.join(kinds), 'calls': ' '.join(calls()), 'zsh': '\n'.join(zsh), 'fish': '\n'.join(fish)}
-    places = {'bash': 'completions/bash/intcalc', 'zsh': 'completions/zsh/_intcalc', 'fish': 'completions/fish/intcalc.fish'}
-    return {'man/man1/intcalc.1': manual()} | {place: filled(SHELLS / f'intcalc.{shell}', **parts) for shell, place in places.items()}
+    fish = [f"complete -c intcalc -n $second -a {name} -d '{text}'"
+            for name, text in calls().items()]
+    parts = {'types': ' '.join(kinds), 'calls': ' '.join(calls()), 'zsh': '\n'.join(zsh),
+             'fish': '\n'.join(fish)}
+    places = {'bash': 'completions/bash/intcalc', 'zsh': 'completions/zsh/_intcalc',
+              'fish': 'completions/fish/intcalc.fish'}
+    return {'man/man1/intcalc.1': manual()} | {place: filled(SHELLS / f'intcalc.{shell}', **parts)
+                                               for shell, place in places.items()}
 
 
 def make(words: list[str]) -> bool:

@@ -1,4 +1,5 @@
-"""Samples: libraries of which some files have a text, what the scripts make of them, and the lists of golden/."""
+"""Samples: libraries of which some files have a text, what the scripts make of them, and the lists
+of golden/."""
 import re
 import subprocess
 import tempfile
@@ -17,7 +18,8 @@ def cases(name: str) -> list[tuple[str, str]]:
     """The heads of a list of golden/, each with the text that stands below it, indented by four."""
     blocks = re.split(r'\n+(?=\S)', (GOLDEN / f'{name}.txt').read_text())
     parts = (block.partition('\n') for block in blocks if not block.startswith('#'))
-    return [(head, re.sub('^    ', '', text, flags=re.M).rstrip('\n') + '\n') for head, _, text in parts]
+    return [(head, re.sub('^    ', '', text, flags=re.M).rstrip('\n') + '\n')
+            for head, _, text in parts]
 
 
 def change(file: Path, slip: str) -> None:
@@ -28,10 +30,13 @@ def change(file: Path, slip: str) -> None:
 
 
 def erased(crate: str, texts: Mapping[str, str]) -> str:
-    """What is made of a crate of a library. The texts are those of files, or of the roots of crates."""
+    """What is made of a crate of a library. The texts are those of files, or of the roots of
+    crates."""
     with tempfile.TemporaryDirectory() as folder:
         crates = Path(folder) / 'crates'
-        write(crates, {name if '/' in name else f'{name}/src/lib.rt': texts.get(name, '') for name in {*CRATES, *texts}})
+        write(crates,
+              {name if '/' in name else f'{name}/src/lib.rt': texts.get(name, '')
+               for name in {*CRATES, *texts}})
         library = RustLibrary(crates)
         if CRATE in texts:
             library.read(CRATE, (), crates / CRATE / 'src' / 'lib.rt')

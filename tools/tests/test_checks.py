@@ -8,8 +8,8 @@ from pathlib import Path
 import pytest
 
 from tools import ROOT, dependencies, write
-from tools.checks import (edits, guards, javascript, laws, packed, planted, refusals, rust_docs, trust,
-                          wrong_lines)
+from tools.checks import (edits, guards, javascript, laws, packed, planted, refusals, rust_docs,
+                          trust, wrong_lines)
 from tools.erase.source import Source
 from tools.tests import samples
 
@@ -26,11 +26,13 @@ def test_wide_lines(tmp_path: Path) -> None:
     assert list(rust_docs.wide_lines(tmp_path)) == ['lib.rs:3 has 101 columns']
 
 
-@pytest.mark.parametrize('link, leads', [
-    ('words/index.html#even', True), ('words/index.html', True), ('#top', True), ('a%20b.txt', True),
-    ('https://example.org/#half', True), ('javascript:void(0)', True), ('?search=x', True),
-    ('words/index.html#odd', False), ('#odd', False), ('other.html#odd', False), ('words', False),
-    ('../docs/ERRORS.md#panics-in-rust', False), ('a%20c.txt', False)])
+@pytest.mark.parametrize('link, leads',
+                         [('words/index.html#even', True), ('words/index.html', True),
+                          ('#top', True), ('a%20b.txt', True), ('https://example.org/#half', True),
+                          ('javascript:void(0)', True), ('?search=x', True),
+                          ('words/index.html#odd', False), ('#odd', False),
+                          ('other.html#odd', False), ('words', False),
+                          ('../docs/ERRORS.md#panics-in-rust', False), ('a%20c.txt', False)])
 def test_dead_links(tmp_path: Path, link: str, leads: bool) -> None:
     (tmp_path / 'words').mkdir()
     (tmp_path / 'a b.txt').touch()
@@ -76,8 +78,9 @@ def test_calls_that_are_taken_out(tmp_path: Path) -> None:
     golden, sources = dict(samples.cases('guards')), tmp_path / 'rust' / 'src'
     write(tmp_path / 'rust', golden)
     crate = guards.Crate(tmp_path / 'rust')
-    assert [str(guard) for guard in crate.guards] == [
-        '1: `check` with "the number is 0", rust/src/roots.rs:8', '2: `some` with "there is no root", rust/src/roots.rs:9']
+    assert ([str(guard) for guard in crate.guards]
+            == ['1: `check` with "the number is 0", rust/src/roots.rs:8',
+                '2: `some` with "there is no root", rust/src/roots.rs:9'])
     assert crate.sample() == crate.guards
     crate.write()
     assert golden['taken out'] in (sources / 'roots.rs').read_text()
@@ -104,7 +107,8 @@ def test_bodies_that_are_planted(tmp_path: Path) -> None:
 
 def test_equivalent_bodies() -> None:
     """Each that is listed is a mutant of the sources, and has a reason."""
-    lines = [line for line in planted.HERE.with_suffix('.txt').read_text().splitlines() if line and line[0] != '#']
+    lines = [line for line in planted.HERE.with_suffix('.txt').read_text().splitlines() if line
+             and line[0] != '#']
     names = {mutant.name for mutant in planted.Crate(ROOT / 'rust', 1).found}
     assert [name for name in lines[::2] if name not in names] == []
     assert all(reason.startswith('    ') for reason in lines[1::2]) and len(lines) % 2 == 0
@@ -126,22 +130,27 @@ def test_slips_of_laws(root: Path, head: str, slip: str) -> None:
     name, law, file, _ = head.split(', ', 3)
     samples.change(root / name, slip)
     failed = [line for line, passed in laws.judged(root) if not passed]
-    assert any(line.startswith(f'{file}: ') and line.endswith(f' ensures `{law}`') for line in failed)
+    assert any(line.startswith(f'{file}: ') and line.endswith(f' ensures `{law}`')
+               for line in failed)
 
 
 SAID, LOG = (text for _, text in samples.cases('trust'))
 
 
-@pytest.mark.parametrize('old, new, has, lacks', [
-    ('', '', 5, 0), ('(5 of', '(6 of', 4, 1),
-    ('reached of the 2 declared\nlogic=proved functions=3 axioms', 'reached of the 3 declared\nlogic=proved functions=3 axioms', 5, 1),
-    ('none reached of the 7', 'libc::a (1 of the 7', 4, 1), ('reaches 5', 'reaches 55', 4, 1), ('adds an axiom', 'adds axioms', 4, 1),
-    ('functions=2 sum=1 native', 'functions=2 sum=1 foreign=low::f native', 4, 0), ('== intcalc', '== other', 4, 0), ('libc and std', 'libc', 4, 1),
-    ('prints `logic=proved functions=2', 'prints `logic=proved functions=1', 4, 1),
-    ('sum=1 native=nat\nrt:', 'sum=2 native=nat\nrt:', 4, 1), ('== integer_core', '== low', 4, 0),
-])
+@pytest.mark.parametrize('old, new, has, lacks',
+                         [('', '', 5, 0), ('(5 of', '(6 of', 4, 1),
+                          ('reached of the 2 declared\nlogic=proved functions=3 axioms',
+                           'reached of the 3 declared\nlogic=proved functions=3 axioms', 5, 1),
+                          ('none reached of the 7', 'libc::a (1 of the 7', 4, 1),
+                          ('reaches 5', 'reaches 55', 4, 1), ('adds an axiom', 'adds axioms', 4, 1),
+                          ('functions=2 sum=1 native', 'functions=2 sum=1 foreign=low::f native', 4,
+                           0), ('== intcalc', '== other', 4, 0), ('libc and std', 'libc', 4, 1),
+                          ('prints `logic=proved functions=2', 'prints `logic=proved functions=1',
+                           4, 1), ('sum=1 native=nat\nrt:', 'sum=2 native=nat\nrt:', 4, 1),
+                          ('== integer_core', '== low', 4, 0),])
 def test_slips_of_axioms(old: str, new: str, has: int, lacks: int) -> None:
-    found = [passed for _, passed in trust.compared(SAID.replace(old, new), trust.facts_of(LOG.replace(old, new)))]
+    found = [passed for _, passed in trust.compared(SAID.replace(old, new),
+                                                    trust.facts_of(LOG.replace(old, new)))]
     assert (found.count(True), found.count(False)) == (has, lacks)
 
 
@@ -154,14 +163,17 @@ def test_facts_of_a_kit(tmp_path: Path) -> None:
     page = '`logic=proved sum=abc1` of a logic of 1,001 lines of antt.'
     assert all(passed for _, passed in trust.compared(page, facts))
     slips = trust.compared(page.replace('1,001', '1,002'), facts)
-    assert [line for line, passed in slips if not passed] == [f'{trust.PAGE} does not say: {facts[1]}']
+    assert [line for line, passed in slips
+            if not passed] == [f'{trust.PAGE} does not say: {facts[1]}']
 
 
 MUTANT = ROOT / 'crates/integer_core/must-fail-release/all_are_even.edit'
 
 
-@pytest.mark.parametrize('line', ['wrong: is_even(3) is true.', 'wrong: at is_even(3) it returns true.', 'wrong (not run): at is_even(3).',
-                                  'wrong: at is_even(3) it returns true, and someone asks for false.'])
+@pytest.mark.parametrize('line',
+                         ['wrong: is_even(3) is true.', 'wrong: at is_even(3) it returns true.',
+                          'wrong (not run): at is_even(3).',
+                          'wrong: at is_even(3) it returns true, and someone asks for false.'])
 def test_forms(line: str) -> None:
     with pytest.raises(edits.BadEdit):
         edits.form_of(line)
@@ -183,7 +195,8 @@ MUTANTS = {
 def theorem_with_a_mutant(tmp_path: Path) -> Path:
     """A crate of theorems: a function with a mutant, and one that states laws and so has none."""
     crate = tmp_path / 'crates' / 'theorems'
-    write(crate, {'src/lib.rt': f'{THEOREM}\npub fn laws()\n    ensures {{ DivisionExists }}\n{{}}\n'})
+    write(crate,
+          {'src/lib.rt': f'{THEOREM}\npub fn laws()\n    ensures {{ DivisionExists }}\n{{}}\n'})
     plant(crate, 'even')
     return crate
 
@@ -213,7 +226,8 @@ def test_theorem_without_a_mutant(theorem: Path) -> None:
 @pytest.mark.skipif(not os.environ.get('CI'), reason='it builds a crate, so only the gate runs it')
 def test_lines() -> None:
     texts, lines = edits.apply(MUTANT.parent.parent, MUTANT)[1], samples.cases('first_lines')
-    mutants = [wrong_lines.Mutant(number, MUTANT, edits.form_of(line.rstrip()), texts) for number, (_, line) in enumerate(lines)]
+    mutants = [wrong_lines.Mutant(number, MUTANT, edits.form_of(line.rstrip()), texts)
+               for number, (_, line) in enumerate(lines)]
     wrong_lines.judge(mutants)
     for mutant, (told, line) in zip(mutants, lines):
         assert (mutant.told or 'nothing').startswith(told), f'{line}: {mutant.told}'
@@ -246,7 +260,8 @@ def test_answers_that_are_taken_away() -> None:
     assert refusals.opened(ANSWERS, at_helper) == ANSWERS
     at_small = functools.partial(refusals.stands_in, [11])
     assert refusals.opened(ANSWERS, at_small) == ANSWERS.replace('c = helper', 'c = ?')
-    assert refusals.opened(ANSWERS, at_small, [11]) == ANSWERS[:ANSWERS.index('\npub returns-clause-small')]
+    assert (refusals.opened(ANSWERS, at_small, [11])
+            == ANSWERS[:ANSWERS.index('\npub returns-clause-small')])
 
 
 def test_table_of_refusals(tmp_path: Path) -> None:
@@ -282,7 +297,8 @@ must-fail low/four.edit: NOT REFUSED: the crate is still proved
 
 
 def test_refusals_of_a_run() -> None:
-    assert refusals.refused(LOG_OF_MUTANTS) == {'low/one': 'answer', 'low/two': 'limit', 'low/three': 'clause'}
+    assert refusals.refused(LOG_OF_MUTANTS) == {'low/one': 'answer', 'low/two': 'limit',
+                                                'low/three': 'clause'}
 
 
 def test_functions_of_mutants() -> None:
@@ -299,7 +315,8 @@ def test_goals_of_functions() -> None:
                 for name, lines in (('gcd', range(7, 9)), ('lcm', range(9, 11))))
     assert len(said.goals) == 3
     assert refusals.then(refusals.of([gcd], said), 'wrong: `least`') == 'clause returns'
-    assert refusals.then(refusals.of([lcm], said), 'wrong: `least`') == 'clause returns-clause-least'
+    assert (refusals.then(refusals.of([lcm], said), 'wrong: `least`')
+            == 'clause returns-clause-least')
 
 
 def test_findings_in_javascript() -> None:

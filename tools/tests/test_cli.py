@@ -38,9 +38,11 @@ def test_status(monkeypatch: pytest.MonkeyPatch, runs: str, status: int) -> None
     assert cli.run_part('check', cli.Part(runs, ''), []) == min(status, 1)
 
 
-@pytest.mark.parametrize('runs, status', [
-    (['true x'], 0), (['true x', 'no-such-program x'], tools.MISSING), (['no-such-program x'], tools.MISSING),
-    (['false x', 'no-such-program x'], 1), (['no-such-program x', 'false x', 'true x'], 1)])
+@pytest.mark.parametrize('runs, status',
+                         [(['true x'], 0), (['true x', 'no-such-program x'], tools.MISSING),
+                          (['no-such-program x'], tools.MISSING),
+                          (['false x', 'no-such-program x'], 1),
+                          (['no-such-program x', 'false x', 'true x'], 1)])
 def test_worst(monkeypatch: pytest.MonkeyPatch, runs: list[str], status: int) -> None:
     monkeypatch.delenv('CI', raising=False)
     parts = {str(place): cli.Part(words, '') for place, words in enumerate(runs)}

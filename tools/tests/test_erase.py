@@ -1,7 +1,7 @@
 """What tools/erase makes of a source, and what it rejects.
 
-The pairs of tools/tests/golden are sources of Rattle, in files that the prover does not take for its own, and the Rust that is made
-of them. A file is named for its crate and for what it shows."""
+The pairs of tools/tests/golden are sources of Rattle, in files that the prover does not take for
+its own, and the Rust that is made of them. A file is named for its crate and for what it shows."""
 import re
 from pathlib import Path
 
@@ -39,16 +39,20 @@ def test_forms_that_are_not_known(refusal: str, text: str) -> None:
 
 
 def test_functions_on_the_way_to_a_panic(tmp_path: Path) -> None:
-    """The functions of golden/callers get `#[track_caller]` that have it, but for the one in guards.rs, which has it by hand."""
-    wanted = {f'made/src/{file.name}': file.read_text() for file in (samples.GOLDEN / 'callers').glob('*.rs')}
-    without = {name: re.sub(r' *#\[track_caller\]\n', '', text) for name, text in wanted.items() if not name.endswith('guards.rs')}
+    """The functions of golden/callers get `#[track_caller]` that have it, but for the one in
+    guards.rs, which has it by hand."""
+    wanted = {f'made/src/{file.name}': file.read_text()
+              for file in (samples.GOLDEN / 'callers').glob('*.rs')}
+    without = {name: re.sub(r' *#\[track_caller\]\n', '', text) for name, text in wanted.items()
+               if not name.endswith('guards.rs')}
     write(tmp_path, wanted | without)
     Callers(tmp_path / 'made').put()
     for name, text in wanted.items():
         assert (tmp_path / name).read_text().split() == text.split()
 
 
-MADE, BY_HAND, JOINED = ((samples.GOLDEN / f'additions/{name}.rs').read_text() for name in ('made', 'by_hand', 'joined'))
+MADE, BY_HAND, JOINED = ((samples.GOLDEN / f'additions/{name}.rs').read_text()
+                         for name in ('made', 'by_hand', 'joined'))
 
 
 def additions(folder: Path, text: str) -> Additions:
@@ -59,7 +63,8 @@ def additions(folder: Path, text: str) -> Additions:
 def test_a_function_takes_the_place_of_the_made_one(tmp_path: Path) -> None:
     text, note = additions(tmp_path, BY_HAND).add('row.rs', MADE)
     assert text == JOINED
-    assert note == '// It also has what rust/by_hand/src/row.rs adds, and next, sum as they stand there.\n'
+    assert (note == '// It also has what rust/by_hand/src/row.rs adds, and next, sum as they stand '
+            'there.\n')
 
 
 @pytest.mark.parametrize('made', ['use crate::one;\nfn high() {}\n', 'fn high() {}\nfn low() {}\n'])
@@ -85,12 +90,16 @@ def test_assertion(sentence: str, wanted: str) -> None:
 
 
 def test_comment_of_the_reference() -> None:
-    lines = ['Returns the half.', '', '# Panics', '', 'In plain Rust, if it is', 'odd.', '', '# Errors', '', '- `Odd` never.']
-    assert documentation.of_rattle(lines) == ['Returns the half.', '', 'Plain Rust panics if it is odd.', '', 'Errors:', '', '- `Odd` never.']
+    lines = ['Returns the half.', '', '# Panics', '', 'In plain Rust, if it is', 'odd.', '',
+             '# Errors', '', '- `Odd` never.']
+    assert documentation.of_rattle(lines) == ['Returns the half.', '',
+                                              'Plain Rust panics if it is odd.', '', 'Errors:', '',
+                                              '- `Odd` never.']
 
 
 def test_contracts() -> None:
-    """The comment of an item leads to its contract, which stands below the title that the reference gives it."""
+    """The comment of an item leads to its contract, which stands below the title that the
+    reference gives it."""
     rust = samples.erased('calendar', dict(samples.cases('contracts')))
     for title in ('half', 'twice', 'default-for-twice', 'twicetimes'):
         label = 'Laws' if title == 'half' else 'Contract'

@@ -162,22 +162,25 @@ def test_rejected_code(tmp_path: Path, before: str, after: str, place: str) -> N
         translated(tmp_path, USES)
 
 
-@pytest.mark.parametrize('text', ['pub Is : ℤ → Type 0\nIs x = x ≡ x', 'abbrev Is : ℤ → Type 0\nIs x = x ≡ x', ''])
+@pytest.mark.parametrize('text',
+                         ['pub Is : ℤ → Type 0\nIs x = x ≡ x',
+                          'abbrev Is : ℤ → Type 0\nIs x = x ≡ x', ''])
 def test_no_definition(tmp_path: Path, text: str) -> None:
     with pytest.raises(Unknown, match='no definition of `Is`'):
         translated(tmp_path, text)
 
 
 def test_changes() -> None:
-    text = 'pub record Is (a b : ℤ) : Type 0 where\n  pub low : pos 0 ≤ℤ a\n  pub up : Below a b -ℤ a\n'
+    text = ('pub record Is (a b : ℤ) : Type 0 where\n  pub low : pos 0 ≤ℤ a\n  pub up : '
+            'Below a b -ℤ a\n')
     assert [change for change, _ in known_changes.changes(text)] == [
         '<ℤ for ≤ℤ', '+ℤ for -ℤ', '1 for 0', 'b a for a b', 'without low', 'without up']
 
 
 def test_changes_have_names() -> None:
     text = 'abbrev pub Is : ℤ → ℤ → Type 0\nIs a b = (a ≤ℤ b) × (b ≤ℤ a)\n'
-    assert [*known_changes.changes(text)] == [
-        ('<ℤ for ≤ℤ', text.replace('a ≤ℤ', 'a <ℤ')), ('<ℤ for ≤ℤ, place 2', text.replace('b ≤ℤ', 'b <ℤ'))]
+    assert [*known_changes.changes(text)] == [('<ℤ for ≤ℤ', text.replace('a ≤ℤ', 'a <ℤ')),
+                                              ('<ℤ for ≤ℤ, place 2', text.replace('b ≤ℤ', 'b <ℤ'))]
 
 
 def test_sample() -> None:
@@ -192,7 +195,8 @@ def test_rows() -> None:
     assert not [key for key in known_table.reached() if key not in rows]
 
 
-@pytest.mark.skipif(not shutil.which('coqc') or not (known.FOLDER / 'Known/integer_core/Division.vo').is_file(),
+@pytest.mark.skipif(not shutil.which('coqc')
+                    or not (known.FOLDER / 'Known/integer_core/Division.vo').is_file(),
                     reason='it needs the theorems that `tools/cellarcove check known` has compiled')
 def test_changed_definition() -> None:
     key, base = ('integer_core', 'Division', 'IsDivision'), Build(known.FOLDER)

@@ -150,24 +150,29 @@ def test_picture() -> None:
         picture.picture(page.replace('| contracts | Rattle source', '| contract | Rattle source'))
 
 
-@pytest.mark.parametrize('name', ['fraction_times', 'fraction_limit_denominator', 'date_from_iso_week', 'fraction_to_decimal'])
+@pytest.mark.parametrize('name',
+                         ['fraction_times', 'fraction_limit_denominator', 'date_from_iso_week',
+                          'fraction_to_decimal'])
 def test_orders_of_statuses(name: str) -> None:
     """The words of a call say what it returns, and those in another order do not."""
     call = next(call for call in exports.EXPORTS().calls if call.name == name)
     assert not orders.wrong(call)
     others = call.statuses[::-1]
     if name == 'fraction_times':    # the words before
-        others = [sentence.replace(' and the argument, reduced, fits', '') for sentence in call.statuses]
+        others = [sentence.replace(' and the argument, reduced, fits', '')
+                  for sentence in call.statuses]
     assert 'the comment says' in orders.wrong(call._replace(statuses=others))
 
 
 def test_files_of_a_new_export(tmp_path: Path, monkeypatch: pytest.MonkeyPatch) -> None:
     """A call and its export need three files by hand: its source, that of the export, and what
-    Python computes. All else that languages know of it is made, with the examples of its comment."""
+    Python computes. All else that languages know of it is made, with the examples of its
+    comment."""
     name, old = 'has_no_common_factor', 'is_coprime'
     sources = shutil.copytree(exports.SOURCES, tmp_path / 'src')
     text = (sources / 'coprime.rt').read_text()                 # of the export
-    added = text[text.index('/// Returns `true` if the greatest'):text.index('/// Returns both numbers')]
+    added = text[
+        text.index('/// Returns `true` if the greatest'):text.index('/// Returns both numbers')]
     (sources / 'coprime.rt').write_text(text + '\n' + added.replace(old, name))
     paths = [*languages.paths(), f'applied::coprime::{name}']   # of the source
     results = {**by_python.RESULTS, name: by_python.RESULTS[old]}   # of by_python.toml
@@ -184,4 +189,4 @@ def test_files_of_a_new_export(tmp_path: Path, monkeypatch: pytest.MonkeyPatch) 
     assert shown == [(f'{name}(8, 15)', 'True'), (f'{name}(8, 6)', 'False')]
     lacking = {place for place, text in made.items()
                if not re.search(f'{name}|hasNoCommonFactor', text)}
-    assert lacking == {files.ERRORS}    # which has the statuses, and no calls
+    assert lacking == {files.ERRORS, languages.LIST}    # which have other calls alone, or none

@@ -61,19 +61,23 @@ def test_another_version(tmp_path: Path, monkeypatch: pytest.MonkeyPatch) -> Non
     assert versions.dated(version)[1]
     for name in names[:-1]:
         text = (tmp_path / name).read_text()
-        (tmp_path / name).write_text(text.replace(version if version in text else minor, '9.9.9', 1))
+        (tmp_path / name).write_text(text.replace(version if version in text else minor, '9.9.9',
+                                                  1))
         assert [line.split()[0] for line, passed in versions.named(version) if not passed] == [name]
         (tmp_path / name).write_text(text)
     (tmp_path / names[-1]).unlink()
     assert [line.split()[0] for line, passed in versions.named(version) if not passed] == names[-1:]
     cited = (tmp_path / 'CITATION.cff').read_text()
-    (tmp_path / 'CITATION.cff').write_text(re.sub('(?m)^date-released: .*', 'date-released: 2001-01-01', cited))
+    (tmp_path / 'CITATION.cff').write_text(re.sub('(?m)^date-released: .*',
+                                                  'date-released: 2001-01-01', cited))
     assert not versions.dated(version)[1]
 
 
 def test_bill(tmp_path: Path) -> None:
-    write(tmp_path, {'files/a.crate': 'text', 'num-traits-0.2.9/Cargo.toml':
-                     '[package]\nname = "num-traits"\nversion = "0.2.9"\nlicense = "MIT/Apache-2.0"'})
+    write(tmp_path,
+          {'files/a.crate': 'text',
+           'num-traits-0.2.9/Cargo.toml': '[package]\nname = "num-traits"\nversion = "0.2.9"\n'
+           'license = "MIT/Apache-2.0"'})
     found = bill.bill(tmp_path / 'files', tmp_path)
     assert '982d9e3eb996f559e633f4d194def3761d909f5a3b647d1a851fead67c32c9d1' in str(found)
     assert 'MIT OR Apache-2.0' in str(found) and str(found).count('DEPENDS_ON') == 1

@@ -1,8 +1,10 @@
-"""Runs tests of CPython, those of the machine's Python, with the calls of `cellarcove` in the place of its own, and counts the
-assertions: those that pass, those whose numbers or result are beyond 64 bits, and those that fail.
+"""Runs tests of CPython, those of the machine's Python, with the calls of `cellarcove` in the
+place of its own, and counts the assertions: those that pass, those whose numbers or result are
+beyond 64 bits, and those that fail.
 
-An assertion that fails does not end its test. A call that raises `OverflowError` returns `BEYOND`, and so does what is computed of
-it; an assertion about it is one that is beyond. The words of an error are not compared, since they are those of the package."""
+An assertion that fails does not end its test. A call that raises `OverflowError` returns `BEYOND`,
+and so does what is computed of it; an assertion about it is one that is beyond. The words of an
+error are not compared, since they are those of the package."""
 import contextlib
 import datetime
 import importlib
@@ -28,7 +30,8 @@ class Beyond:
     def same(self, *_):
         return self
 
-    __add__ = __radd__ = __sub__ = __rsub__ = __mul__ = __rmul__ = __floordiv__ = __rfloordiv__ = __neg__ = __getitem__ = same
+    __add__ = __radd__ = __sub__ = __rsub__ = __mul__ = __rmul__ = same
+    __floordiv__ = __rfloordiv__ = __neg__ = __getitem__ = same
 
     def __getattr__(self, name):
         return self
@@ -39,11 +42,13 @@ waiting = []                                    # the assertions that wait for a
 
 
 def is_beyond(value):
-    return any(map(is_beyond, value)) if isinstance(value, (tuple, list)) else isinstance(value, Beyond) or value is Beyond
+    return (any(map(is_beyond, value)) if isinstance(value, (tuple, list))
+            else isinstance(value, Beyond) or value is Beyond)
 
 
 def bounded(call):
-    """The call, which returns `BEYOND` in place of `OverflowError` if no assertion waits for an error."""
+    """The call, which returns `BEYOND` in place of `OverflowError` if no assertion waits for an
+    error."""
     def within(*arguments):
         if is_beyond(arguments):
             return BEYOND
@@ -57,7 +62,8 @@ def bounded(call):
 
 
 class Rounded(Fraction):
-    """A fraction that the package rounds, and for which it finds the nearest with a small denominator."""
+    """A fraction that the package rounds, and for which it finds the nearest with a small
+    denominator."""
 
     limit_denominator = bounded(cellarcove.limit_denominator)
 
@@ -97,7 +103,8 @@ class Day(datetime.date):
         return cellarcove.Date.from_date(self).isoformat()
 
     def timetuple(self):
-        return time.struct_time(super().timetuple()[:6] + (self.weekday(), cellarcove.day_of_year(self), -1))
+        return time.struct_time(super().timetuple()[:6]
+                                + (self.weekday(), cellarcove.day_of_year(self), -1))
 
     def later(self, days):
         return Day.of(cellarcove.plus_days(self, days).to_date())
@@ -114,7 +121,8 @@ class Day(datetime.date):
     def __sub__(self, other):
         if isinstance(other, datetime.timedelta):
             return self.later(-other.days)
-        return datetime.timedelta(cellarcove.days_between(other, self)) if isinstance(other, datetime.date) else NotImplemented
+        return (datetime.timedelta(cellarcove.days_between(other, self))
+                if isinstance(other, datetime.date) else NotImplemented)
 
 
 Day.min, Day.max = Day.of(datetime.date.min), Day.of(datetime.date.max)
@@ -146,7 +154,8 @@ class Counting:
 
     @contextlib.contextmanager
     def raising(self, expected):
-        """What runs in it raises the error; or that a number is beyond 64 bits, which is an error of another class."""
+        """What runs in it raises the error; or that a number is beyond 64 bits, which is an error
+        of another class."""
         waiting.append(expected)
         try:
             yield types.SimpleNamespace()
@@ -181,20 +190,27 @@ def counted(name):
     return check
 
 
-for assertion in ('assertEqual', 'assertNotEqual', 'assertTrue', 'assertFalse', 'assertIs', 'assertLess', 'assertLessEqual',
-                  'assertIsInstance', 'assertAlmostEqual', 'assertTypedEquals'):
+for assertion in ('assertEqual', 'assertNotEqual', 'assertTrue', 'assertFalse', 'assertIs',
+                  'assertLess', 'assertLessEqual', 'assertIsInstance', 'assertAlmostEqual',
+                  'assertTypedEquals'):
     setattr(Counting, assertion, counted(assertion))
 
 
 def cases():
-    """The tests, each of a class whose calls are those of the package, with the number of assertions that fail."""
+    """The tests, each of a class whose calls are those of the package, with the number of
+    assertions that fail."""
     of_math, of_fractions = map(importlib.import_module, ('test.test_math', 'test.test_fractions'))
-    of_math.math = types.SimpleNamespace(**vars(math) | {name: bounded(getattr(cellarcove, name)) for name in ('gcd', 'lcm', 'comb', 'isqrt')})
+    of_math.math = types.SimpleNamespace(**vars(math)
+                                         | {name: bounded(getattr(cellarcove, name))
+                                            for name in ('gcd', 'lcm', 'comb', 'isqrt')})
     of_fractions.F = Rounded
     for module, name, tests in re.findall(r'^([\w.]+)\.(\w+): (.*)', LISTED.read_text(), re.M):
         base = getattr(importlib.import_module(module), name)
-        kind = type(f'Counted{name}', (Counting, base), {'theclass': Day} if name == 'TestDate' else {})
-        yield from ((kind(test), int(fail or 0)) for test, _, fail in (word.partition('=') for word in tests.split()) if hasattr(base, test))
+        kind = type(f'Counted{name}', (Counting, base), {'theclass': Day} if name == 'TestDate'
+                    else {})
+        yield from ((kind(test), int(fail or 0))
+                    for test, _, fail in (word.partition('=') for word in tests.split())
+                    if hasattr(base, test))
 
 
 def main():
@@ -208,14 +224,17 @@ def main():
         counts = Counting.counts = dict.fromkeys(total, 0)
         result = unittest.TestResult()
         case.run(result)
-        others = [f'{case._testMethodName}: {text.splitlines()[-1]}' for _, text in result.errors + result.failures]
+        others = [f'{case._testMethodName}: {text.splitlines()[-1]}' for _, text in result.errors
+                  + result.failures]
         counts['fail'] += len(others)
         total = {name: total[name] + count for name, count in counts.items()}
-        print(f'{case._testMethodName}: {counts["pass"]} pass, {counts["limit"]} are beyond 64 bits, {counts["fail"]} fail, {expected} expected')
+        print(f'{case._testMethodName}: {counts["pass"]} pass, {counts["limit"]} are beyond 64 '
+              f'bits, {counts["fail"]} fail, {expected} expected')
         if counts['fail'] != expected:
             unexpected += 1
             print('\n'.join((case.failures + others)[:10]))
-    print(f'all of Python {sys.version.split()[0]}: {total["pass"]} pass, {total["limit"]} are beyond 64 bits, {total["fail"]} fail')
+    print(f'all of Python {sys.version.split()[0]}: {total["pass"]} pass, {total["limit"]} '
+          f'are beyond 64 bits, {total["fail"]} fail')
     return unexpected > 0
 
 
