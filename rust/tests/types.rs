@@ -4,7 +4,6 @@ use cellarcove::calendar::Date;
 use cellarcove::ratio64::{Decimal, ParseRatioError, Ratio, RatioError, TryFromRatioError};
 use cellarcove::IterBinomial;
 use std::collections::HashSet;
-use std::fmt::Write;
 use std::panic::{catch_unwind, UnwindSafe};
 
 fn ratio(num: i64, den: i64) -> Ratio {
@@ -260,10 +259,25 @@ fn a_precision_gives_decimals() {
         format!("{least:.18}"),
         "-9223372036854775808.000000000000000000"
     );
-    // 19 places are refused
-    let mut text = String::new();
-    assert!(write!(text, "{amount:.19}").is_err());
-    assert_eq!(text, "");
+    // so does one that is longer than any decimal number
+    let third = ratio(-2, 3);
+    assert_eq!(
+        format!("{third:.20}|{third:25.20}|{third:<25.20}|{third:*^+26.20}|{third:025.20}|{third:_>2.20}"),
+        "-0.66666666666666666667|  -0.66666666666666666667|-0.66666666666666666667  |\
+         *-0.66666666666666666667**|-000.66666666666666666667|-0.66666666666666666667"
+    );
+    let half = ratio(1, 2);
+    assert_eq!(
+        format!("{half:+.19}|{half:+025.19}|{half:€^25.19}|{half:+<24.19}"),
+        "+0.5000000000000000000|+0000.5000000000000000000|€€0.5000000000000000000€€|0.5000000000000000000+++"
+    );
+    let zeros = "0".repeat(500);
+    assert_eq!(format!("{amount:.501}"), format!("246.8{zeros}"));
+    assert_eq!(format!("{amount:0>600.501}"), format!("{}246.8{zeros}", "0".repeat(95)));
+    // a writer without room gets what fits, and an error
+    let mut bytes = [0; 4];
+    let mut room = &mut bytes[..];
+    assert!(std::io::Write::write_fmt(&mut room, format_args!("{amount:.19}")).is_err());
 }
 
 #[test]

@@ -53,7 +53,7 @@ zero_padded : (k n : ℕ) → padded_integral (format_spec 32 0 4 k 184467440737
 unfolding padded_integral char_count
 zero_padded k n = grind (arith, append-nil)
 
-some_padded : (k n : ℕ) → 0 < k → n < 10 ^ k → n < 2 ^ 64 → styled_decimal (format_spec 32 0 4 k 18446744073709551615) n ≡ last_digits k n
+pub some_padded : (k n : ℕ) → 0 < k → n < 10 ^ k → n < 2 ^ 64 → styled_decimal (format_spec 32 0 4 k 18446744073709551615) n ≡ last_digits k n
 some_padded zero n some small fits = absurd (omega arith)
 some_padded (suc k) n some small fits = grind (arith, zero_padded, filled_is)
 

@@ -18,6 +18,8 @@ pub mod PassedOn
 pub mod ReducedAnswers
 pub mod ReducedParts
 pub mod NearestNumbers
+pub mod RoundedEven
+pub mod ManyPlaces
 pub mod NeighbourIterations
 pub mod NearerNeighbour
 pub mod LimitedDenominators

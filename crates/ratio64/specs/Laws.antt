@@ -11,7 +11,7 @@ use Rattle.ratio64.specs.Fraction.{AreEqual, IsExact, IsFraction, IsReduced, fra
 use Rattle.ratio64.specs.Limiting.{AreNearestParts, IsNearestWithin}
 use Rattle.ratio64.specs.Ratio.{AnswersFraction, num_of, den_of, text_of}
 use Rattle.ratio64.specs.RatioText.{ReadsFraction}
-use Rattle.ratio64.specs.Rounding.{IsRounded, IsRoundedEven}
+use Rattle.ratio64.specs.Rounding.{IsRounded, IsRoundedEven, rounded_even}
 use Rattle.ratio64.specs.declared.decimal.Decimal.{Decimal}
 use Rattle.ratio64.specs.declared.decimal.reading.ParseDecimalError.{ParseDecimalError}
 use Rattle.ratio64.specs.declared.error.RatioError.{RatioError}
@@ -67,6 +67,10 @@ RoundedIsOnly = (n d r : ℤ) → pos 0 <ℤ d → IsRounded n d r → IsOnly (I
 -- Each fraction has only one nearest integer of which a tie is even.
 abbrev pub RoundedEvenIsOnly : Type 0
 RoundedEvenIsOnly = (n d r : ℤ) → pos 0 <ℤ d → IsRoundedEven n d r → IsOnly (IsRoundedEven n d) r
+
+-- It is `rounded_even`.
+abbrev pub RoundedEvenIs : Type 0
+RoundedEvenIs = (n d : ℤ) → pos 0 <ℤ d → IsRoundedEven n d (rounded_even n d)
 
 -- ---- small denominators
 

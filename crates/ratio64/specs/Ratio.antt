@@ -1,8 +1,7 @@
 -- What callers see of a `Ratio`, and what the calls that make one return.
-use Rattle.std.specs.Prelude.{◌≡◌, ◌↔◌, ◌++◌, ℤ, ℕ, List, codes, pos, Option, Some, None, Result, Err, IfOk, if◌then◌else◌}
-use Rattle.std.specs.Fmt.{signed_decimal, spec_precision}
+use Rattle.std.specs.Prelude.{◌≡◌, ◌↔◌, ◌++◌, ℤ, ℕ, List, codes, pos, Result, Err, IfOk, if◌then◌else◌}
+use Rattle.std.specs.Fmt.{signed_decimal}
 use Rattle.std.specs.Ordering.{int_eq}
-use Rattle.num_integer.specs.Padded.{FormatOptions, padded_number}
 use Rattle.ratio64.specs.Fraction.{IsExact, IsOutsideI64}
 use Rattle.ratio64.specs.declared.fraction.Ratio.{Ratio}
 use Rattle.ratio64.specs.declared.error.RatioError.{RatioError}
@@ -29,15 +28,3 @@ pub record AnswersFraction (a b : ℤ) (result : Result Ratio RatioError) : Type
 -- Examples: `-3/2`; `3`; `0`.
 abbrev pub text_of : Ratio → List ℕ
 text_of x = if int_eq (den_of x) (pos 1) then signed_decimal (num_of x) else signed_decimal (num_of x) ++ codes "/" ++ signed_decimal (den_of x)
-
--- The text, unless the format has a precision.
--- Examples: `3/2` and no precision: `3/2`; `3/2` and 1: none.
-abbrev pub unless_precise : Option ℕ → List ℕ → Option (List ℕ)
-unless_precise None text = Some text
-unless_precise (Some places) text = None
-
--- The string of a fraction under the options of a format, as a number is padded. Nothing is said of a format with a precision, which
--- prints decimals.
--- Examples: -3/2 under `{:07}`: `-0003/2`; 3 under `{:+}`: `+3`; under `{:.2}`: none.
-abbrev pub styled_text_of : FormatOptions → Ratio → Option (List ℕ)
-styled_text_of spec x = unless_precise (spec_precision spec) (padded_number spec (text_of x))

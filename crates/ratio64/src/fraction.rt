@@ -6,6 +6,7 @@ ghost use Rattle.ratio64.specs.Fraction.{IsReduced};
 ghost use Rattle.ratio64.specs.ReducedPairs.{IsReduced_prop};
 
 mod limit;
+mod places;
 mod powers;
 mod rounding;
 mod sign;
@@ -231,28 +232,27 @@ impl Default for Ratio {
 /// Prints `num/den`, and only `num` if the denominator is 1.
 /// `Ratio::new(6, -4).unwrap().to_string()` is `"-3/2"`.
 ///
-/// In plain Rust, a precision prints the decimals that [`Ratio::to_decimal`] returns, `+` and `0` do what
-/// they do for integers, and a width puts the number on the right.
+/// A precision prints the nearest decimal number with so many places, and of two equally near the one whose last digit
+/// is even, `+` and `0` do what they do for integers, and a width puts the number on the right.
 /// `format!("{:.2}", Ratio::new(1234, 5).unwrap())` is `"246.80"`,
+/// `format!("{:.20}", Ratio::new(2, 3).unwrap())` is `"0.66666666666666666667"`,
 /// `format!("{:+}", Ratio::new(1, 2).unwrap())` is `"+1/2"`,
 /// `format!("{:05}", Ratio::new(1, 2).unwrap())` is `"001/2"`, and
-/// `format!("{:5}", Ratio::new(1, 2).unwrap())` is `"  1/2"`. A precision above 18 is a
-/// `fmt::Error`, with which `format!` panics.
+/// `format!("{:5}", Ratio::new(1, 2).unwrap())` is `"  1/2"`.
 impl fmt::Display for Ratio {
     ghost use Rattle.std.specs.Prelude.{Some};
-    ghost use Rattle.ratio64.specs.Ratio.{styled_text_of, text_of};
+    ghost use Rattle.ratio64.specs.Decimal.{styled_text_of};
+    ghost use Rattle.ratio64.specs.Ratio.{text_of};
 
     ghost output = { λ x. Some (text_of x) };
 
-    ghost styled_output = { λ x spec. styled_text_of spec x };
+    ghost styled_output = { λ x spec. Some (styled_text_of spec x) };
 
     fn fmt<W: fmt::Write>(&self, f: &mut fmt::Formatter<W>) -> fmt::Result {
-        let Some(places) = f.precision() else {
-            return self.pad_number(f);
-        };
-        let places = u32::try_from(places).map_err(|_| fmt::Error)?;
-        let rounded = self.to_decimal(places).ok_or(fmt::Error)?;
-        rounded.pad_number(f)
+        match f.precision() {
+            Some(places) => self.pad_with_places(places, f),
+            None => self.pad_number(f),
+        }
     }
 }
 
