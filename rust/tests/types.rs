@@ -4,7 +4,6 @@ use cellarcove::calendar::Date;
 use cellarcove::ratio64::{Decimal, ParseRatioError, Ratio, RatioError, TryFromRatioError};
 use cellarcove::IterBinomial;
 use std::collections::HashSet;
-use std::fmt::Write;
 use std::panic::{catch_unwind, UnwindSafe};
 
 fn ratio(num: i64, den: i64) -> Ratio {

@@ -1,17 +1,20 @@
 //! Functions that round fractions half to even, also to decimal numbers, and read decimal numbers.
 
-ghost use Rattle.std.specs.Prelude.{◌≡◌, ◌≤◌, ◌^◌, ◌*ℤ◌, FitsSigned, MatchOption, pos};
+ghost use Rattle.std.specs.Prelude.{◌≡◌, ◌≤◌, ◌^◌, ◌*ℤ◌, FitsSigned, IfOk, MatchOption, pos, string_bytes};
 ghost use Rattle.std.specs.Int.{w64};
+ghost use Rattle.std.specs.Fmt.{format_spec};
+ghost use Rattle.num_integer.specs.Padded.{padded_number};
 ghost use Rattle.num_integer.specs.Checked.{AnswersWhere};
 ghost use Rattle.num_integer.specs.Range.{EachFits};
 ghost use Rattle.num_integer.specs.Divisors.{Divides};
 ghost use Rattle.std.specs.Ordering.{int_cmp};
-ghost use Rattle.ratio64.specs.Decimal.{IsDecimalOf, places_of, quintillionths_of, units_of};
+ghost use Rattle.ratio64.specs.Decimal.{IsDecimalOf, decimal_text, places_of, quintillionths_of, units_of};
 ghost use Rattle.ratio64.specs.DecimalText.{ReadsDecimal};
 ghost use Rattle.ratio64.specs.Ratio.{AnswersFraction, den_of, num_of};
-ghost use Rattle.ratio64.specs.Rounding.{AnswersInParts, IsRoundedEven};
+ghost use Rattle.ratio64.specs.Rounding.{AnswersInParts, IsRoundedEven, rounded_even};
 
 use ratio64::{Decimal, ParseDecimalError, Ratio, RatioError};
+use std::alloc::{AllocError, Global};
 use std::cmp::Ordering;
 
 /// Returns the price in whole units.
@@ -108,4 +111,20 @@ pub fn against_limit(amount: &Decimal, limit: &Decimal) -> Ordering
     ensures { result ≡ int_cmp (quintillionths_of amount.now) (quintillionths_of limit.now) }
 {
     amount.cmp(limit)
+}
+
+/// Returns the price with two decimals as a string of at least 9 characters, or an error, of which the contract says nothing.
+pub fn price_tag(alloc: Global, price: &Ratio) -> Result<String<Global>, AllocError>
+    ensures { IfOk result (λ tag. string_bytes tag ≡ padded_number (format_spec 32 0 0 9 2)
+        (decimal_text (rounded_even (num_of price.now *ℤ pos 100) (den_of price.now)) 2)) }
+{
+    format!(in alloc; "{price:9.2}")
+}
+
+/// Returns the share with 20 decimals as a string on 30 characters, or an error, of which the contract says nothing.
+pub fn long_share(alloc: Global, share: &Ratio) -> Result<String<Global>, AllocError>
+    ensures { IfOk result (λ text. string_bytes text ≡ padded_number (format_spec 32 0 0 30 20)
+        (decimal_text (rounded_even (num_of share.now *ℤ pos (10 ^ 20)) (den_of share.now)) 20)) }
+{
+    format!(in alloc; "{share:30.20}")
 }

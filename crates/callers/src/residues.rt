@@ -202,7 +202,7 @@ pub fn next_time_or_none(now: i64, first: i64, period: i64) -> Option<i64>
 }
 
 /// Returns the next run of a job, which is less than a period away, or `None` if it does not fit.
-pub fn next_run(now: i64, first: i64, period: i64) -> Option<i64>
+pub fn next_run_of_job(now: i64, first: i64, period: i64) -> Option<i64>
     requires { pos 0 <ℤ period }
     ensures { IfSome result (λ next. next <ℤ (now +ℤ period)) }
 {

@@ -6,8 +6,8 @@ use Rattle.ratio64.proofs.ReadDecimals.{only_kept}
 use Rattle.ratio64.proofs.ReadTexts.{same_number}
 use Rattle.ratio64.proofs.SpelledDecimals.{decimal_spelled}
 use Rattle.ratio64.specs.Decimal.{SpellsDecimal, quintillionths_of}
-use Rattle.ratio64.specs.DecimalText.{AnswersNumber, AreKept, ReadsDecimal}
-use Rattle.ratio64.specs.FractionOrder.{int_cmp-times}
+use Rattle.ratio64.specs.DecimalText.{AnswersDecimal, AreKept, ReadsDecimal}
+use Rattle.ratio64.specs.FractionOrder.{int_cmp_times}
 use Rattle.ratio64.specs.Laws.{DecimalIsReadBack, DecimalOfPartsIsOnly, DecimalsCompareAsFractions, ReadDecimalIsOnly}
 use Rattle.ratio64.specs.declared.decimal.Decimal.{Decimal}
 use Rattle.ratio64.specs.declared.decimal.reading.ParseDecimalError.{ParseDecimalError}
@@ -50,8 +50,8 @@ decimals_compare_as_fractions x y =
     let q_all : q *ℤ t ≡ k = quintillion (places_of y) y.few in
     let left : (p *ℤ q) *ℤ (units_of x *ℤ s) ≡ k *ℤ (units_of x *ℤ q) = rw (← p_all) (simp expand) in
     let right : (p *ℤ q) *ℤ (units_of y *ℤ t) ≡ k *ℤ (units_of y *ℤ p) = rw (← q_all) (simp expand) in
-    let both = int_cmp-times (p *ℤ q) (quintillionths_of x) (quintillionths_of y) (product_up (10 ^ places_of x) (10 ^ places_of y) p_up q_up) in
-    let cross = int_cmp-times k (units_of x *ℤ q) (units_of y *ℤ p) (omega (arith, linear)) in
+    let both = int_cmp_times (p *ℤ q) (quintillionths_of x) (quintillionths_of y) (product_up (10 ^ places_of x) (10 ^ places_of y) p_up q_up) in
+    let cross = int_cmp_times k (units_of x *ℤ q) (units_of y *ℤ p) (omega (arith, linear)) in
     both ∙ ap (λ (z : ℤ). int_cmp z ((p *ℤ q) *ℤ (units_of y *ℤ t))) left ∙ ap (λ (z : ℤ). int_cmp (k *ℤ (units_of x *ℤ q)) z) right ∙ sym cross
 
 -- ---- the numbers that a string spells have one result
@@ -68,7 +68,7 @@ too_large x own other big =
     let same = ap unsigned_abs (only_kept other own) in
     absurd (omega (arith, same))
 
-only_number : {u : ℤ} {p : ℕ} (r s : Result Decimal ParseDecimalError) → AnswersNumber u p r → AnswersNumber u p s → r ≢ Err NotADecimal → s ≢ Err NotADecimal → r ≡ s
+only_number : {u : ℤ} {p : ℕ} (r s : Result Decimal ParseDecimalError) → AnswersDecimal u p r → AnswersDecimal u p s → r ≢ Err NotADecimal → s ≢ Err NotADecimal → r ≡ s
 only_number (Err NotADecimal) s h k m n = absurd (m refl)
 only_number r (Err NotADecimal) h k m n = absurd (n refl)
 only_number (Ok x) (Ok y) h k m n = ap Ok (decimal_of_parts_is_only x y (only_kept h.number.0 k.number.0) (h.number.1 ∙ sym k.number.1))
@@ -110,7 +110,7 @@ read_decimal_is_only text r s h k = same_read r s (λ other.
 
 -- ---- what is printed is read back
 
-own_answer : (x : Decimal) → AnswersNumber (units_of x) (places_of x) (Ok x)
+own_answer : (x : Decimal) → AnswersDecimal (units_of x) (places_of x) (Ok x)
 own_answer x = record {
   number = (own_kept x, let few = x.few in omega arith);
   too_many_places = (λ e. absurd cc, λ none. absurd (none (units_of x) (own_kept x)));

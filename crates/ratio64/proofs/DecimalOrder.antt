@@ -2,7 +2,7 @@
 use Rattle.ratio64.proofs.Common.{◌≡◌, ◌≤◌, ◌+◌, ◌-◌, ◌^◌, ◌<ℤ◌, ◌≤ℤ◌, ◌+ℤ◌, ◌*ℤ◌, ℕ, ℤ, pos, arith, refl, sym, ◌∙◌, ap, comm, expand, linear, multiples_apart, floored_range, product_from_zero, IsFloored, int_cmp_is, int_ranked, FitsSigned, w128, to_z, of_z, to_z-of_z, fits_signed_from_abs, sizes, places_of, units_of, Equal, Greater, Less}
 use Rattle.ratio64.proofs.DecimalTexts.{ten_up}
 use Rattle.ratio64.specs.Decimal.{quintillionths_of}
-use Rattle.ratio64.specs.FractionOrder.{int_cmp-times}
+use Rattle.ratio64.specs.FractionOrder.{int_cmp_times}
 use Rattle.ratio64.specs.declared.decimal.Decimal.{Decimal}
 use Rattle.std.proofs.lemmas.Nat.{pow-add}
 use Rattle.std.specs.Ordering.{MatchOrdering, int_cmp, ordering_then}
@@ -48,7 +48,7 @@ pub same_places : (x y : Decimal) → places_of x ≡ places_of y → int_cmp (u
 same_places x y same =
     let scale = pos (10 ^ (18 - places_of x)) in
     let up = ten_up (18 - places_of x) in
-    let times = int_cmp-times scale (units_of x) (units_of y) (omega (arith, linear)) in
+    let times = int_cmp_times scale (units_of x) (units_of y) (omega (arith, linear)) in
     let left : quintillionths_of x ≡ scale *ℤ units_of x = comm (units_of x) scale in
     let right : quintillionths_of y ≡ scale *ℤ units_of y = comm (units_of y) _ ∙ ap (λ (p : ℕ). pos (10 ^ (18 - p)) *ℤ units_of y) (sym same) in
     rw (left, right) times

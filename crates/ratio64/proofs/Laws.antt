@@ -8,6 +8,7 @@ pub use Rattle.ratio64.proofs.EqualNearest.{nearest_to_exact_result}
 pub use Rattle.ratio64.proofs.ExactResults.{exact_result_exists}
 pub use Rattle.ratio64.proofs.FractionAnswers.{only_answer as answer_is_only, only_of_parts as ratio_of_parts_is_only}
 pub use Rattle.ratio64.proofs.NearestNumbers.{only_rounded as rounded_is_only, only_rounded_even as rounded_even_is_only}
+pub use Rattle.ratio64.proofs.RoundedEven.{rounded_even_is}
 pub use Rattle.ratio64.proofs.ReadTexts.{only_reading as reading_is_only, printed_is_read as text_is_read_back}
 pub use Rattle.ratio64.proofs.DecimalLaws.{decimal_is_read_back, decimal_of_parts_is_only, decimals_compare_as_fractions, read_decimal_is_only}
 pub use Rattle.ratio64.proofs.SpelledDecimals.{decimal_spelled as decimal_is_spelled, only_spelled_decimal as spelled_decimal_is_only}

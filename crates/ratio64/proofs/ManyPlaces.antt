@@ -115,7 +115,8 @@ module _ (num k d : ℕ) (up : 0 < d) {rest : ℕ} (is : rest ≡ num * 10 ^ k %
 
   pub place_after : last_digits k (num * 10 ^ k / d) ++ encode_utf8 (48 + rest * 10 / d) ≡ last_digits (k + 1) (num * 10 ^ (k + 1) / d)
   place_after =
-      let one : encode_utf8 (48 + rest * 10 / d) ≡ (48 + rest * 10 / d) ∷ [] = encode_ascii (48 + rest * 10 / d) (omega (arith, next_digit_small)) in
+      let ascii : 48 + rest * 10 / d < 128 = omega (arith, next_digit_small) in
+      let one : encode_utf8 (48 + rest * 10 / d) ≡ (48 + rest * 10 / d) ∷ [] = encode_ascii (48 + rest * 10 / d) ascii in
       let quotient : num * 10 ^ (k + 1) / d ≡ num * 10 ^ k / d * 10 + rest * 10 / d = rw (ten_more, is) (next_quotient (num * 10 ^ k) d up) in
       rw (one, quotient, add-one) (sym (digit_added k (num * 10 ^ k / d) (rest * 10 / d) next_digit_small))
 
@@ -160,7 +161,8 @@ point_is : (p : ℕ) → 0 < p → point p ≡ 46 ∷ []
 point_is p some = grind arith
 
 units_text : (negative : Bool) (size p : ℕ) → (negative ≡ true → 0 < size) → 0 < p
-    → decimal_text (if negative then neg_ℤ (pos size) else pos size) p ≡ sign_text negative ++ ((decimal (size / 10 ^ p) ++ codes ".") ++ last_digits p size)
+    → decimal_text (if negative then neg_ℤ (pos size) else pos size) p
+    ≡ sign_text negative ++ ((decimal (size / 10 ^ p) ++ codes ".") ++ last_digits p size)
 units_text false size p some many = rw (not_negative size, point_is p many) refl
 units_text true zero p some many = absurd (omega (arith, some refl))
 units_text true (suc size) p some many = rw (point_is p many) refl
@@ -168,10 +170,14 @@ units_text true (suc size) p some many = rw (point_is p many) refl
 product_sign : (n : ℤ) (t : ℕ) → 0 < t → is_negative (n *ℤ pos t) ≡ is_negative n
 product_sign n t up = grind (arith, linear, multiples_apart n (pos 0) (pos t), multiples_apart (pos 0) n (pos t))
 
+-- the places of n / d
+abbrev rounded_places : ℤ → ℤ → ℕ → List ℕ
+rounded_places n d p = last_digits p (half_even (unsigned_abs n * 10 ^ p) (unsigned_abs d))
+
 -- the string of n / d with 19 places or more
 many_places_text : (n d : ℤ) (p : ℕ) → pos 0 <ℤ d → unsigned_abs d < 2 ^ 63 → 19 ≤ p
     → decimal_text (rounded_even (n *ℤ pos (10 ^ p)) d) p
-      ≡ sign_text (is_negative n) ++ ((decimal (unsigned_abs n / unsigned_abs d) ++ codes ".") ++ last_digits p (half_even (unsigned_abs n * 10 ^ p) (unsigned_abs d)))
+    ≡ sign_text (is_negative n) ++ ((decimal (unsigned_abs n / unsigned_abs d) ++ codes ".") ++ rounded_places n d p)
 many_places_text n d p up few many =
     let some : 0 < unsigned_abs d = omega (arith, sizes) in
     let size = half_even (unsigned_abs n * 10 ^ p) (unsigned_abs d) in
@@ -213,7 +219,7 @@ pieces_are : (s : FormatOptions) (negative : Bool) (whole places : List ℕ) (pa
     → padding ≡ unwrap_or (spec_width s) 0 - (length (sign_text_with (spec_sign_plus s) negative) + length whole) - length places
     → ArePadding s padding before noughts after
     → fill_text s before ++ (sign_text_with (spec_sign_plus s) negative ++ (repeat noughts (48 ∷ []) ++ (whole ++ (places ++ fill_text s after))))
-      ≡ padded_integral s negative [] (whole ++ places)
+    ≡ padded_integral s negative [] (whole ++ places)
 unfolding padded_integral char_count
 pieces_are s negative whole places padding before noughts after e h =
     let sign = sign_text_with (spec_sign_plus s) negative in
@@ -223,16 +229,18 @@ pieces_are s negative whole places padding before noughts after e h =
     rw (h.before_is, zeros, h.after_is, ← missing, no_prefix s) (in_pieces _ sign _ whole places _)
 
 -- so the pieces of the decimal number do
-pub number_pieces : (s : FormatOptions) (n d : ℤ) (p : ℕ) {padding before noughts after : ℕ} {sign whole : List ℕ} → pos 0 <ℤ d → unsigned_abs d < 2 ^ 63 → unsigned_abs n < 2 ^ 64 → 19 ≤ p
+pub number_pieces : (s : FormatOptions) (n d : ℤ) (p : ℕ) {padding before noughts after : ℕ} {sign whole : List ℕ}
+    → pos 0 <ℤ d → unsigned_abs d < 2 ^ 63 → unsigned_abs n < 2 ^ 64 → 19 ≤ p
     → sign ≡ sign_text_with (spec_sign_plus s) (is_negative n) → whole ≡ decimal (unsigned_abs n / unsigned_abs d) ++ codes "."
     → padding ≡ unwrap_or (spec_width s) 0 - (length sign + length whole) - p → ArePadding s padding before noughts after
-    → fill_text s before ++ (sign ++ (repeat noughts (48 ∷ []) ++ (whole ++ (last_digits p (half_even (unsigned_abs n * 10 ^ p) (unsigned_abs d)) ++ fill_text s after))))
-      ≡ padded_number s (decimal_text (rounded_even (n *ℤ pos (10 ^ p)) d) p)
+    → fill_text s before ++ (sign ++ (repeat noughts (48 ∷ []) ++ (whole ++ (rounded_places n d p ++ fill_text s after))))
+    ≡ padded_number s (decimal_text (rounded_even (n *ℤ pos (10 ^ p)) d) p)
 number_pieces s n d p {padding} {before} {noughts} {after} up few fits many sign_own whole_own missing h =
-    let places = last_digits p (half_even (unsigned_abs n * 10 ^ p) (unsigned_abs d)) in
+    let places = rounded_places n d p in
     let digits = decimal (unsigned_abs n / unsigned_abs d) in
     let long : length places ≡ p = length_last p (half_even (unsigned_abs n * 10 ^ p) (unsigned_abs d)) in
-    let numeral = decimal_is_IsNumeral (unsigned_abs n / unsigned_abs d) (omega (arith, div-le_self (unsigned_abs n) (unsigned_abs d))) in
+    let low : unsigned_abs n / unsigned_abs d < 2 ^ 64 = omega (arith, div-le_self (unsigned_abs n) (unsigned_abs d)) in
+    let numeral = decimal_is_IsNumeral (unsigned_abs n / unsigned_abs d) low in
     let count = rw (sign_own, whole_own, ← long) at missing in
     rw (sign_own, whole_own, many_places_text n d p up few many, signed_padded s (is_negative n) digits (codes ".") places numeral.0)
     (pieces_are s (is_negative n) (digits ++ codes ".") places padding before noughts after count h)

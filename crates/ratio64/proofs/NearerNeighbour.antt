@@ -21,7 +21,10 @@ itself_is_nearest {n} {d} {u} {v} x up =
 
 -- numbers of which a combination is 1
 reduced_by : (x y a b : ℤ) → pos 0 <ℤ b → x *ℤ a +ℤ y *ℤ b ≡ pos 1 → IsReduced a b
-reduced_by x y a b up one = record { positive = up; lowest = coprime_by (λ d left right. subst (λ (t : ℤ). Divides d t) one (Divides_sum x y left right)) }
+reduced_by x y a b up one = record {
+  positive = up;
+  lowest = coprime_by (λ d left right. subst (λ (t : ℤ). Divides d t) one (Divides_sum x y left right));
+}
 
 -- ---- a fraction that does not lie between two neighbours
 
@@ -98,32 +101,53 @@ past_farther p b e g h v d j far near ups =
 -- z is as near to n/d as a/v. If they are equally near, its denominator is at most that of a/v, and over the same denominator its numerator is.
 abbrev pub IsAsNear : ℕ → ℕ → Neighbour → ℤ → ℤ → Type 0
 IsAsNear n d z a v = (gap (pos n) (pos d) (pos z.num) (pos z.den) * unsigned_abs v ≤ gap (pos n) (pos d) a v * z.den)
-    × (gap (pos n) (pos d) (pos z.num) (pos z.den) * unsigned_abs v ≡ gap (pos n) (pos d) a v * z.den → (pos z.den ≤ℤ v) × (v ≡ pos z.den → pos z.num ≤ℤ a))
+    × (gap (pos n) (pos d) (pos z.num) (pos z.den) * unsigned_abs v ≡ gap (pos n) (pos d) a v * z.den
+    → (pos z.den ≤ℤ v) × (v ≡ pos z.den → pos z.num ≤ℤ a))
 
--- x is the nearer one of the two, and of two that are equally near the smaller one by its denominator, and then by its numerator
-nearest_of : (n d : ℕ) (x y : Neighbour) (a : ℤ) {v : ℤ} → pos 0 <ℤ v → gap (pos n) (pos d) (pos x.num) (pos x.den) ≡ x.gap → (0 < d) × (0 < y.gap)
-    → IsReduced (pos x.num) (pos x.den) → (0 < y.den → IsReduced (pos y.num) (pos y.den)) → x.gap * y.den ≤ y.gap * x.den
-    → (x.gap * y.den ≡ y.gap * x.den → (x.den ≤ y.den) × (y.den ≡ x.den → x.num ≤ y.num)) → IsPast n d x a v ⊎ IsPast n d y a v → IsAsNear n d x a v
-nearest_of n d x y a {v} up own ups reduced other near smaller (inl past) =
-    rw own (
-      omega arith,
-      λ tie.
-          let apart = le-mul_of_pos_right {m = d} (gap (pos x.num) (pos x.den) a v) ups.0 in
-          let least = equal_least {u = a} reduced up (omega (arith, sizes)) in
-          (least.0, λ same. omega (arith, linear, least.1 same)),
-    )
-nearest_of n d x y a {v} up own ups reduced other near smaller (inr past) =
-    let x_up : 0 < x.den = omega (arith, ints, reduced.positive) in
-    let farther = past_farther (gap (pos n) (pos d) a v) x.den y.den x.gap y.gap (unsigned_abs v) d _ past near (ups.0, x_up, ups.1, omega (arith, sizes)) in
-    rw own (
-      farther.0,
-      λ tie.
-          let level = farther.1 tie in
-          let least = equal_least {u = a} (other level.1) up (omega (arith, sizes, level.0)) in
-          let less = smaller level.2 in
-          let even : v ≡ pos x.den → y.den ≡ x.den = λ same. omega (arith, ints, least.0, less.0) in
-          (omega (arith, ints, least.0), λ same. omega (arith, ints, least.1 (omega (arith, ints, even same)), less.1 (even same))),
-    )
+-- x, at its gap from n/d, is reduced, and nearer to n/d than y. If the two are equally near, x has the smaller denominator, and over the same
+-- denominator the smaller numerator.
+pub record IsFirst (n d : ℕ) (x y : Neighbour) : Type 0 where
+  pub own : gap (pos n) (pos d) (pos x.num) (pos x.den) ≡ x.gap
+  pub ups : (0 < d) × (0 < y.gap)
+  pub reduced : IsReduced (pos x.num) (pos x.den)
+  pub other : 0 < y.den → IsReduced (pos y.num) (pos y.den)
+  pub near : x.gap * y.den ≤ y.gap * x.den
+  pub smaller : x.gap * y.den ≡ y.gap * x.den → (x.den ≤ y.den) × (y.den ≡ x.den → x.num ≤ y.num)
+
+module _ {n d : ℕ} {x y : Neighbour} (h : IsFirst n d x y) (a : ℤ) {v : ℤ} (up : pos 0 <ℤ v) where
+  -- a fraction behind the nearer one is not nearer, and equally near only if it is equal to it
+  near_behind_own : IsPast n d x a v → IsAsNear n d x a v
+  near_behind_own past =
+      let apart = le-mul_of_pos_right {m = d} (gap (pos x.num) (pos x.den) a v) h.ups.0 in
+      rw h.own (
+        omega arith,
+        λ tie.
+            let least = equal_least {u = a} h.reduced up (omega (arith, sizes)) in
+            (least.0, λ same. omega (arith, linear, least.1 same)),
+      )
+
+  -- a fraction behind the farther one is not nearer, and equally near only if it is equal to the farther one
+  near_behind_other : IsPast n d y a v → IsAsNear n d x a v
+  near_behind_other past =
+      let x_up : 0 < x.den = omega (arith, ints, h.reduced.positive) in
+      let v_up : 0 < unsigned_abs v = omega (arith, sizes) in
+      let ups : (0 < d) × (0 < x.den) × (0 < y.gap) × (0 < unsigned_abs v) = (h.ups.0, x_up, h.ups.1, v_up) in
+      let farther = past_farther (gap (pos n) (pos d) a v) x.den y.den x.gap y.gap (unsigned_abs v) d _ past h.near ups in
+      rw h.own (
+        farther.0,
+        λ tie.
+            let level = farther.1 tie in
+            let least = equal_least {u = a} (h.other level.1) up (omega (arith, sizes, level.0)) in
+            let less = h.smaller level.2 in
+            let even : v ≡ pos x.den → y.den ≡ x.den = λ same. omega (arith, ints, least.0, less.0) in
+            let numerators : v ≡ pos x.den → pos x.num ≤ℤ a = λ same.
+            let level_dens : v ≡ pos y.den = omega (arith, ints, even same) in
+            omega (arith, ints, least.1 level_dens, less.1 (even same)) in
+            (omega (arith, ints, least.0), numerators),
+      )
+
+  near_behind : IsPast n d x a v ⊎ IsPast n d y a v → IsAsNear n d x a v
+  near_behind past = elim past [ inl own ↦ near_behind_own own | inr other ↦ near_behind_other other ]
 
 -- the nearer one is reduced, and no fraction that does not lie between the two is nearer
 pub nearer_is_nearest : {n d : ℕ} {l u z : Neighbour} → AreAround n d l u → IsNearer l u z
@@ -132,26 +156,40 @@ nearer_is_nearest {n} {d} {l} {u} h near =
     let left = neg_mul (pos u.den) (pos l.num) in
     let right = neg_mul (pos l.num) (pos u.den) in
     let lower = reduced_by (neg_ℤ (pos u.den)) (pos u.num) (pos l.num) (pos l.den) (omega (arith, ints, h.ups)) (omega (arith, products)) in
-    let upper = λ (up : 0 < u.den). reduced_by (pos l.den) (neg_ℤ (pos l.num)) (pos u.num) (pos u.den) (omega (arith, ints)) (omega (arith, products)) in
+    let upper = λ (up : 0 < u.den).
+    reduced_by (pos l.den) (neg_ℤ (pos l.num)) (pos u.num) (pos u.den) (omega (arith, ints)) (omega (arith, products)) in
     elim near.is [
       | inl k ↦
           let own : gap (pos n) (pos d) (pos l.num) (pos l.den) ≡ l.gap = omega (arith, sizes, h.from_below) in
           let smaller : u.den ≡ l.den → l.num ≤ u.num = λ same.
           le_of_mul-le-mul_right {m = l.num} {n = u.num} {k = l.den} (omega (arith, rw same at h.adjacent)) h.ups.1 in
-          rw k.0 (
-            lower,
-            λ a v up outside. nearest_of n d l u a up own (h.ups.0, h.ups.3) lower upper k.1 (λ tie. (k.2 tie, smaller)) (past_one h up outside),
-          )
+          let first : IsFirst n d l u = record {
+            own = own;
+            ups = (h.ups.0, h.ups.3);
+            reduced = lower;
+            other = upper;
+            near = k.1;
+            smaller = λ tie. (k.2 tie, smaller);
+          } in
+          rw k.0 (lower, λ a v up outside. near_behind first a up (past_one h up outside))
       | inr k ↦
           let own : gap (pos n) (pos d) (pos u.num) (pos u.den) ≡ u.gap = omega (arith, sizes, h.from_above) in
           let some = mul-pos h.ups.3 h.ups.1 in
           let reduced = upper (positive_by_product l.gap u.den (omega (arith, k.1))) in
           let larger : u.gap * l.den ≡ l.gap * u.den → (u.den ≤ l.den) × (l.den ≡ u.den → u.num ≤ l.num) = λ tie.
           let strict = k.2 tie in (omega arith, λ same. absurd (omega arith)) in
+          let first : IsFirst n d u l = record {
+            own = own;
+            ups = (h.ups.0, h.ups.2);
+            reduced = reduced;
+            other = λ _. lower;
+            near = k.1;
+            smaller = larger;
+          } in
           rw k.0 (
             reduced,
             λ a v up outside.
                 let past : IsPast n d u a v ⊎ IsPast n d l a v = elim (past_one h up outside) [ inl far ↦ inr far | inr far ↦ inl far ] in
-                nearest_of n d u l a up own (h.ups.0, h.ups.2) reduced (λ _. lower) k.1 larger past,
+                near_behind first a up past,
           )
     ]

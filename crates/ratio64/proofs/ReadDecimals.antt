@@ -1,11 +1,11 @@
 -- The strings of decimal numbers, cut at the point, and what they are read as.
-use Rattle.ratio64.proofs.Common.{◌≡◌, ◌≢◌, ◌↔◌, ◌≤◌, ◌<◌, ◌+◌, ◌-◌, ◌*◌, ◌^◌, ◌*ℤ◌, ◌++◌, ◌==◌, ℕ, suc, zero, ℤ, List, [], ◌∷◌, true, false, length, take, drop, pos, neg_ℤ, unsigned_abs, AllDigits, IsNumeral, digit_value, digits_value, starts_with_minus, list_all, Bor, Option, Some, None, Result, Ok, Err, arith, ap, inl, inr, refl, subst, sym, ◌∙◌, cases_Bool, length-append, append-nil, nil_from_length, IsTrue, pow-succ', cancel, comm, linear, neg_mul, append_assoc, cases_lt, le_refl, mul-le-mul, mul-le-mul_left, to_z, of_z, w128, unsigned_abs-mul, positive_is_nonzero, IsSplitOnceResult, split_after, split_parts, SpellsDecimal, places_of, units_of, unsigned_part, whole_of}
+use Rattle.ratio64.proofs.Common.{◌≡◌, ◌≢◌, ◌↔◌, ◌≤◌, ◌<◌, ◌+◌, ◌-◌, ◌*◌, ◌^◌, ◌*ℤ◌, ◌++◌, ◌==◌, ℕ, suc, zero, ℤ, List, [], ◌∷◌, true, false, length, take, drop, pos, neg_ℤ, unsigned_abs, AllDigits, IsNumeral, digit_value, digits_value, starts_with_minus, Bor, Option, Some, None, Result, Ok, Err, arith, ap, inl, inr, refl, subst, sym, ◌∙◌, cases_Bool, length-append, append-nil, nil_from_length, pow-succ', cancel, comm, linear, neg_mul, append_assoc, cases_lt, le_refl, mul-le-mul, mul-le-mul_left, to_z, of_z, w128, unsigned_abs-mul, positive_is_nonzero, IsSplitOnceResult, split_after, split_parts, SpellsDecimal, places_of, units_of, unsigned_part, whole_of}
 use Rattle.ratio64.proofs.DecimalTexts.{ten_grows, ten_up}
 use Rattle.ratio64.proofs.WideSums.{read}
 use Rattle.ratio64.proofs.ReadTexts.{no_mark, no_mark_inside}
 use Rattle.ratio64.proofs.SpelledDecimals.{alone, only_spelled_decimal}
 use Rattle.ratio64.specs.Decimal.{point}
-use Rattle.ratio64.specs.DecimalText.{AnswersNumber, AreKept, AreParts, ReadsDecimal}
+use Rattle.ratio64.specs.DecimalText.{AnswersDecimal, AreKept, AreParts, ReadsDecimal}
 use Rattle.ratio64.specs.declared.decimal.Decimal.{Decimal}
 use Rattle.ratio64.specs.declared.decimal.reading.ParseDecimalError.{ParseDecimalError}
 use Rattle.ratio64.specs.declared.decimal.reading.ParseDecimalError.TheVariants.{NotADecimal, TooManyPlaces, NotFitting}
@@ -14,7 +14,6 @@ use Rattle.std.proofs.lemmas.List.{length-drop, length-take, take-append-drop}
 use Rattle.num_integer.proofs.ForCallers.{decimal_model}
 use Rattle.std.proofs.lemmas.List.{drop_all}
 use Rattle.std.proofs.lemmas.Str.Parse.{digit_at, parse_digits}
-use Rattle.std.specs.Char.{is_ascii_digit}
 use Rattle.std.specs.Result.{OkIff, result_unwrap_or}
 use Rattle.std.specs.Str.{IsCharBoundary}
 use Rattle.std.specs.Str.Parse.{ParsesUnsigned, digits_value_after}
@@ -59,9 +58,16 @@ all_digits_taken (suc k) (c ∷ cs) h = (h.0, all_digits_taken k cs h.1)
 
 -- ---- digits that `parse` reads
 
--- the test of each byte tells a numeral
-pub tells_numeral : (ds : List ℕ) → 0 < length ds → IsTrue (list_all is_ascii_digit ds) ↔ IsNumeral 10 ds
-tells_numeral ds some = (λ t. (some, decimal_model.to ds t), λ h. decimal_model.from ds h.1)
+-- digits have no minus
+pub no_minus : (ds : List ℕ) → IsNumeral 10 ds → starts_with_minus ds ≡ false
+no_minus [] h = absurd (omega (arith, h.0))
+no_minus (c ∷ cs) h = grind (arith, h.1.0)
+
+pub plain_digits : (ds : List ℕ) → starts_with_minus ds ≡ false → unsigned_part ds ≡ ds
+plain_digits ds plain = rw plain refl
+
+-- for `grind`: a string without a minus is a numeral exactly if it is an integer
+pub ruleset tells_numeral = (no_minus, plain_digits)
 
 module _ {E : Type 0} (ds : List ℕ) (digits : AllDigits 10 ds) where
   parsed : (r : Result ℕ E) → ParsesUnsigned 64 10 ds r → OkIff r ((0 < length ds) × (digits_value 10 ds < 2 ^ 64)) (digits_value 10 ds)
@@ -232,25 +238,25 @@ whole_size_is w = signed_size (starts_with_minus w) (digits_value 10 (unsigned_p
 
 -- ---- what the string is read as
 
-pub too_many_answer : {u : ℤ} {p : ℕ} → ((k : ℤ) → ¬ (AreKept u p k)) → AnswersNumber u p (Err TooManyPlaces)
+pub too_many_answer : {u : ℤ} {p : ℕ} → ((k : ℤ) → ¬ (AreKept u p k)) → AnswersDecimal u p (Err TooManyPlaces)
 too_many_answer none = record { number = tt; too_many_places = (λ e. none, λ h. refl); not_fitting = (λ e. absurd cc, λ big. absurd (none big.0 big.1)) }
 
-pub not_fitting_answer : {u : ℤ} {p : ℕ} (k : ℤ) → AreKept u p k → 2 ^ 127 ≤ unsigned_abs k → AnswersNumber u p (Err NotFitting)
+pub not_fitting_answer : {u : ℤ} {p : ℕ} (k : ℤ) → AreKept u p k → 2 ^ 127 ≤ unsigned_abs k → AnswersDecimal u p (Err NotFitting)
 not_fitting_answer k h big = record { number = tt; too_many_places = (λ e. absurd cc, λ none. absurd (none k h)); not_fitting = (λ e. (k, h, big), λ more. refl) }
 
-pub number_answer : {u : ℤ} {p : ℕ} (x : Decimal) → AreKept u p (units_of x) → places_of x ≡ min p 18 → AnswersNumber u p (Ok x)
+pub number_answer : {u : ℤ} {p : ℕ} (x : Decimal) → AreKept u p (units_of x) → places_of x ≡ min p 18 → AnswersDecimal u p (Ok x)
 number_answer x h places = record {
   number = (h, places);
   too_many_places = (λ e. absurd cc, λ none. absurd (none (units_of x) h));
   not_fitting = (λ e. absurd cc, λ big. let same = only_kept big.1 h in let small = x.below in absurd (omega (arith, ap unsigned_abs same, big.2)));
 }
 
-pub parts_read : {text w part : List ℕ} {result : Result Decimal ParseDecimalError} → AreParts text w part → AnswersNumber (whole_of (w ++ part)) (length part) result → result ≢ Err NotADecimal → ReadsDecimal text result
+pub parts_read : {text w part : List ℕ} {result : Result Decimal ParseDecimalError} → AreParts text w part → AnswersDecimal (whole_of (w ++ part)) (length part) result → result ≢ Err NotADecimal → ReadsDecimal text result
 parts_read {text} {w} {part} {result} own answer spelled = record {
   not_a_decimal = (λ e. absurd (spelled e), λ none. absurd (none _ _ own.spelled));
   answer = λ u p s.
       let same = only_spelled_decimal text u p s (whole_of (w ++ part), length part) own.spelled in
-      subst (λ (t : ℤ × ℕ). AnswersNumber t.0 t.1 result) same answer;
+      subst (λ (t : ℤ × ℕ). AnswersDecimal t.0 t.1 result) same answer;
 }
 
 pub other_read : {text : List ℕ} → ((u : ℤ) (p : ℕ) → ¬ (SpellsDecimal text u p)) → ReadsDecimal text (Err NotADecimal)

@@ -1,5 +1,5 @@
 -- The nearest integer, and of two equally near the even one, by `/` and `%`.
-use Rattle.ratio64.proofs.Common.{◌≡◌, false, is_negative, ◌⊎◌, ◌+◌, ◌*◌, ◌/◌, ◌%◌, ◌<◌, ◌≤◌, ◌<ℤ◌, ◌+ℤ◌, ◌*ℤ◌, ℕ, ℤ, negsuc, pos, neg_ℤ, suc, unsigned_abs, ap, arith, inl, inr, refl, sym, subst, ◌∙◌, cases_Bool, cases_lt, ints, neg_mul, linear, products, sizes, IsFloored, IsRoundedEven}
+use Rattle.ratio64.proofs.Common.{◌≡◌, false, is_negative, ◌+◌, ◌*◌, ◌/◌, ◌%◌, ◌<◌, ◌≤◌, ◌<ℤ◌, ℕ, ℤ, negsuc, pos, neg_ℤ, suc, unsigned_abs, ap, arith, inl, inr, refl, cases_Bool, cases_lt, ints, neg_mul, products, sizes, IsFloored, IsRoundedEven}
 use Rattle.num_integer.proofs.ForCallers.{divides_is_natural, floored_by_range}
 use Rattle.num_integer.proofs.NearestQuotients.{nearest_even_is}
 use Rattle.num_integer.specs.Divisors.{IsEven}
@@ -49,7 +49,9 @@ negated_rounded {n} {d} {r} h =
       division = record {
         division = record { equation = omega (arith, products, near.division.equation, neg_mul r d); small = omega (arith, sizes) };
         nearest = omega (arith, sizes, near.nearest);
-        tie = λ half. let even = near.tie (omega (arith, sizes)) in record { factor = neg_ℤ even.factor; product = omega (arith, products, even.product) };
+        tie = λ half.
+            let even = near.tie (omega (arith, sizes)) in
+            record { factor = neg_ℤ even.factor; product = omega (arith, products, even.product) };
       };
     }
 
@@ -73,10 +75,16 @@ natural_rounded_is n d {r} up h =
 -- ---- a number whose first digits are those of another
 
 pub half_even_at_most : (n d : ℕ) → half_even n d ≤ n / d + 1
-half_even_at_most n d = elim (cases_Bool (nat_le (2 * (n % d) + n / d % 2) d)) [ inl down ↦ rw down (omega arith) | inr up ↦ rw up (omega arith) ]
+half_even_at_most n d = elim (cases_Bool (nat_le (2 * (n % d) + n / d % 2) d)) [
+  | inl down ↦ rw down (omega arith)
+  | inr up ↦ rw up (omega arith)
+]
 
 pub half_even_at_least : (n d : ℕ) → n / d ≤ half_even n d
-half_even_at_least n d = elim (cases_Bool (nat_le (2 * (n % d) + n / d % 2) d)) [ inl down ↦ rw down (omega arith) | inr up ↦ rw up (omega arith) ]
+half_even_at_least n d = elim (cases_Bool (nat_le (2 * (n % d) + n / d % 2) d)) [
+  | inl down ↦ rw down (omega arith)
+  | inr up ↦ rw up (omega arith)
+]
 
 -- a multiple of twice the divisor is added to the number, and the even number of multiples to the nearest integer
 pub half_even_more : (a n d : ℕ) → 0 < d → half_even (2 * a * d + n) d ≡ 2 * a + half_even n d

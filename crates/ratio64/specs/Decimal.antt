@@ -50,7 +50,8 @@ decimal_text units places =
     let size = unsigned_abs units in
     sign_text (is_negative units) ++ decimal (size / 10 ^ places) ++ point places ++ last_digits places size
 
--- The string of a fraction, or of the nearest decimal number with so many places. Of two that are equally near, it is the one whose last digit is even.
+-- The string of a fraction, or of the nearest decimal number with so many places. Of two that are equally near, it is the one
+-- whose last digit is even.
 -- Examples: of 2/3: `2/3`; with 2 places `0.67`, and with none `1`; of -1/20 with 1: `0.0`.
 abbrev pub shown_text : Option ℕ → Ratio → List ℕ
 shown_text None x = text_of x

@@ -15,7 +15,7 @@ pub record AreKept (units : ℤ) (places : ℕ) (kept : ℤ) : Type 0 where
 -- The result of parsing a number with these units and places is that number, or the error whose condition holds. Places after the 18th are dropped if
 -- their digits are zeros.
 -- Examples: 1234 and 2: 12.34; 5·10^19 and 20: 0.500000000000000000; 1 and 19: `TooManyPlaces`; 2^127 and 0: `NotFitting`.
-pub record AnswersNumber (units : ℤ) (places : ℕ) (result : Result Decimal ParseDecimalError) : Type 0 where
+pub record AnswersDecimal (units : ℤ) (places : ℕ) (result : Result Decimal ParseDecimalError) : Type 0 where
   pub number : IfOk result (λ x. AreKept units places (units_of x) × (places_of x ≡ min places 18))
   pub too_many_places : (result ≡ Err TooManyPlaces) ↔ ((kept : ℤ) → ¬ (AreKept units places kept))
   pub not_fitting : (result ≡ Err NotFitting) ↔ ((kept : ℤ) × AreKept units places kept × (2 ^ 127 ≤ unsigned_abs kept))
@@ -24,7 +24,7 @@ pub record AnswersNumber (units : ℤ) (places : ℕ) (result : Result Decimal P
 -- Examples: `-0.05`: -0.05; `1,5` and `.5`: `NotADecimal`; `0.` and 50 zeros: 0.000000000000000000.
 pub record ReadsDecimal (text : List ℕ) (result : Result Decimal ParseDecimalError) : Type 0 where
   pub not_a_decimal : (result ≡ Err NotADecimal) ↔ ((units : ℤ) (places : ℕ) → ¬ (SpellsDecimal text units places))
-  pub answer : (units : ℤ) (places : ℕ) → SpellsDecimal text units places → AnswersNumber units places result
+  pub answer : (units : ℤ) (places : ℕ) → SpellsDecimal text units places → AnswersDecimal units places result
 
 -- This is the message of an error, which `Display` prints.
 -- Examples: `NotADecimal`: `the text is not a decimal number`.

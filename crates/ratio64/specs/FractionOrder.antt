@@ -23,13 +23,13 @@ ranked_times Less k x y up h = times_lt k x y up h
 ranked_times Equal k x y up h = ap (λ (t : ℤ). k *ℤ t) h
 ranked_times Greater k x y up h = times_lt k y x up h
 
-pub int_cmp-times : (k x y : ℤ) → pos 0 <ℤ k → int_cmp x y ≡ int_cmp (k *ℤ x) (k *ℤ y)
-int_cmp-times k x y up = int_cmp_is (k *ℤ x) (k *ℤ y) (int_cmp x y) (ranked_times (int_cmp x y) k x y up (int_ranked x y (int_cmp x y) refl))
+pub int_cmp_times : (k x y : ℤ) → pos 0 <ℤ k → int_cmp x y ≡ int_cmp (k *ℤ x) (k *ℤ y)
+int_cmp_times k x y up = int_cmp_is (k *ℤ x) (k *ℤ y) (int_cmp x y) (ranked_times (int_cmp x y) k x y up (int_ranked x y (int_cmp x y) refl))
 
 -- ---- the fractions a/b, c/d and e/f over their common denominator
 
 common_cmp : (a b c d k x y : ℤ) → pos 0 <ℤ k → k *ℤ (a *ℤ d) ≡ x → k *ℤ (c *ℤ b) ≡ y → fraction_cmp a b c d ≡ int_cmp x y
-common_cmp a b c d k x y up e f = rw (← e, ← f) (int_cmp-times k (a *ℤ d) (c *ℤ b) up)
+common_cmp a b c d k x y up e f = rw (← e, ← f) (int_cmp_times k (a *ℤ d) (c *ℤ b) up)
 
 module _ (a b c d e f : ℤ) (b_up : pos 0 <ℤ b) (d_up : pos 0 <ℤ d) (f_up : pos 0 <ℤ f) where
   first : fraction_cmp a b c d ≡ int_cmp (a *ℤ (d *ℤ f)) (c *ℤ (b *ℤ f))

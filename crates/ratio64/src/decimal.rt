@@ -102,8 +102,8 @@ impl Ratio {
         })
     }
 
-    /// Returns the decimal number with so many places that is the same number, or `None` if there is none or if there are
-    /// more than 18 places. `Ratio::new(1, 8).unwrap().to_decimal_exactly(3).unwrap().to_string()` is `"0.125"`, and
+    /// Returns this fraction as a decimal number with so many places, if that is exact, and otherwise `None`. It is `None`
+    /// too if there are more than 18 places. `Ratio::new(1, 8).unwrap().to_decimal_exactly(3).unwrap().to_string()` is `"0.125"`, and
     /// `Ratio::new(1, 8).unwrap().to_decimal_exactly(2)` is `None`.
     pub fn to_decimal_exactly(&self, places: u32) -> Option<Decimal>
         ensures { AnswersWhere

@@ -129,6 +129,7 @@ pub fn laws_of_fractions()
     ensures order_over_one_denominator { fractions.OrderOverOneDenominator }
     ensures rounded_is_only { fractions.RoundedIsOnly }
     ensures rounded_even_is_only { fractions.RoundedEvenIsOnly }
+    ensures rounded_even_is { fractions.RoundedEvenIs }
     ensures nearest_is_only { fractions.NearestIsOnly }
     ensures nearest_to_exact_result { fractions.NearestToExactResult }
     ensures nearest_parts_are_only { fractions.NearestPartsAreOnly }

@@ -1,11 +1,9 @@
 //! Reads a decimal number from a string.
 
 ghost use Rattle.std.specs.Prelude.{◌≡◌, ◌≢◌, ◌≤◌, ◌<◌, ◌^◌, ◌+◌, ◌*◌, ◌++◌, ◌↔◌, ℕ, ℤ, Err, IsTrue, MatchOption, drop, length, neg_ℤ, pos, take, unsigned_abs, if◌then◌else◌};
-ghost use Rattle.std.specs.Char.{is_ascii_digit};
-ghost use Rattle.std.specs.List.{list_all};
 ghost use Rattle.std.specs.Str.Parse.{AllDigits, IsNumeral, digits_value, starts_with_minus};
 ghost use Rattle.ratio64.specs.Decimal.{SpellsDecimal};
-ghost use Rattle.ratio64.specs.DecimalText.{AnswersNumber, AreParts};
+ghost use Rattle.ratio64.specs.DecimalText.{AnswersDecimal, AreParts};
 ghost use Rattle.ratio64.specs.IntegerWords.{unsigned_part, whole_of};
 
 use crate::Decimal;
@@ -98,30 +96,27 @@ fn split(text: &str) -> Option<(&str, &str)>
 fn is_numeral(text: &str) -> bool
     ensures { IsTrue result ↔ IsNumeral 10 text.now }
 {
-    !text.is_empty() && has_only_digits(text.as_bytes())
-}
-
-fn has_only_digits(text: &[u8]) -> bool
-    ensures { result ≡ list_all is_ascii_digit text.now }
-{
-    text.iter().all(u8::is_ascii_digit)
+    match text.as_bytes() {
+        [b'-', ..] => false,
+        _ => is_integer(text),
+    }
 }
 
 /// Returns the number, of which these digits stand before the point and after it.
 fn number(whole: &str, part: &str) -> Result<Decimal, ParseDecimalError>
     requires whole { IsNumeral 10 (unsigned_part whole.now) }
     requires part { AllDigits 10 part.now }
-    ensures number { AnswersNumber (whole_of (whole.now ++ part.now)) (length part.now) result }
+    ensures number { AnswersDecimal (whole_of (whole.now ++ part.now)) (length part.now) result }
     ensures spelled { result ≢ Err ParseDecimalError.NotADecimal }
 {
     let Some(part) = kept(part) else {
         return Err(ParseDecimalError::TooManyPlaces);
     };
-    let Some(size) = size(whole, part) else {
+    let Some(magnitude) = magnitude(whole, part) else {
         return Err(ParseDecimalError::NotFitting);
     };
     Ok(Decimal {
-        units: with_sign(whole, size),
+        units: with_magnitude(whole, magnitude),
         places: part.len() as u32,
     })
 }
@@ -151,23 +146,23 @@ fn is_zero(digits: &str) -> bool
 }
 
 /// Returns the number that the digits of both write, or `None` if it is not below 2^127.
-fn size(whole: &str, part: &str) -> Option<i128>
+fn magnitude(whole: &str, part: &str) -> Option<i128>
     requires whole { IsNumeral 10 (unsigned_part whole.now) }
     requires part { AllDigits 10 part.now }
     requires few { length part.now ≤ 18 }
     ensures { MatchOption result (2 ^ 127 ≤ digits_value 10 (unsigned_part whole.now ++ part.now))
-        (λ size. (size ≡ pos (digits_value 10 (unsigned_part whole.now ++ part.now)))
+        (λ magnitude. (magnitude ≡ pos (digits_value 10 (unsigned_part whole.now ++ part.now)))
         × (digits_value 10 (unsigned_part whole.now ++ part.now) < 2 ^ 127)) }
 {
     let scale = 10_u128.pow(part.len() as u32);
-    joined(whole_size(whole)?, scale, part_size(part))
+    joined(whole_magnitude(whole)?, scale, part_magnitude(part))
 }
 
 /// Returns the magnitude of the integer, or `None` if it is above 2^127.
-fn whole_size(whole: &str) -> Option<u128>
+fn whole_magnitude(whole: &str) -> Option<u128>
     requires { IsNumeral 10 (unsigned_part whole.now) }
     ensures { MatchOption result (2 ^ 127 ≤ unsigned_abs (whole_of whole.now))
-        (λ size. size ≡ unsigned_abs (whole_of whole.now)) }
+        (λ magnitude. magnitude ≡ unsigned_abs (whole_of whole.now)) }
 {
     match whole.parse::<i128>() {
         Ok(number) => Some(number.unsigned_abs()),
@@ -177,7 +172,7 @@ fn whole_size(whole: &str) -> Option<u128>
 
 /// Returns the number that at most 18 digits write.
 #[tactic(auto, using(crate::proofs::ReadDecimals::few_digits))]
-fn part_size(part: &str) -> u128
+fn part_magnitude(part: &str) -> u128
     requires digits { AllDigits 10 part.now }
     requires few { length part.now ≤ 18 }
     ensures { result ≡ digits_value 10 part.now }
@@ -188,18 +183,18 @@ fn part_size(part: &str) -> u128
 /// Returns `whole * scale + part`, or `None` if it is not below 2^127.
 fn joined(whole: u128, scale: u128, part: u128) -> Option<i128>
     ensures { MatchOption result (2 ^ 127 ≤ whole * scale + part)
-        (λ size. (size ≡ pos (whole * scale + part)) × (whole * scale + part < 2 ^ 127)) }
+        (λ magnitude. (magnitude ≡ pos (whole * scale + part)) × (whole * scale + part < 2 ^ 127)) }
 {
     i128::try_from(whole.checked_mul(scale)?.checked_add(part)?).ok()
 }
 
-/// Returns the number with the sign of the text.
-fn with_sign(text: &str, size: i128) -> i128
-    requires { unsigned_abs size < 2 ^ 127 }
-    ensures { result ≡ (if starts_with_minus text.now then neg_ℤ size else size) }
+/// Returns the number with this magnitude and the sign of the text.
+fn with_magnitude(text: &str, magnitude: i128) -> i128
+    requires { unsigned_abs magnitude < 2 ^ 127 }
+    ensures { result ≡ (if starts_with_minus text.now then neg_ℤ magnitude else magnitude) }
 {
     match text.as_bytes() {
-        [b'-', ..] => -size,
-        _ => size,
+        [b'-', ..] => -magnitude,
+        _ => magnitude,
     }
 }

@@ -115,11 +115,7 @@ fn fill<W: fmt::Write>(f: &mut fmt::Formatter<W>, count: usize) -> fmt::Result
 }
 
 /// Writes the text a number of times.
-fn write_repeated<W: fmt::Write>(
-    f: &mut fmt::Formatter<W>,
-    text: &str,
-    count: usize,
-) -> fmt::Result
+fn write_repeated<W: fmt::Write>(f: &mut fmt::Formatter<W>, text: &str, count: usize) -> fmt::Result
     ensures { WritesStyledOnOk W.write_str_gives f.old result (repeat count text.now) f.new }
 {
     for _ in 0..count {

@@ -13,7 +13,7 @@ order_of_ratios_is_total = law.order_is_total Ratio num_of den_of (λ x. x.reduc
 
 ruleset of_order = (order_of_ratios_is_total, law.order_is_total, law.order_agrees_with_equality, law.order_over_one_denominator)
 
-ruleset of_rounding = (law.rounded_is_only, law.rounded_even_is_only, law.nearest_is_only, law.nearest_to_exact_result, law.nearest_parts_are_only)
+ruleset of_rounding = (law.rounded_is_only, law.rounded_even_is_only, law.rounded_even_is, law.nearest_is_only, law.nearest_to_exact_result, law.nearest_parts_are_only)
 
 ruleset of_sums = (law.sums_of_equal_fractions, law.products_of_equal_fractions)
 

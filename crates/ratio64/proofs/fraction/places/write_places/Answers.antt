@@ -1,4 +1,4 @@
-use Rattle.ratio64.proofs.ManyPlaces.{◌≡◌, ◌+◌, ◌*◌, ◌/◌, ◌^◌, ◌%◌, ap, arith, has_written_styled_append, has_written_styled_nil, has_written_styled_of_eq, last_after, last_small, next_digit_small, no_digits, place_after, refl, rest_after, sym}
+use Rattle.ratio64.proofs.ManyPlaces.{◌≡◌, ◌+◌, ◌*◌, ◌/◌, ◌%◌, ap, arith, has_written_styled_append, has_written_styled_nil, has_written_styled_of_eq, last_after, last_small, next_digit_small, no_digits, place_after, refl, rest_after, sym}
 use Rattle.ratio64.proofs.fraction.places.write_places.Goals as goal
 
 pub loop-init : goal.loop-init
@@ -22,11 +22,17 @@ loop-preserved g c =
 
 pub write_last_places-requires : goal.write_last_places-requires
 write_last_places-requires g c =
-    last_small c.args.num c.loop.counter c.args.den c.requires.den.0 c.loop.invariant.0 c.requires.den.1 {places = c.args.places} (omega arith) c.div_round_even.ensures.nearest
+    let rest = c.loop.invariant.0 in
+    let all : c.loop.counter + 19 ≡ c.args.places = omega arith in
+    let last = c.div_round_even.ensures.nearest in
+    last_small c.args.num c.loop.counter c.args.den c.requires.den.0 rest c.requires.den.1 all last
 
 pub returns : goal.returns
 returns g c = λ flush ok.
     let so_far = c.loop.invariant.1 flush in
     let last = c.write_last_places.ensures so_far.flush ok in
-    let places = last_after c.args.num c.loop.counter c.args.den c.requires.den.0 c.loop.invariant.0 c.requires.den.1 (omega arith) c.div_round_even.ensures.nearest in
+    let rest = c.loop.invariant.0 in
+    let all : c.loop.counter + 19 ≡ c.args.places = omega arith in
+    let rounded = c.div_round_even.ensures.nearest in
+    let places = last_after c.args.num c.loop.counter c.args.den c.requires.den.0 rest c.requires.den.1 all rounded in
     has_written_styled_of_eq _ _ _ _ _ places (has_written_styled_append _ _ _ _ _ _ so_far last)
