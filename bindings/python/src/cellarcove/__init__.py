@@ -180,6 +180,7 @@ class _Pair(tuple[_Number, _Number]):
 
     __slots__ = ()
     __match_args__: tuple[str, str]
+    __array_ufunc__ = None  # numpy would add the two numbers to those of an array
 
     def __repr__(self) -> str:
         parts = ', '.join(f'{name}={value!r}' for name, value in zip(self.__match_args__, self))
