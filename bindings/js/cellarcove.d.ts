@@ -11,8 +11,14 @@ export type Fractional = {readonly num: Integer; readonly den: Integer} | readon
 /** A date: one of this module or of Temporal in its calendar `iso8601`, another object of its parts, a tuple of them, or a text such as
  *  `2024-02-29`. A text that is no date is refused with `NO_DATE`. */
 export type Dated = {readonly year: Integer; readonly month: Integer; readonly day: Integer} | readonly [Integer, Integer, Integer] | string;
-/** A residue and a modulus. */
-export type Congruence = {readonly residue: Integer; readonly modulus: Integer} | readonly [Integer, Integer];
+/** The numbers that are `residue` modulo `modulus`. */
+export type Congruence = {readonly residue: Integer; readonly modulus: Integer};
+/** The times `first`, `first + period` and so on. */
+export type Schedule = {readonly first: Integer; readonly period: Integer};
+/** Many congruences. */
+export type CongruenceColumns<T> = {readonly residue: Integer | T; readonly modulus: Integer | T};
+/** Many schedules. */
+export type ScheduleColumns<T> = {readonly first: Integer | T; readonly period: Integer | T};
 /** Many fractions. */
 export type FractionColumns = {readonly num: Integer | BigInt64Array; readonly den: Integer | BigInt64Array};
 /** Many dates. */
@@ -430,60 +436,59 @@ export function tryQuotientModulo(a: Integer, b: Integer, m: Integer): Attempt<b
 
 /** The numbers that times `a` are `b` modulo `m`. For 6, 4 and 10 they are 4 and those in steps of 5 from it. `BAD_MODULUS` if `m` is not
  *  positive. `NO_SOLUTION` if there is no such number. */
-export function solutions(a: Integer, b: Integer, m: Integer): {first: bigint; step: bigint};
+export function solutions(a: Integer, b: Integer, m: Integer): {readonly first: bigint; readonly step: bigint};
 export function solutions<T extends Integers>(a: Integer | T, b: Integer | T, m: Integer | T): {first: T; step: T; status: Uint8Array};
-export function trySolutions(a: Integer, b: Integer, m: Integer): Attempt<{first: bigint; step: bigint}>;
+export function trySolutions(a: Integer, b: Integer, m: Integer): Attempt<{readonly first: bigint; readonly step: bigint}>;
 
-/** The numbers that are `a` modulo `m` and `b` modulo `n`. For 1, 4, 3 and 6 they are 9 and those in steps of 12 from it. `BAD_MODULUS`
- *  if `m` or `n` is not positive. `NO_SOLUTION` if there is no such number. `NOT_FITTING` if there is one, and the step does not fit. */
-export function chineseRemainder(a: Integer, m: Integer, b: Integer, n: Integer): {first: bigint; step: bigint};
-export function chineseRemainder<T extends Integers>(a: Integer | T, m: Integer | T, b: Integer | T, n: Integer | T): {first: T; step: T; status: Uint8Array};
-export function tryChineseRemainder(a: Integer, m: Integer, b: Integer, n: Integer): Attempt<{first: bigint; step: bigint}>;
+/** The numbers that solve both congruences. For 1 modulo 4 and 3 modulo 6 they are 9 and those in steps of 12 from it. `BAD_MODULUS` if a
+ *  modulus is not positive. `NO_SOLUTION` if there is no such number. `NOT_FITTING` if there is one, and the step does not fit. */
+export function chineseRemainder(one: Congruence, other: Congruence): {readonly first: bigint; readonly step: bigint};
+export function chineseRemainder<T extends Integers>(one: CongruenceColumns<T>, other: CongruenceColumns<T>): {first: T; step: T; status: Uint8Array};
+export function tryChineseRemainder(one: Congruence, other: Congruence): Attempt<{readonly first: bigint; readonly step: bigint}>;
 
 /** The smallest number from `from` on that is `residue` modulo `modulus`. For 10, 1 and 4 it is 13. `BAD_MODULUS` if `modulus` is not
  *  positive. `NOT_FITTING` if the number does not fit. */
-export function nextCongruent(from: Integer, residue: Integer, modulus: Integer): bigint;
-export function nextCongruent<T extends Integers>(from: Integer | T, residue: Integer | T, modulus: Integer | T): {value: T; status: Uint8Array};
-export function tryNextCongruent(from: Integer, residue: Integer, modulus: Integer): Attempt<bigint>;
+export function nextCongruent(from: Integer, congruence: Congruence): bigint;
+export function nextCongruent<T extends Integers>(from: Integer | T, congruence: CongruenceColumns<T>): {value: T; status: Uint8Array};
+export function tryNextCongruent(from: Integer, congruence: Congruence): Attempt<bigint>;
 
 /** The largest number up to `to` that is `residue` modulo `modulus`. For 10, 1 and 4 it is 9. `BAD_MODULUS` if `modulus` is not positive.
  *  `NOT_FITTING` if the number does not fit. */
-export function previousCongruent(to: Integer, residue: Integer, modulus: Integer): bigint;
-export function previousCongruent<T extends Integers>(to: Integer | T, residue: Integer | T, modulus: Integer | T): {value: T; status: Uint8Array};
-export function tryPreviousCongruent(to: Integer, residue: Integer, modulus: Integer): Attempt<bigint>;
+export function previousCongruent(to: Integer, congruence: Congruence): bigint;
+export function previousCongruent<T extends Integers>(to: Integer | T, congruence: CongruenceColumns<T>): {value: T; status: Uint8Array};
+export function tryPreviousCongruent(to: Integer, congruence: Congruence): Attempt<bigint>;
 
 /** How many numbers from `from` to `to` are `residue` modulo `modulus`. For 1, 10, 1 and 4 it is 3. `BAD_MODULUS` if `modulus` is not
  *  positive. `NOT_FITTING` if the count does not fit. */
-export function countCongruent(from: Integer, to: Integer, residue: Integer, modulus: Integer): bigint;
-export function countCongruent<T extends Integers>(from: Integer | T, to: Integer | T, residue: Integer | T, modulus: Integer | T): {value: T; status: Uint8Array};
-export function tryCountCongruent(from: Integer, to: Integer, residue: Integer, modulus: Integer): Attempt<bigint>;
+export function countCongruent(from: Integer, to: Integer, congruence: Congruence): bigint;
+export function countCongruent<T extends Integers>(from: Integer | T, to: Integer | T, congruence: CongruenceColumns<T>): {value: T; status: Uint8Array};
+export function tryCountCongruent(from: Integer, to: Integer, congruence: Congruence): Attempt<bigint>;
 
-/** The smallest number from `from` on that is `a` modulo `m` and `b` modulo `n`. The least common multiple of `m` and `n` need not fit.
- *  For 10, 1, 4, 3 and 6 it is 21, and for 0, 1, 2^62 + 1, 1 and 2^62 it is 1. `BAD_MODULUS` if `m` or `n` is not positive. `NO_SOLUTION`
- *  if there is no such number. `NOT_FITTING` if it does not fit. */
-export function nextCommonSolution(from: Integer, a: Integer, m: Integer, b: Integer, n: Integer): bigint;
-export function nextCommonSolution<T extends Integers>(from: Integer | T, a: Integer | T, m: Integer | T, b: Integer | T, n: Integer | T): {value: T; status: Uint8Array};
-export function tryNextCommonSolution(from: Integer, a: Integer, m: Integer, b: Integer, n: Integer): Attempt<bigint>;
+/** The smallest number from `from` on that solves both congruences. The least common multiple of their moduli need not fit. For 10, 1
+ *  modulo 4 and 3 modulo 6 it is 21. `BAD_MODULUS` if a modulus is not positive. `NO_SOLUTION` if there is no such number. `NOT_FITTING`
+ *  if it does not fit. */
+export function nextCommonSolution(from: Integer, one: Congruence, other: Congruence): bigint;
+export function nextCommonSolution<T extends Integers>(from: Integer | T, one: CongruenceColumns<T>, other: CongruenceColumns<T>): {value: T; status: Uint8Array};
+export function tryNextCommonSolution(from: Integer, one: Congruence, other: Congruence): Attempt<bigint>;
 
-/** The smallest number from `from` on that solves each of up to 64 congruences, which are pairs of a residue and a modulus. No product of
- *  the moduli need fit. `OUTSIDE` if there are more congruences. `BAD_MODULUS` if a modulus is not positive. `NO_SOLUTION` if there is no
- *  such number. `NOT_FITTING` if it does not fit. */
+/** The smallest number from `from` on that solves each of up to 64 congruences. No product of the moduli need fit. `OUTSIDE` if there are
+ *  more congruences. `BAD_MODULUS` if a modulus is not positive. `NO_SOLUTION` if there is no such number. `NOT_FITTING` if it does not
+ *  fit. */
 export function nextCommonSolutionOf(from: Integer, congruences: Iterable<Congruence>): bigint;
 export function tryNextCommonSolutionOf(from: Integer, congruences: Iterable<Congruence>): Attempt<bigint>;
 
-/** The first time, not before `now`, that is in two schedules. One has the times `a`, `a + p`, `a + 2 * p` and so on, and the other those
- *  of `b` and `q`. For 10, 1, 4, 3 and 6 it is 21, and for 0, 13, 4, 3 and 6 it is 21. `BAD_MODULUS` if `p` or `q` is not positive.
- *  `NO_SOLUTION` if there is no such time. `NOT_FITTING` if it does not fit. */
-export function nextMeeting(now: Integer, a: Integer, p: Integer, b: Integer, q: Integer): bigint;
-export function nextMeeting<T extends Integers>(now: Integer | T, a: Integer | T, p: Integer | T, b: Integer | T, q: Integer | T): {value: T; status: Uint8Array};
-export function tryNextMeeting(now: Integer, a: Integer, p: Integer, b: Integer, q: Integer): Attempt<bigint>;
+/** The first time, not before `now`, that is in both schedules. One has the times `first`, `first + period` and so on. For 10, 1, 4, 3
+ *  and 6 it is 21. `BAD_MODULUS` if a period is not positive. `NO_SOLUTION` if there is no such time. `NOT_FITTING` if it does not fit. */
+export function nextMeeting(now: Integer, one: Schedule, other: Schedule): bigint;
+export function nextMeeting<T extends Integers>(now: Integer | T, one: ScheduleColumns<T>, other: ScheduleColumns<T>): {value: T; status: Uint8Array};
+export function tryNextMeeting(now: Integer, one: Schedule, other: Schedule): Attempt<bigint>;
 
 /** How many times of a schedule are in the range of numbers between `from` and `to`, and at them. The schedule has the times `first`,
  *  `first + period` and so on. For 4, 15, 3 and 6 it is 2, and for -9, 15, 3 and 6 it is 3. `BAD_MODULUS` if `period` is not positive.
  *  `NOT_FITTING` if the count does not fit. */
-export function countTimes(from: Integer, to: Integer, first: Integer, period: Integer): bigint;
-export function countTimes<T extends Integers>(from: Integer | T, to: Integer | T, first: Integer | T, period: Integer | T): {value: T; status: Uint8Array};
-export function tryCountTimes(from: Integer, to: Integer, first: Integer, period: Integer): Attempt<bigint>;
+export function countTimes(from: Integer, to: Integer, schedule: Schedule): bigint;
+export function countTimes<T extends Integers>(from: Integer | T, to: Integer | T, schedule: ScheduleColumns<T>): {value: T; status: Uint8Array};
+export function tryCountTimes(from: Integer, to: Integer, schedule: Schedule): Attempt<bigint>;
 
 /** The fraction `num / den`, reduced. That of 6 and -4 is -3/2. `ZERO_DENOMINATOR` if `den` is 0. `NOT_FITTING` if a part of the reduced
  *  fraction does not fit. */

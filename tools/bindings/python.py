@@ -244,7 +244,8 @@ def call_text(name: str, forms: list[Call]) -> str:
     follows = [two and a != b for a, b in zip(cells(forms[0]), cells(forms[-1]))]
     named = {form.form: f'&form_{form.symbol.removeprefix("cellarcove_")}' for form in forms}
     of_many = filled('of_many.c', name=name) if name in OF_MANY else ''
-    return filled('call.c', name=name, count=str(len(shapes(call))), shapes=shapes(call),
+    return filled('call.c', name=name, count=str(len(shapes(call))),
+                  names=quoted(parameter_names(call)), shapes=shapes(call),
                   divides=bools(divides(call)), follows=bools(follows), of_many=of_many,
                   forms=f'NULL, {named["i64"]}, {named["u64"]}' if two
                   else f'&form_{call.symbol.removeprefix("cellarcove_")}, NULL, NULL')
@@ -303,8 +304,9 @@ def calls_c() -> str:
     for name, forms in named:
         kinds = [parameter.item for parameter in forms[0].parameters if parameter.item]
         if len(kinds) == 2:
-            text += filled('divided.c', name=name, signed=forms[0].symbol if len(forms) == 2
-                           else 'NULL', unsigned=forms[-1].symbol)
+            text += filled('divided.c', name=name, names=quoted(parameter_names(forms[0])),
+                           signed=forms[0].symbol if len(forms) == 2 else 'NULL',
+                           unsigned=forms[-1].symbol)
         elif kinds == ['u8']:
             text += filled('text.c', name=name, symbol=forms[0].symbol,
                            kind=c_type(forms[0].result), result=object_of(forms[0]))

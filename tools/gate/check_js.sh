@@ -31,7 +31,7 @@ is_small() {
 # What this machine returns, for Node and for the page to compare.
 sums() {
     bindings/build && tools/cellarcove make checksums >"$work/checksums.c" &&
-        cc -O2 -I bindings/c "$work/checksums.c" bindings/out/libcellarcove_c.a -o "$work/checksums" && "$work/checksums" >"$SUMS"
+        cc -O2 -I bindings/c "$work/checksums.c" bindings/out/libcellarcove_c.a -o "$work/checksums" && "$work/checksums" | grep -v '_each_' >"$SUMS"
 }
 same() { node "$@" $tests/sums.js | diff "$SUMS" -; }
 

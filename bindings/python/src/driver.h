@@ -19,7 +19,7 @@
 #define METH_FASTCALL 0x0080
 #endif
 
-enum { MAX_CELLS = 6 };
+enum { MAX_PARAMETERS = 6, MAX_CELLS = 6 };
 
 /* The number of a cell. */
 typedef union {
@@ -38,6 +38,7 @@ typedef struct {
 typedef struct {
     const char *name;
     Py_ssize_t count;
+    const char *names[MAX_PARAMETERS];
     const char *shapes;  /* of the parameters: a number, a fraction or the like */
     const bool *divides; /* whether the call divides by the number of a cell */
     const bool *follows; /* whether a cell has the type of the form */
@@ -248,6 +249,15 @@ static Py_hash_t date_hash(PyObject *date) {
     return (Py_hash_t)days == -1 ? -2 : (Py_hash_t)days;
 }
 
+static PyObject *date_text(PyObject *object) {
+    cellarcove_date date = in(object);
+    char text[64];
+    bool is_near = 0 <= date.year && date.year <= 9999;
+    snprintf(text, sizeof text, is_near ? "%04lld-%02d-%02d" : "%+05lld-%02d-%02d",
+             (long long)date.year, date.month, date.day_of_month);
+    return PyUnicode_FromString(text);
+}
+
 static PyMemberDef date_members[] = {
     {"year", T_LONGLONG, offsetof(date_object, date.year), READONLY, NULL},
     {"month", T_UBYTE, offsetof(date_object, date.month), READONLY, NULL},
@@ -261,6 +271,7 @@ static PyType_Slot date_slots[] = {
     {Py_tp_new, (void *)date_new},
     {Py_tp_richcompare, (void *)date_compare},
     {Py_tp_hash, (void *)date_hash},
+    {Py_tp_str, (void *)date_text},
     {Py_nb_add, (void *)date_add},
     {Py_nb_subtract, (void *)date_subtract},
     {0, NULL},
@@ -307,6 +318,26 @@ static PyObject *run_one(const call *c, PyObject *const *objects, cell *cells, P
         result = c->forms_i64->one(cells, &status);
     }
     return status == 0 ? result : refused(status, by_zero);
+}
+
+/* Puts the arguments in the order of the parameters, and borrows them. It is false if they are
+ * others: then the package says why. */
+static bool bind(const call *c, PyObject *const *args, Py_ssize_t count, PyObject *names,
+                 PyObject **bound) {
+    Py_ssize_t all = count + (names == NULL ? 0 : PyTuple_Size(names)), p = 0;
+    for (Py_ssize_t k = 0; all == c->count && k < all && p < all; k++) {
+        PyObject *name = k < count ? NULL : PyTuple_GetItem(names, k - count);
+        p = k < count ? k : count;
+        while (name != NULL && p < all && PyUnicode_CompareWithASCIIString(name, c->names[p])) {
+            p++;
+        }
+        if (p < all) {
+            bound[p] = args[k];
+        }
+    }
+    for (p = 0; all == c->count && p < all && bound[p] != NULL; p++) {
+    }
+    return p == c->count;
 }
 
 /* The numbers of a call: objects, which are owned, or NULL for one that is in its cell. */
@@ -408,13 +439,13 @@ static PyObject *run_others(const call *c, PyObject *const *args, Py_ssize_t cou
 }
 
 static PyObject *run(const call *c, PyObject *const *args, Py_ssize_t count, PyObject *names) {
-    PyObject *result = NULL;
+    PyObject *bound[MAX_PARAMETERS] = {NULL}, *result = NULL;
     numbers found;
     found.count = 0;
     if (are_ints(c, args, count, names)) {
         return run_one(c, args, found.cells, count);
     }
-    if (names == NULL && count == c->count && add_arguments(&found, c, args)) {
+    if (bind(c, args, count, names, bound) && add_arguments(&found, c, bound)) {
         result = run_one(c, found.objects, found.cells, found.count);
     } else if (!PyErr_Occurred() || PyErr_ExceptionMatches(PyExc_AttributeError)) {
         PyErr_Clear();
@@ -603,16 +634,16 @@ typedef uint32_t by_unsigned(uint64_t, const uint64_t *, size_t, uint64_t *, siz
  * package, which takes arrays. It has a form for a negative number, or none. */
 static PyObject *divided(const call *c, PyObject *const *args, Py_ssize_t given, PyObject *names,
                          by_signed *of_signed, by_unsigned *of_unsigned) {
-    PyObject *result = NULL;
+    PyObject *bound[MAX_PARAMETERS] = {NULL}, *result = NULL;
     list of = {.width = 1};
     cell amount;
-    bool quick = names == NULL && given == 2 && Py_TYPE(args[0]) == &PyLong_Type;
-    int said = quick && are_exact_ints(args[1]) ? integer(args[0], &amount) : 2;
+    bool quick = bind(c, args, given, names, bound) && Py_TYPE(bound[0]) == &PyLong_Type;
+    int said = quick && are_exact_ints(bound[1]) ? integer(bound[0], &amount) : 2;
     bool negative = is_negative(&amount, said);
     if (!fits(&amount, said, negative && of_signed != NULL ? 'q' : 'Q')) {
         return run_others(c, args, given, names);
     }
-    if (!take_list(c->name, args[1], false, &of)) {
+    if (!take_list(c->name, bound[1], false, &of)) {
         return NULL;
     }
     size_t count = (size_t)of.count;

@@ -1,4 +1,4 @@
-static const call call_{name} = {"{name}", {count}, "{shapes}",
+static const call call_{name} = {"{name}", {count}, {{names}}, "{shapes}",
     {divides}, {follows}, {forms}};
 
 static PyObject *py_{name}(PyObject *module, PyObject *const *args, Py_ssize_t count, PyObject *names) {

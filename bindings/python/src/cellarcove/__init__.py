@@ -180,6 +180,7 @@ class _Pair(tuple[_Number, _Number]):
 
     __slots__ = ()
     __match_args__: tuple[str, str]
+    __array_ufunc__ = None  # numpy would add the two numbers to those of an array
 
     def __repr__(self) -> str:
         parts = ', '.join(f'{name}={value!r}' for name, value in zip(self.__match_args__, self))
@@ -240,11 +241,6 @@ class Solutions(NamedTuple):
     step: int
 
 
-def _year(year: int) -> str:
-    """A year as ISO 8601 writes it, with a sign if it is not from 0 to 9999."""
-    return f'{year:04}' if 0 <= year <= 9999 else f'{year:+05}'
-
-
 class IsoWeek(NamedTuple):
     """A week of ISO 8601: its year, which is that of its Thursday, and its number."""
 
@@ -255,7 +251,8 @@ class IsoWeek(NamedTuple):
         """The week as `2026-W05`. The year has a sign if it is not from 0 to 9999."""
         if not isinstance(self.year, int):
             return repr(self)  # of columns
-        return f'{_year(self.year)}-W{self.week:02}'
+        year = f'{self.year:04}' if 0 <= self.year <= 9999 else f'{self.year:+05}'
+        return f'{year}-W{self.week:02}'
 
 
 class Weekday(enum.Enum):
@@ -313,9 +310,6 @@ class Date(_calls._BaseDate):
 
     def __repr__(self) -> str:
         return f'{type(self).__qualname__}(year={self.year}, month={self.month}, day={self.day})'
-
-    def __str__(self) -> str:
-        return f'{_year(self.year)}-{self.month:02}-{self.day:02}'
 
     def __format__(self, spec: str) -> str:
         """The date as `isoformat` writes it, padded, or as `strftime` if the text has a `%`."""

@@ -10,11 +10,17 @@ class Call(NamedTuple):
     """A call. The types of its numbers have the letters of `array`, and `?` is a bool."""
 
     names: tuple[str, ...]
-    shapes: str                     # a number, a day of the week, a list, a fraction or a date
+    shapes: str                     # a number, a day of the week, a list, a fraction, a date, a congruence or a schedule
     forms: tuple[tuple[str, str], ...]  # the types of the numbers that a form takes and returns: the signed one first
     result: str                     # of several numbers: a date, or the name of a class
     has_status: bool
     divisors: tuple[int, ...]       # the numbers whose 0 is the reason of a status
+    numbers: tuple[str, ...] = ()   # of a call of congruences or schedules: the parameters if their numbers stand alone
+
+    @property
+    def pairs(self) -> tuple[str, ...]:
+        """The numbers of the congruences or schedules."""
+        return self.numbers[self.shapes.count('n'):]
 
 
 CALLS = {
@@ -69,13 +75,13 @@ CALLS = {
     'inverse_modulo': Call(('a', 'm'), 'nn', (('qq', 'q'), ('QQ', 'Q')), '', True, (1,)),
     'quotient_modulo': Call(('a', 'b', 'm'), 'nnn', (('qqq', 'q'), ('QQQ', 'Q')), '', True, (2,)),
     'solutions': Call(('a', 'b', 'm'), 'nnn', (('qqq', 'qq'), ('QQQ', 'QQ')), 'Solutions', True, (2,)),
-    'chinese_remainder': Call(('a', 'm', 'b', 'n'), 'nnnn', (('qqqq', 'qq'), ('QQQQ', 'QQ')), 'Solutions', True, (1, 3)),
-    'next_congruent': Call(('start', 'residue', 'modulus'), 'nnn', (('qqq', 'q'), ('QQQ', 'Q')), '', True, (2,)),
-    'previous_congruent': Call(('end', 'residue', 'modulus'), 'nnn', (('qqq', 'q'), ('QQQ', 'Q')), '', True, (2,)),
-    'count_congruent': Call(('start', 'end', 'residue', 'modulus'), 'nnnn', (('qqqq', 'q'), ('QQQQ', 'Q')), '', True, (3,)),
-    'next_common_solution': Call(('start', 'a', 'm', 'b', 'n'), 'nnnnn', (('qqqqq', 'q'), ('QQQQQ', 'Q')), '', True, (2, 4)),
-    'next_meeting': Call(('now', 'a', 'p', 'b', 'q'), 'nnnnn', (('qqqqq', 'q'), ('QQQQQ', 'Q')), '', True, (2, 4)),
-    'count_times': Call(('start', 'end', 'first', 'period'), 'nnnn', (('qqqq', 'q'), ('QQQQ', 'Q')), '', True, (3,)),
+    'chinese_remainder': Call(('one', 'other'), 'cc', (('qqqq', 'qq'), ('QQQQ', 'QQ')), 'Solutions', True, (1, 3), ('a', 'm', 'b', 'n')),
+    'next_congruent': Call(('start', 'congruence'), 'nc', (('qqq', 'q'), ('QQQ', 'Q')), '', True, (2,), ('start', 'residue', 'modulus')),
+    'previous_congruent': Call(('end', 'congruence'), 'nc', (('qqq', 'q'), ('QQQ', 'Q')), '', True, (2,), ('end', 'residue', 'modulus')),
+    'count_congruent': Call(('start', 'end', 'congruence'), 'nnc', (('qqqq', 'q'), ('QQQQ', 'Q')), '', True, (3,), ('start', 'end', 'residue', 'modulus')),
+    'next_common_solution': Call(('start', 'one', 'other'), 'ncc', (('qqqqq', 'q'), ('QQQQQ', 'Q')), '', True, (2, 4), ('start', 'a', 'm', 'b', 'n')),
+    'next_meeting': Call(('now', 'one', 'other'), 'nss', (('qqqqq', 'q'), ('QQQQQ', 'Q')), '', True, (2, 4), ('now', 'a', 'p', 'b', 'q')),
+    'count_times': Call(('start', 'end', 'schedule'), 'nns', (('qqqq', 'q'), ('QQQQ', 'Q')), '', True, (3,), ('start', 'end', 'first', 'period')),
     'fraction_new': Call(('num', 'den'), 'nn', (('qq', 'qq'),), 'Fraction', True, ()),
     'fraction_add': Call(('a', 'b'), 'ff', (('qqqq', 'qq'),), 'Fraction', True, ()),
     'fraction_sub': Call(('a', 'b'), 'ff', (('qqqq', 'qq'),), 'Fraction', True, ()),
