@@ -49,7 +49,8 @@ def function(call: Call) -> str:
 
 
 def make(_: list[str]) -> bool:
-    calls = sorted(EXPORTS().calls, key=lambda call: call.is_each)  # last, since JavaScript lacks them, and the others have its seeds
+    # Those that JavaScript lacks are last, so that the others have its seeds.
+    calls = sorted(EXPORTS().calls, key=lambda call: call.is_each)
     runs = ''.join(f'    sum_{call.symbol}({seed});\n' for seed, call in enumerate(calls, 1))
     print(filled('checksums.c', calls=''.join(map(function, calls)), runs=runs), end='')
     return True

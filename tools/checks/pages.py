@@ -47,7 +47,8 @@ OF_RUST = ' (of Rust) |'                # how its row of the table says so
 PANICS = ('rust/tests/domains/forms.rs', 'rust/tests/types.rs')     # the tests that see each panic
 SHOWN_STATUS = re.compile(r'^- (\d+) `CELLARCOVE_(\w+)`: ', re.M)
 CLASS = re.compile(r'^class (\w+)\(((?:\w+Error|Refused)\b[\w, ]*)\):', re.M)
-RAISED = re.compile(r'\b(\w+Error)\(|\bwarn\(\w+, (\w+),|\bPyExc_(\w+)|\b(PyErr_NoMemory|PyObject_GetAttr)\(')
+RAISED = re.compile(r'\b(\w+Error)\(|\bwarn\(\w+, (\w+),|\bPyExc_(\w+)'
+                    r'|\b(PyErr_NoMemory|PyObject_GetAttr)\(')
 RAISED_BY = {'PyErr_NoMemory': 'MemoryError', 'PyObject_GetAttr': 'AttributeError'}
 # the package would lack one of its own classes, and a call raises TypeError in its place
 UNSEEN = {'KeyError', 'AttributeError'}

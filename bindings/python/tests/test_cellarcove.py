@@ -114,38 +114,56 @@ class Pairs(unittest.TestCase):
     """Congruences and schedules, which have names and no positions."""
 
     def test_positions_warn(self):
-        """Numbers whose positions are easily swapped warn where they are written, and names do not."""
-        one, bus = cellarcove.Congruence(residue=1, modulus=4), cellarcove.Schedule(first=1, period=4)
-        calls = {'chinese_remainder': ([], 2), 'next_common_solution': ([5], 2), 'next_meeting': ([5], 2), 'next_congruent': ([5], 1),
-                 'previous_congruent': ([5], 1), 'count_congruent': ([1, 5], 1), 'count_times': ([1, 5], 1), 'next_common_solution_of': ([5], 0)}
-        self.assertEqual({name for name, call in cellarcove._columns.CALLS.items() if call.numbers} | {'next_common_solution_of'}, calls.keys())
+        """Numbers whose positions are easily swapped warn where they are written, and names do
+        not."""
+        one = cellarcove.Congruence(residue=1, modulus=4)
+        bus = cellarcove.Schedule(first=1, period=4)
+        calls = {'chinese_remainder': ([], 2), 'next_common_solution': ([5], 2),
+                 'next_meeting': ([5], 2), 'next_congruent': ([5], 1),
+                 'previous_congruent': ([5], 1), 'count_congruent': ([1, 5], 1),
+                 'count_times': ([1, 5], 1), 'next_common_solution_of': ([5], 0)}
+        of_numbers = {name for name, call in cellarcove._columns.CALLS.items() if call.numbers}
+        self.assertEqual(of_numbers | {'next_common_solution_of'}, calls.keys())
         for name, (start, count) in calls.items():
-            call, pair = getattr(cellarcove, name), bus if name in ('next_meeting', 'count_times') else one
-            named, numbers = ([*start, *[pair] * count], [*start, *[1, 4] * count]) if count else ([*start, [one]], [*start, [(1, 4)]])
+            call = getattr(cellarcove, name)
+            pair = bus if name in ('next_meeting', 'count_times') else one
+            named, numbers = [*start, *[pair] * count], [*start, *[1, 4] * count]
+            if not count:
+                named, numbers = [*start, [one]], [*start, [(1, 4)]]
             with warnings.catch_warnings(record=True) as caught:
                 warnings.simplefilter('always')
                 found = call(*named)
                 self.assertEqual((name, caught), (name, []))
                 self.assertEqual(call(*numbers), found)
-                self.assertEqual([(each.category, each.filename) for each in caught], [(DeprecationWarning, __file__)], name)
-                self.assertIn(f'{type(pair).__name__}({", ".join(f"{part}=.." for part in pair.__match_args__)})', str(caught[0].message))
+                warned = [(each.category, each.filename) for each in caught]
+                self.assertEqual(warned, [(DeprecationWarning, __file__)], name)
+                parts = ', '.join(f'{part}=..' for part in pair.__match_args__)
+                self.assertIn(f'{type(pair).__name__}({parts})', str(caught[0].message))
         with warnings.catch_warnings():
             warnings.simplefilter('error')
-            self.assertEqual((cellarcove.next_congruent(5, residue=1, modulus=4), cellarcove.count_times(1, 5, period=4, first=1)), (5, 2))
+            self.assertEqual(cellarcove.next_congruent(5, residue=1, modulus=4), 5)
+            self.assertEqual(cellarcove.count_times(1, 5, period=4, first=1), 2)
             for given in ({'a': 1, 'm': 4, 'b': 1, 'n': 4}, {'one': one, 'b': 1}):
-                self.assertRaises((DeprecationWarning, TypeError), cellarcove.chinese_remainder, **given)
+                with self.assertRaises((DeprecationWarning, TypeError)):
+                    cellarcove.chinese_remainder(**given)
 
     def test_copies(self):
-        for pair in (cellarcove.Congruence(residue=1, modulus=2**70), cellarcove.Schedule(first=-1, period=4)):
-            pickled = [pickle.loads(pickle.dumps(pair, protocol)) for protocol in range(pickle.HIGHEST_PROTOCOL + 1)]
+        protocols = range(pickle.HIGHEST_PROTOCOL + 1)
+        for pair in (cellarcove.Congruence(residue=1, modulus=2**70),
+                     cellarcove.Schedule(first=-1, period=4)):
+            pickled = [pickle.loads(pickle.dumps(pair, protocol)) for protocol in protocols]
             for other in (*pickled, copy.copy(pair), copy.deepcopy(pair)):
-                self.assertEqual((type(other), other, repr(other)), (type(pair), pair, repr(pair)))
+                self.assertEqual(type(other), type(pair))
+                self.assertEqual((other, repr(other)), (pair, repr(pair)))
             for part in pair.__match_args__:
                 self.assertRaises(AttributeError, setattr, pair, part, 5)
 
     def test_signatures(self):
-        for name, words in {'chinese_remainder': 'one, other, *', 'next_meeting': 'now, one, other, *', 'count_times': 'start, end, schedule=None, *, first=None, period=None'}.items():
-            self.assertEqual(str(inspect.signature(getattr(cellarcove, name))), f"({words}, out=None, where=True, errors='raise')")
+        expected = {'chinese_remainder': 'one, other, *', 'next_meeting': 'now, one, other, *',
+                    'count_times': 'start, end, schedule=None, *, first=None, period=None'}
+        for name, words in expected.items():
+            signature = str(inspect.signature(getattr(cellarcove, name)))
+            self.assertEqual(signature, f"({words}, out=None, where=True, errors='raise')")
 
 
 class Ranges(unittest.TestCase):
