@@ -10,6 +10,7 @@ ghost use Rattle.cellarcove_c.specs.Statuses.{IsReason, StatusIs, not_fitting, o
 
 use crate::answers::{ANSWER, NOT_FITTING, OUTSIDE};
 use crate::lists::read_each;
+use crate::square_roots::high_product;
 
 /// Writes the quotients of the numbers by a divisor, rounded down, and returns the status. Those of -8, 8 and 7
 /// by 3 are -3, 2 and 2, and those of -8, 8 and 7 by -3 are 2, -3 and -3. If the status is not 0, `quotients`
@@ -104,7 +105,7 @@ impl InvariantDivisor {
     fn quotient(&self, n: u64) -> u64
         ensures { result ≡ n / self.now.divisor }
     {
-        let high = ((u128::from(self.multiplier) * u128::from(n)) >> 64) as u64;
+        let high = high_product(self.multiplier, n);
         (high + ((n - high) >> self.first_shift)) >> self.second_shift
     }
 

@@ -3,6 +3,7 @@
 
 use crate::answers::{ANSWER, NOT_FITTING, OUTSIDE};
 use crate::lists::read_each;
+use crate::square_roots::high_product;
 
 /// Writes the quotients of the numbers by a divisor, rounded down, and returns the status. Those of
 /// -8, 8 and 7 by 3 are -3, 2 and 2, and those of -8, 8 and 7 by -3 are 2, -3 and -3. If the status
@@ -106,7 +107,7 @@ impl InvariantDivisor {
     /// Returns the quotient of a number, rounded down. The sum with the high word need not fit, so
     /// it is halved before it is made.
     fn quotient(&self, n: u64) -> u64 {
-        let high = ((u128::from(self.multiplier) * u128::from(n)) >> 64) as u64;
+        let high = high_product(self.multiplier, n);
         (high + ((n - high) >> self.first_shift)) >> self.second_shift
     }
 

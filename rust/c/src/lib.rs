@@ -76,6 +76,7 @@ mod rounding;
 mod schedules;
 mod several_congruences;
 mod shares;
+mod square_roots;
 mod sums;
 mod texts;
 mod weekdays;

@@ -3,6 +3,7 @@
 //! logarithms.
 
 use crate::answers::{with_status, U64Answer, OUTSIDE};
+use crate::square_roots::floor_square_root;
 use cellarcove::applied::powers::{checked, is_perfect_power, is_power, is_square};
 
 /// A status, and a square root with what is left.
@@ -72,14 +73,19 @@ pub extern "C" fn cellarcove_is_perfect_power_u64(x: u64) -> bool {
 /// `OUTSIDE` if `x` is negative.
 #[unsafe(no_mangle)]
 pub extern "C" fn cellarcove_sqrt_rem_i64(x: i64) -> I64Root {
-    I64Root::of(checked::sqrt_rem(x))
+    I64Root::of(if x < 0 {
+        None
+    } else {
+        let (root, rest) = root_with_rest(x as u64);
+        Some((root as i64, rest as i64))
+    })
 }
 
 /// Returns the square root rounded down, and what is left: `x` minus the square of the root. Those
 /// of 99 are 9 and 18, and those of 2^64 - 1 are 4294967295 and 8589934590.
 #[unsafe(no_mangle)]
 pub extern "C" fn cellarcove_sqrt_rem_u64(x: u64) -> U64Root {
-    U64Root::of(checked::sqrt_rem(x))
+    U64Root::of(Some(root_with_rest(x)))
 }
 
 /// Returns the logarithm rounded down: the largest degree of a power of `base` that is at most `x`.
@@ -114,6 +120,12 @@ impl U64Root {
         let (status, (root, rest)) = with_status(option, (0, 0), OUTSIDE);
         U64Root { status, root, rest }
     }
+}
+
+/// Returns the square root rounded down, and what is left. Those of 99 are 9 and 18.
+fn root_with_rest(x: u64) -> (u64, u64) {
+    let root = floor_square_root(x);
+    (root, x - root * root)
 }
 
 /// Returns the result of a logarithm.

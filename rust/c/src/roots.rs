@@ -2,6 +2,7 @@
 //! Averages and roots.
 
 use crate::answers::{I64Answer, U64Answer, OUTSIDE};
+use crate::square_roots::floor_square_root;
 use cellarcove::{average_ceil, average_floor, cbrt, checked};
 
 /// Returns the average rounded down. That of 3 and 10 is 6, and that of 2^63 - 1 and 2^63 - 1 is
@@ -37,13 +38,17 @@ pub extern "C" fn cellarcove_average_ceil_u64(x: u64, y: u64) -> u64 {
 /// `OUTSIDE` if `x` is negative.
 #[unsafe(no_mangle)]
 pub extern "C" fn cellarcove_sqrt_i64(x: i64) -> I64Answer {
-    I64Answer::of(checked::sqrt(x), OUTSIDE)
+    if x < 0 {
+        I64Answer::none(OUTSIDE)
+    } else {
+        I64Answer::some(floor_square_root(x as u64) as i64)
+    }
 }
 
 /// Returns the square root rounded down. That of 99 is 9, and that of 2^64 - 1 is 4294967295.
 #[unsafe(no_mangle)]
 pub extern "C" fn cellarcove_sqrt_u64(x: u64) -> U64Answer {
-    U64Answer::of(checked::sqrt(x), OUTSIDE)
+    U64Answer::some(floor_square_root(x))
 }
 
 /// Returns the cube root rounded toward 0. That of -9 is -2.

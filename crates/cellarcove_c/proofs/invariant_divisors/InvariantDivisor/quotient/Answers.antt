@@ -6,4 +6,4 @@ pub returns : goal.returns
 returns c =
     let d = c.args.self.now in
     let fits : d.multiplier < 2 ^ 64 = search rules in
-    rw (c.from.ensures, c.from-2.ensures) (quotient_by_multiplier d.multiplier c.args.n d.divisor d.first_shift d.second_shift d.positive fits (omega (arith, c.ranges.n.fits)) d.first d.none d.above d.rounded)
+    rw c.high_product-high.ensures (quotient_by_multiplier d.multiplier c.args.n d.divisor d.first_shift d.second_shift d.positive fits (omega (arith, c.ranges.n.fits)) d.first d.none d.above d.rounded)
