@@ -1,1 +1,1 @@
-mod HeldNumbers
+mod Computed

@@ -1,21 +1,26 @@
-//! Lawful types that differ only in how they store their numbers.
+//! Lawful types that differ in how they store their numbers, and in the built-in type that computes.
 
-ghost use Rattle.std.specs.Prelude.{◌≡◌, ◌≢◌, ◌+ℤ◌, ◌-ℤ◌, ◌*ℤ◌, ℤ, ⊤, pos, negsuc, neg_ℤ, int_div, int_rem, unsigned_abs, refl, IsErr};
+ghost use Rattle.std.specs.Prelude.{◌≡◌, ◌≢◌, ◌+ℤ◌, ◌-ℤ◌, ◌*ℤ◌, ℤ, ⊤, pos, neg_ℤ, int_div, int_rem, unsigned_abs, refl, IsErr};
 ghost use Rattle.std.specs.Cmp.{partial_order_from_own_ties};
 ghost use Rattle.std.specs.Cmp.Rules.{comparing};
 ghost use Rattle.std.specs.Ordering.{int_cmp, int_eq, on, as_partial_cmp};
 ghost use Rattle.std.proofs.Common.{rules};
+ghost use Rattle.num_integer.proofs.ForCallers.{zero_fits};
 ghost use Rattle.num_integer.specs.Between.{Between, between_law, positive_divisor_law, sub_fits_law};
 ghost use Rattle.num_integer.specs.Range.{IsRange};
 
 use modular::Modular;
+use num_integer::operators::{difference, negated, product, quotient, remainder, sum};
 use num_integer::{Average, Fits, Integer};
 use num_traits::{Num, Number, One, Signed, Zero};
 use std::cmp::Ordering;
 use std::ops::{Add, Div, Mul, Neg, Rem, Sub};
 
-/// How a type stores its numbers, which are those from `low` to `high`. `low` is `-high`.
+/// How a type stores its numbers, which are those from `low` to `high`.
 pub trait Form: Copy {
+    /// The built-in type that computes. It has each number, and `-low`.
+    type Number: Average + Fits;
+
     ghost low: { ℤ };
 
     ghost high: { ℤ };
@@ -34,18 +39,18 @@ pub trait Form: Copy {
         ensures { result ≡ Self.one };
 
     /// The number.
-    fn number(&self) -> i64
-        ensures { result ≡ Self.meaning self.now };
+    fn number(&self) -> Self::Number
+        ensures { Self.Number.value result ≡ Self.meaning self.now };
 
     /// The number, stored.
-    fn store(number: i64) -> Self
-        requires { Between Self.low Self.high number }
-        ensures { Self.meaning result ≡ number };
+    fn store(number: Self::Number) -> Self
+        requires { Between Self.low Self.high (Self.Number.value number) }
+        ensures { Self.meaning result ≡ Self.Number.value number };
 
     /// Stores a result computed from `self` and `other`.
-    fn answer(&self, _other: &Self, number: i64) -> Self
-        requires { Between Self.low Self.high number }
-        ensures { Self.meaning result ≡ number }
+    fn answer(&self, _other: &Self, number: Self::Number) -> Self
+        requires { Between Self.low Self.high (Self.Number.value number) }
+        ensures { Self.meaning result ≡ Self.Number.value number }
     {
         Self::store(number)
     }
@@ -63,9 +68,12 @@ pub trait Form: Copy {
 
     ghost form_law: { IsRange (Between Self.low Self.high) Self.low Self.high };
 
-    // The products of two numbers stay far within an `i64`.
-    ghost small_law: { Between (negsuc 999) (pos 1000) Self.low × Between (negsuc 999) (pos 1000) Self.high };
+    // `Number` has the ends, and `-low`.
+    ghost ends_law: { Self.Number.fits Self.low × Self.Number.fits Self.high × Self.Number.fits (neg_ℤ Self.low) };
+}
 
+/// A form from `-high` to `high`. Its type also has the operator `-` of one number, and `Signed`.
+pub trait SignedForm: Form {
     ghost sign_law: { Self.low ≡ neg_ℤ Self.high };
 }
 
@@ -78,9 +86,9 @@ pub struct Own<F: Form> {
 
 impl<F: Form> Own<F> {
     /// The value of a number.
-    pub fn new(number: i64) -> Own<F>
-        requires { Between F.low F.high number }
-        ensures { F.meaning result.form ≡ number }
+    pub fn new(number: F::Number) -> Own<F>
+        requires { Between F.low F.high (F.Number.value number) }
+        ensures { F.meaning result.form ≡ F.Number.value number }
     {
         Own {
             form: F::store(number),
@@ -88,17 +96,18 @@ impl<F: Form> Own<F> {
     }
 
     /// The number.
-    pub fn number(&self) -> i64
-        ensures value { result ≡ F.meaning self.now.form }
-        ensures small { Between (negsuc 999) (pos 1000) result }
+    pub fn number(&self) -> F::Number
+        ensures value { F.Number.value result ≡ F.meaning self.now.form }
+        ensures in_range { Between F.low F.high (F.Number.value result) }
+        ensures fits { F.Number.fits (F.Number.value result) }
     {
         self.form.number()
     }
 
     /// The result of a call on the two.
-    fn answer(&self, other: &Own<F>, number: i64) -> Own<F>
-        requires { Between F.low F.high number }
-        ensures value { F.meaning result.form ≡ number }
+    fn answer(&self, other: &Own<F>, number: F::Number) -> Own<F>
+        requires { Between F.low F.high (F.Number.value number) }
+        ensures value { F.meaning result.form ≡ F.Number.value number }
         ensures in_range { Between F.low F.high (F.meaning result.form) }
     {
         Own {
@@ -153,7 +162,7 @@ impl<F: Form> Add for Own<F> {
     ghost add_gives = { λ a b r. F.meaning r.form ≡ F.meaning a.form +ℤ F.meaning b.form };
 
     fn add(self, other: Own<F>) -> Own<F> {
-        self.answer(&other, self.number() + other.number())
+        self.answer(&other, sum(self.number(), other.number()))
     }
 }
 
@@ -165,7 +174,7 @@ impl<F: Form> Sub for Own<F> {
     ghost sub_gives = { λ a b r. F.meaning r.form ≡ F.meaning a.form -ℤ F.meaning b.form };
 
     fn sub(self, other: Own<F>) -> Own<F> {
-        self.answer(&other, self.number() - other.number())
+        self.answer(&other, difference(self.number(), other.number()))
     }
 }
 
@@ -177,7 +186,7 @@ impl<F: Form> Mul for Own<F> {
     ghost mul_gives = { λ a b r. F.meaning r.form ≡ F.meaning a.form *ℤ F.meaning b.form };
 
     fn mul(self, other: Own<F>) -> Own<F> {
-        self.answer(&other, self.number() * other.number())
+        self.answer(&other, product(self.number(), other.number()))
     }
 }
 
@@ -190,7 +199,7 @@ impl<F: Form> Div for Own<F> {
     ghost div_gives = { λ a b r. F.meaning r.form ≡ int_div (F.meaning a.form) (F.meaning b.form) };
 
     fn div(self, other: Own<F>) -> Own<F> {
-        self.answer(&other, self.number() / other.number())
+        self.answer(&other, quotient(self.number(), other.number()))
     }
 }
 
@@ -202,7 +211,7 @@ impl<F: Form> Rem for Own<F> {
     ghost rem_gives = { λ a b r. F.meaning r.form ≡ int_rem (F.meaning a.form) (F.meaning b.form) };
 
     fn rem(self, other: Own<F>) -> Own<F> {
-        self.answer(&other, self.number() % other.number())
+        self.answer(&other, remainder(self.number(), other.number()))
     }
 }
 
@@ -275,14 +284,14 @@ impl<F: Form> Num for Own<F> {
 
     ghost sub_law = { λ a b r h _ _. h };
 
-    ghost sub_fits_law = { Prim.search rules };
+    ghost sub_fits_law = { λ x y _. sub_fits_law F.low F.high x y (zero_fits F.form_law).0 };
 
     ghost can_div_law = { λ a b h. h tt };
 
     ghost div_law = { λ a b r h _. h };
 
     ghost positive_divisor_law = { λ x y _.
-        positive_divisor_law F.low F.high x y (Prim.search rules) (Prim.search rules) };
+        positive_divisor_law F.low F.high x y (zero_fits F.form_law).0 (zero_fits F.form_law).1 };
 
     ghost can_rem_law = { λ a b h. (h tt).0 };
 
@@ -304,7 +313,7 @@ impl<F: Form> Integer for Own<F> {
     }
 
     fn div_floor(&self, other: &Own<F>) -> Own<F> {
-        self.answer(other, self.number().div_floor(&other.number()))
+        self.answer(other, Integer::div_floor(&self.number(), &other.number()))
     }
 
     fn mod_floor(&self, other: &Own<F>) -> Own<F> {
@@ -312,7 +321,7 @@ impl<F: Form> Integer for Own<F> {
     }
 
     fn is_multiple_of(&self, other: &Own<F>) -> bool {
-        self.number().is_multiple_of(&other.number())
+        Integer::is_multiple_of(&self.number(), &other.number())
     }
 
     fn is_even(&self) -> bool {
@@ -354,7 +363,7 @@ impl<F: Form> Fits for Own<F> {
 
 impl<F: Form> Modular for Own<F> {}
 
-impl<F: Form> Neg for Own<F> {
+impl<F: SignedForm> Neg for Own<F> {
     type Output = Own<F>;
 
     ghost can_neg = { λ a. ⊤ };
@@ -362,11 +371,14 @@ impl<F: Form> Neg for Own<F> {
     ghost neg_gives = { λ a r. F.meaning r.form ≡ neg_ℤ (F.meaning a.form) };
 
     fn neg(self) -> Own<F> {
-        self.answer(&self, -self.number())
+        self.answer(&self, negated(self.number()))
     }
 }
 
-impl<F: Form> Signed for Own<F> {
+impl<F: SignedForm> Signed for Own<F>
+where
+    F::Number: Signed,
+{
     fn abs(&self) -> Own<F> {
         self.answer(self, self.number().abs())
     }
@@ -380,11 +392,11 @@ impl<F: Form> Signed for Own<F> {
     }
 
     fn is_positive(&self) -> bool {
-        self.number() > 0
+        self.number().is_positive()
     }
 
     fn is_negative(&self) -> bool {
-        self.number() < 0
+        self.number().is_negative()
     }
 
     ghost can_neg_law = { λ a h. tt };

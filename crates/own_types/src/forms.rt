@@ -1,10 +1,10 @@
-//! How two types store their numbers: one negated, the other beside a byte.
+//! How three types store their numbers: one negated, one beside a byte, and one in 128 bits.
 
 ghost use Rattle.std.specs.Prelude.{◌≡◌, pos, negsuc, neg_ℤ, refl};
 ghost use Rattle.std.proofs.Common.{rules, inl, inr};
 ghost use Rattle.num_integer.specs.Between.{Between, between_range};
 
-use super::form::{Form, Own};
+use super::form::{Form, Own, SignedForm};
 
 /// From -7 to 7, stored negated.
 #[derive(Clone, Copy)]
@@ -14,6 +14,8 @@ pub struct NegatedForm {
 }
 
 impl Form for NegatedForm {
+    type Number = i64;
+
     ghost low = { negsuc 6 };
 
     ghost high = { pos 7 };
@@ -55,8 +57,10 @@ impl Form for NegatedForm {
     ghost form_law = { between_range (negsuc 6) (pos 7) (inr (inl refl)) (record { le = tt })
         (record { lt = tt }) (inr (record { lt = tt })) };
 
-    ghost small_law = { Prim.search rules };
+    ghost ends_law = { Prim.search rules };
+}
 
+impl SignedForm for NegatedForm {
     ghost sign_law = { refl };
 }
 
@@ -89,6 +93,8 @@ impl Own<MarkedForm> {
 }
 
 impl Form for MarkedForm {
+    type Number = i64;
+
     ghost low = { negsuc 99 };
 
     ghost high = { pos 100 };
@@ -138,7 +144,61 @@ impl Form for MarkedForm {
     ghost form_law = { between_range (negsuc 99) (pos 100) (inr (inl refl)) (record { le = tt })
         (record { lt = tt }) (inr (record { lt = tt })) };
 
-    ghost small_law = { Prim.search rules };
+    ghost ends_law = { Prim.search rules };
+}
 
+impl SignedForm for MarkedForm {
     ghost sign_law = { refl };
+}
+
+/// From 0 to 10^30, which is more than 64 bits hold.
+#[derive(Clone, Copy)]
+pub struct TokensForm {
+    number: u128,
+    ghost in_range: { Between (pos 0) (pos 1000000000000000000000000000000) (pos number) },
+}
+
+impl Form for TokensForm {
+    type Number = u128;
+
+    ghost low = { pos 0 };
+
+    ghost high = { pos 1000000000000000000000000000000 };
+
+    ghost meaning = { λ x. pos x.number };
+
+    ghost zero = { record { number = 0; in_range = (record { le = tt }, record { le = tt }) } };
+
+    ghost one = { record { number = 1; in_range = (record { le = tt }, record { le = tt }) } };
+
+    fn zero() -> TokensForm {
+        TokensForm { number: 0 }
+    }
+
+    fn one() -> TokensForm {
+        TokensForm { number: 1 }
+    }
+
+    fn number(&self) -> u128 {
+        self.number
+    }
+
+    fn store(number: u128) -> TokensForm {
+        TokensForm { number }
+    }
+
+    fn ends() -> (u128, u128) {
+        (0, 1_000_000_000_000_000_000_000_000_000_000)
+    }
+
+    ghost zero_law = { refl };
+
+    ghost one_law = { refl };
+
+    ghost number_law = { Prim.search rules };
+
+    ghost form_law = { between_range (pos 0) (pos 1000000000000000000000000000000) (inl refl) (record { le = tt })
+        (record { lt = tt }) (inl (record { le = tt })) };
+
+    ghost ends_law = { Prim.search rules };
 }

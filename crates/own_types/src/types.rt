@@ -113,12 +113,16 @@ impl<R: Range> Tested for Bounded<R> {
     }
 }
 
-impl<F: Form> Tested for Own<F> {
+impl<F: Form> Tested for Own<F>
+where
+    F::Number: FromPrimitive,
+{
     fn from_signed_magnitude(n: SignedMagnitude) -> Option<Own<F>> {
-        let number = i64::try_from(to_i128(n)?).ok()?;
+        let number = F::Number::from_i128(to_i128(n)?)?;
+        let (negative, magnitude) = number.parts();
         let (low, high) = F::ends();
-        let bound = if number < 0 { low } else { high };
-        if u128::from(number.unsigned_abs()) <= bound {
+        let bound = if negative { low } else { high };
+        if magnitude <= bound {
             Some(Own::new(number))
         } else {
             None

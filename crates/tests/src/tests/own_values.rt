@@ -4,7 +4,7 @@ use super::rows::holds_at;
 use num_integer::counted::{binomial_counted, extended_gcd_counted};
 use num_integer::{ExtendedGcd, Fits, Integer, binomial, checked};
 use num_traits::{Num, Signed};
-use own_types::{Marked, Negated, Percent, Small};
+use own_types::{Marked, Negated, Percent, Small, Tokens};
 
 #[test]
 fn texts(rt: HostRuntime) {
@@ -37,6 +37,17 @@ fn numbers_beside_a_byte(rt: HostRuntime) {
     assert!(rt; (plain + marked).mark() == 10);
     let common = checked::gcd(marked, plain).expect(&rt, "the divisor fits");
     assert!(rt; common == plain && common.mark() == 10);
+}
+
+/// Numbers of more than 64 bits, without negative ones.
+#[test]
+fn numbers_of_a_hundred_bits(rt: HostRuntime) {
+    let all = Tokens::new(1_000_000_000_000_000_000_000_000_000_000);
+    let some = Tokens::new(600_000_000_000_000_000_000_000_000_000);
+    let common = checked::gcd(all, some).expect(&rt, "the divisor fits");
+    assert!(rt; common.number() == 200_000_000_000_000_000_000_000_000_000);
+    assert!(rt; checked::sum(all, common).is_none() && checked::lcm(all, some).is_none());
+    assert!(rt; checked::difference(some, all).is_none());
 }
 
 /// The results of the three calls for a Bezout pair, and the iterations.

@@ -14,11 +14,10 @@ use num_integer::{
     div_ceil, div_floor, div_mod_floor, div_rem, gcd, gcd_lcm, lcm, mod_floor, nth_root, sqrt,
 };
 use num_traits::Signed;
-use own_types::forms::{MarkedForm, NegatedForm};
 use own_types::ranges::{OneBitRange, TwoBitsRange};
 use own_types::signed_magnitude::SignedMagnitude;
 use own_types::types::{Tested, Type};
-use own_types::{Form, Own, Small};
+use own_types::{Marked, Negated, Small};
 use std::alloc::Global;
 
 /// The numbers of a result. Those that it lacks are 0.
@@ -303,11 +302,6 @@ fn of_range<R: Range>(ask: Ask) -> Option<Numbers> {
     of_rooted::<Bounded<R>>(ask)
 }
 
-/// The result at a type that stores its numbers in this form.
-fn of_form<F: Form>(ask: Ask) -> Option<Numbers> {
-    of_signed::<Own<F>>(ask)
-}
-
 /// The result of the call at the type, or `None` if the operands do not meet its precondition.
 pub(crate) fn result(
     alloc: Global,
@@ -331,8 +325,8 @@ pub(crate) fn result(
         Type::U128 => of_each::<u128>(ask),
         Type::Percent => of_range::<PercentRange>(ask),
         Type::Small => of_signed::<Small>(ask),
-        Type::Negated => of_form::<NegatedForm>(ask),
-        Type::Marked => of_form::<MarkedForm>(ask),
+        Type::Negated => of_signed::<Negated>(ask),
+        Type::Marked => of_signed::<Marked>(ask),
         Type::OneBit => of_range::<OneBitRange>(ask),
         Type::TwoBits => of_range::<TwoBitsRange>(ask),
     }

@@ -1,11 +1,12 @@
 use Rattle.num_integer.specs.Division.{IsQuotient, IsTruncated}
-use Rattle.own_types.proofs.HeldNumbers.{fits_64_bits, held_fits_form}
+use Rattle.num_integer.proofs.ForCallers.{only_truncated, remainder_within, truncated_is, within_fits}
+use Rattle.own_types.proofs.Computed.{each_computed}
 use Rattle.own_types.proofs.form.OwnInteger.div_rem.Goals as goal
 
 pub div_rem-q-requires-clause-quotient_fits : goal.div_rem-q-requires-clause-quotient_fits
-div_rem-q-requires-clause-quotient_fits g c =
-    fits_64_bits (IsQuotient IsTruncated) g.met.F.Form.small_law c.number.ensures.value c.number.ensures.small c.number-2.ensures.value c.number-2.ensures.small c.requires.quotient_fits
+div_rem-q-requires-clause-quotient_fits g c = each_computed g.met.F.Number.Integer.range_law g.met.F.Form.ends_law (IsQuotient IsTruncated) c.number.ensures.value c.number-2.ensures.value c.requires.quotient_fits
 
-pub answer-requires : goal.answer-requires
-answer-requires g c =
-    held_fits_form (IsQuotient IsTruncated) g.met.F.Form.small_law c.number.ensures.value c.number.ensures.small c.number-2.ensures.value c.number-2.ensures.small c.requires.quotient_fits (record { remainder = c.div_rem-q.result.1; division = c.div_rem-q.ensures.truncated })
+pub answer-requires-2 : goal.answer-requires-2
+answer-requires-2 g c =
+    let only = only_truncated c.div_rem-q.ensures.truncated (truncated_is _ _ (rw c.number-2.ensures.value c.requires.nonzero)) in
+    rw only.1 (within_fits g.met.F.Form.form_law c.number.ensures.in_range (remainder_within _ _))

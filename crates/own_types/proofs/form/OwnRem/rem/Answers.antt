@@ -1,13 +1,5 @@
-use Rattle.std.proofs.Common.{arith}
-use Rattle.std.specs.Prelude.{FitsSigned}
-use Rattle.std.specs.Int.{w64}
-use Rattle.std.proofs.lemmas.Int.{ints, rem_is}
-use Rattle.num_integer.proofs.ForCallers.{remainder_within, within_fits}
+use Rattle.own_types.proofs.Computed.{quotient_computed}
 use Rattle.own_types.proofs.form.OwnRem.rem.Goals as goal
 
-pub answer-requires : goal.answer-requires
-answer-requires g c =
-    let n : FitsSigned w64 c.number.result = omega (arith, ints) in
-    let d : FitsSigned w64 c.number-2.result = omega (arith, ints) in
-    let within = within_fits g.met.F.Form.form_law (g.met.F.Form.number_law _) (remainder_within _ _) in
-    rw (rem_is w64 c.number.result c.number-2.result n d, c.number.ensures.value, c.number-2.ensures.value) within
+pub remainder-requires-clause-quotient_fits : goal.remainder-requires-clause-quotient_fits
+remainder-requires-clause-quotient_fits g c = quotient_computed g.met.F.Number.Integer.range_law g.met.F.Form.ends_law g.met.F.Form.form_law c.number.ensures.in_range c.number-2.ensures.in_range (rw c.number-2.ensures.value c.requires)
