@@ -2,6 +2,6 @@
 //! It is [`applied::shares`](crate::applied::shares).
 
 pub use crate::applied::shares::{
-    shares, shares_by_largest_remainder, signed_shares, signed_shares_by_largest_remainder,
-    SharesError,
+    instalments, shares, shares_by_largest_remainder, signed_shares,
+    signed_shares_by_largest_remainder, IterInstalments, SharesError,
 };

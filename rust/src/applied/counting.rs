@@ -30,7 +30,7 @@ use crate::Integer;
 #[must_use]
 pub fn factorial<T: Integer + Copy>(n: T) -> T {
     check(!is_negative(n), "`n` is negative");
-    product_above(zero(), n)
+    product_above(zero(), n, "the factorial does not fit")
 }
 
 /// Returns the falling factorial of `n` and `k`, the product `n * (n - 1) * ..` of `k` factors: in
@@ -60,18 +60,19 @@ pub fn falling<T: Integer + Copy>(n: T, k: T) -> T {
     if is_below(n, k) {
         zero()
     } else {
-        product_above(difference(n, k), n)
+        product_above(difference(n, k), n, "the falling factorial does not fit")
     }
 }
 
-/// Returns the product of the numbers above `low` up to `high`.
+/// Returns the product of the numbers above `low` up to `high`. In plain Rust it panics with the
+/// reason if the product does not fit.
 #[track_caller]
-fn product_above<T: Integer + Copy>(low: T, high: T) -> T {
+fn product_above<T: Integer + Copy>(low: T, high: T, reason: &str) -> T {
     let mut ways = one();
     let mut factor = low;
     while is_below(factor, high) {
         factor = successor(factor);
-        ways = product_or(ways, factor, "the factorial does not fit");
+        ways = product_or(ways, factor, reason);
     }
     ways
 }

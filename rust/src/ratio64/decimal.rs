@@ -149,8 +149,8 @@ impl Ratio {
         })
     }
 
-    /// Returns the decimal number with so many places that is the same number, or `None` if there
-    /// is none or if there are more than 18 places.
+    /// Returns this fraction as a decimal number with so many places, if that is exact, and
+    /// otherwise `None`. It is `None` too if there are more than 18 places.
     ///
     /// # Examples
     ///

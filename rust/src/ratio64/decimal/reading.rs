@@ -103,11 +103,10 @@ fn split(text: &str) -> Option<(&str, &str)> {
 
 /// Returns `true` if the text is one or more digits.
 fn is_numeral(text: &str) -> bool {
-    !text.is_empty() && has_only_digits(text.as_bytes())
-}
-
-fn has_only_digits(text: &[u8]) -> bool {
-    text.iter().all(u8::is_ascii_digit)
+    match text.as_bytes() {
+        [b'-', ..] => false,
+        _ => is_integer(text),
+    }
 }
 
 /// Returns the number, of which these digits stand before the point and after it.
@@ -115,11 +114,11 @@ fn number(whole: &str, part: &str) -> Result<Decimal, ParseDecimalError> {
     let Some(part) = kept(part) else {
         return Err(ParseDecimalError::TooManyPlaces);
     };
-    let Some(size) = size(whole, part) else {
+    let Some(magnitude) = magnitude(whole, part) else {
         return Err(ParseDecimalError::NotFitting);
     };
     Ok(Decimal {
-        units: with_sign(whole, size),
+        units: with_magnitude(whole, magnitude),
         places: part.len() as u32,
     })
 }
@@ -142,13 +141,13 @@ fn is_zero(digits: &str) -> bool {
 }
 
 /// Returns the number that the digits of both write, or `None` if it is not below 2^127.
-fn size(whole: &str, part: &str) -> Option<i128> {
+fn magnitude(whole: &str, part: &str) -> Option<i128> {
     let scale = 10_u128.pow(part.len() as u32);
-    joined(whole_size(whole)?, scale, part_size(part))
+    joined(whole_magnitude(whole)?, scale, part_magnitude(part))
 }
 
 /// Returns the magnitude of the integer, or `None` if it is above 2^127.
-fn whole_size(whole: &str) -> Option<u128> {
+fn whole_magnitude(whole: &str) -> Option<u128> {
     match whole.parse::<i128>() {
         Ok(number) => Some(number.unsigned_abs()),
         Err(_) => None,
@@ -156,7 +155,7 @@ fn whole_size(whole: &str) -> Option<u128> {
 }
 
 /// Returns the number that at most 18 digits write.
-fn part_size(part: &str) -> u128 {
+fn part_magnitude(part: &str) -> u128 {
     u128::from(part.parse::<u64>().unwrap_or(0))
 }
 
@@ -165,10 +164,10 @@ fn joined(whole: u128, scale: u128, part: u128) -> Option<i128> {
     i128::try_from(whole.checked_mul(scale)?.checked_add(part)?).ok()
 }
 
-/// Returns the number with the sign of the text.
-fn with_sign(text: &str, size: i128) -> i128 {
+/// Returns the number with this magnitude and the sign of the text.
+fn with_magnitude(text: &str, magnitude: i128) -> i128 {
     match text.as_bytes() {
-        [b'-', ..] => -size,
-        _ => size,
+        [b'-', ..] => -magnitude,
+        _ => magnitude,
     }
 }

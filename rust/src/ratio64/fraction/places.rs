@@ -13,7 +13,7 @@ use core::{fmt, str};
 const LAST: usize = 19;
 
 /// 10 to the power of the last places.
-const SCALE: u128 = 10_u128.pow(19);
+const SCALE: u128 = 10_000_000_000_000_000_000;
 
 impl Ratio {
     /// Writes the nearest decimal number with so many places, and of two equally near the one whose
@@ -35,9 +35,9 @@ impl Ratio {
         let sign = sign_of(self.num() < 0, f.sign_plus());
         let mut whole = Buffer::new();
         write!(whole, "{}.", num / den)?;
-        let whole = str::from_utf8(whole.as_bytes()).map_err(|_| fmt::Error)?;
+        let whole = text_of(&whole)?;
         let padding = missing(f.width(), sign.len() + whole.len(), places);
-        let (before, zeros, after) = padding_around(padding, f.sign_aware_zero_pad(), f.align());
+        let (before, zeros, after) = padding_around(f, padding);
         fill(f, before)?;
         f.write_str(sign)?;
         write_repeated(f, "0", zeros)?;
@@ -65,11 +65,11 @@ fn missing(width: Option<usize>, front: usize, places: usize) -> usize {
 }
 
 /// Returns how much of the padding stands before the sign, after it as zeros, and after the number.
-fn padding_around(padding: usize, zeros: bool, side: Option<Alignment>) -> (usize, usize, usize) {
-    if zeros {
+fn padding_around(f: &fmt::Formatter<'_>, padding: usize) -> (usize, usize, usize) {
+    if f.sign_aware_zero_pad() {
         return (0, padding, 0);
     }
-    let before = match side {
+    let before = match f.align() {
         Some(Alignment::Left) => 0,
         Some(Alignment::Center) => padding / 2,
         _ => padding,
@@ -108,5 +108,10 @@ fn write_places(f: &mut fmt::Formatter<'_>, num: u128, den: u128, places: usize)
 fn write_last_places(f: &mut fmt::Formatter<'_>, digits: u128) -> fmt::Result {
     let mut last = Buffer::new();
     write!(last, "{digits:019}")?;
-    f.write_str(str::from_utf8(last.as_bytes()).map_err(|_| fmt::Error)?)
+    f.write_str(text_of(&last)?)
+}
+
+/// Returns what the buffer holds as a text, or an error if that is not UTF-8.
+fn text_of(buffer: &Buffer) -> Result<&str, fmt::Error> {
+    str::from_utf8(buffer.as_bytes()).map_err(|_| fmt::Error)
 }
