@@ -709,6 +709,49 @@ pub fn week_of_next_issue(week: &IsoWeek) -> Option<IsoWeek>
     }
 }
 
+/// Returns the week so many weeks after another, or `None` if its year does not fit.
+#[tactic(auto, using(calendar::proofs::ForCallers::weeks_passed_on))]
+pub fn weeks_later(week: &IsoWeek, weeks: i64) -> Option<IsoWeek>
+    ensures { MatchOption result
+        ((y : ℤ) (w : ℕ) → IsWeeksAfter week.now.year week.now.week weeks y w → ¬ (FitsSigned w64 y))
+        (λ later. IsWeeksAfter week.now.year week.now.week weeks later.year later.week) }
+{
+    let later = week.plus_weeks(weeks)?;
+    Some(later)
+}
+
+/// Returns the Friday of the week so many weeks after another, or `None`. The contract does not say when it is `None`.
+#[tactic(auto, using(calendar::proofs::ForCallers::weeks_passed_on))]
+pub fn friday_of_week_later(week: &IsoWeek, weeks: i64) -> Option<Date>
+    ensures { IfSome result (λ friday. (year : ℤ) × (w : ℕ)
+        × IsWeeksAfter week.now.year week.now.week weeks year w
+        × IsDayOfIsoWeek (number_of friday) year w Weekday.Friday) }
+{
+    week.plus_weeks(weeks)?.date_on(Weekday::Friday)
+}
+
+/// Returns the date so many days after another, or `None` if its year does not fit.
+pub fn days_later(date: &Date, days: i64) -> Option<Date>
+    ensures { MatchOption result
+        ((later : Date) → number_of later ≡ number_of date.now +ℤ days → ¬ (FitsSigned w64 later.year))
+        (λ later. number_of later ≡ number_of date.now +ℤ days) }
+{
+    let later = date.plus_days(days)?;
+    Some(later)
+}
+
+/// Returns the date so many days after another, or that date itself if the year does not fit.
+pub fn days_later_or_same(date: Date, days: i64) -> Date
+    ensures { (number_of result ≡ number_of date +ℤ days)
+        ⊎ ((result ≡ date)
+        × ((later : Date) → number_of later ≡ number_of date +ℤ days → ¬ (FitsSigned w64 later.year))) }
+{
+    match date.plus_days(days) {
+        Some(later) => later,
+        None => date,
+    }
+}
+
 /// Returns how many weeks a course takes, or `None` if it does not fit.
 pub fn weeks_of_course(first: &IsoWeek, after: &IsoWeek) -> Option<i64>
     ensures { MatchOption result

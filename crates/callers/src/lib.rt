@@ -25,6 +25,7 @@
 //! | `natural_words.rt` | contracts about natural numbers at unsigned types: pages, offsets, timetables, rounding, combinations |
 //! | `powers.rt` | `modular`: powers as natural numbers, sums of exponents |
 //! | `tasks.rt` | everyday tasks: pages of items, a cipher, amounts of money, a recipe, a line of bytes |
+//! | `everyday.rt` | everyday tasks of a line: payments, a page, a buffer, a clock, prices, an age, runs of a job |
 //!
 //! Most functions have no proof file: the prover's search proves them from the contracts of what they call. The proof file of
 //! another function is in `proofs/`, in a folder with the names of the file and of the function.
@@ -38,6 +39,7 @@ pub mod combinations;
 pub mod dates;
 pub mod decimals;
 pub mod divisors;
+pub mod everyday;
 pub mod fractions;
 pub mod lists;
 pub mod multiples;

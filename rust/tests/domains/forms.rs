@@ -4,7 +4,7 @@
 use crate::outcome;
 use cellarcove::applied::{
     counting, halving, layout, lists, paging, powers, ranking, rolling_hash::RollingHash, rounding,
-    schedules,
+    schedules, shares,
 };
 use cellarcove::bounded_integers::Percent;
 use cellarcove::calendar::{days_in_month, Date};
@@ -353,7 +353,12 @@ fn models() {
     );
     let (limit, great_rank) = ("the limit is not positive", "the rank does not fit");
     let number_of_parts = "the number of parts is not positive";
+    let number_of_instalments = "the number of instalments is not positive";
     panics! {
+        number_of_instalments {
+            shares::instalments(100i64, 0);
+            shares::instalments(100u8, 0);
+        }
         PERIOD {
             schedules::next_meeting(0, (1, -2), (1, 3));
             schedules::next_meeting(0, (1, 2), (1, 0));
