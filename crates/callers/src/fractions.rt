@@ -218,6 +218,7 @@ pub fn share_rounded_both_ways(share: &Ratio, amount: i64) -> Option<(i64, i64)>
 
 /// Returns a price with its tax, which is rounded, or `None` if the tax or the sum does not fit. The tax is the price
 /// times the rate.
+#[tactic(auto, using(ratio64::proofs::ForCallers::first_does_not_fit))]
 pub fn with_tax(price: i64, rate: &Ratio) -> Option<i64>
     ensures { MatchOption result
         ((¬ (EachFits (FitsSigned w64) (IsRounded (num_of rate.now *ℤ price) (den_of rate.now))))

@@ -1,9 +1,10 @@
 -- Results that a caller passes on by `?`, in the caller's words: its argument in the place of the bits of that argument.
-use Rattle.ratio64.proofs.Common.{◌≡◌, ◌*ℤ◌, ℤ, MatchOption, Option, None, FitsSigned, of_z, to_z, to_z-of_z, w64, EachFits, IsQuotient, IsRounded, IsRoundedEven}
+use Rattle.ratio64.proofs.Common.{◌≡◌, ◌⊎◌, ◌*ℤ◌, ℤ, MatchOption, Option, None, FitsSigned, inl, of_z, to_z, to_z-of_z, w64, EachFits, IsQuotient, IsRounded, IsRoundedEven}
 
 -- a fraction times an integer is rounded to no number that fits
 module _ (Q : ℤ → Type 0) (num n den : ℤ) (r : Option ℤ) (fits : FitsSigned w64 n) (is : r ≡ None) where
-  pub quotient_times_passed_on : {Kind : ℤ → ℤ → ℤ → ℤ → Type 0} → ¬ (EachFits (FitsSigned w64) (IsQuotient Kind (num *ℤ to_z w64 (of_z w64 n)) den))
+  pub quotient_times_passed_on : {Kind : ℤ → ℤ → ℤ → ℤ → Type 0}
+      → ¬ (EachFits (FitsSigned w64) (IsQuotient Kind (num *ℤ to_z w64 (of_z w64 n)) den))
       → MatchOption r (¬ (EachFits (FitsSigned w64) (IsQuotient Kind (num *ℤ n) den))) Q
   quotient_times_passed_on none = rw is (rw (to_z-of_z w64 n fits) at none)
 
@@ -17,3 +18,9 @@ module _ (Q : ℤ → Type 0) (num n den : ℤ) (r : Option ℤ) (fits : FitsSig
 
 -- The `None` of `floor_times`, `ceil_times`, `round_times` and `round_even_times` that `?` passes on.
 pub ruleset times_passed_on = (quotient_times_passed_on, rounded_times_passed_on, rounded_even_times_passed_on)
+
+-- The same if that is one of two reasons for `None`.
+pub first_does_not_fit : (num n den : ℤ) (r : Option ℤ) (fits : FitsSigned w64 n) (B : Type 0) (Q : ℤ → Type 0) → r ≡ None
+    → ¬ (EachFits (FitsSigned w64) (IsRounded (num *ℤ to_z w64 (of_z w64 n)) den))
+    → MatchOption r ((¬ (EachFits (FitsSigned w64) (IsRounded (num *ℤ n) den))) ⊎ B) Q
+first_does_not_fit num n den r fits B Q is none = rw is (inl (rw (to_z-of_z w64 n fits) at none))

@@ -1,9 +1,6 @@
-use Rattle.std.proofs.Common.{inl, inr, rules, ◌⊎◌, ◌≡◌, ◌+ℤ◌, ℤ, Option, Some, None, MatchOption, SomeIff, FitsSigned}
+use Rattle.std.proofs.Common.{inr, rules, ◌⊎◌, ◌≡◌, ◌+ℤ◌, ℤ, Option, Some, None, MatchOption, SomeIff, FitsSigned}
 use Rattle.callers.proofs.Common.{to_z-of_z, w64}
 use Rattle.callers.proofs.fractions.with_tax.Goals as goal
-
-pub returns-in_err-tax : goal.returns-in_err-tax
-returns-in_err-tax c = rw c.from_residual.ensures (inl (rw (to_z-of_z w64 _ c.ranges.price) at c.in_err-tax.ensures))
 
 -- the sum of a price and a number with the property, or none if it does not fit
 total_with : (A : Type 0) (P : ℤ → Type 0) (price tax : ℤ) (total : Option ℤ) → SomeIff total (FitsSigned w64 (price +ℤ tax)) (price +ℤ tax) → P tax
