@@ -20,7 +20,8 @@ MOVED, SINCE = 'applied', '0.5.0'
 JOINED = ('checked', 'counted')
 # The public modules that are private in the Rust crate: others export what they have, or no caller there needs it.
 WITHIN = {('integer_core', 'counted'), ('integer_core', 'guards'), ('integer_core', 'padded'), ('integer_core', 'fitting'),
-          ('integer_roots', 'counted'), ('num_integer', 'sign_magnitude'), ('applied', 'guards')}
+          ('integer_roots', 'counted'), ('num_integer', 'sign_magnitude'), ('modular', 'guards'),
+          ('modular', 'several_congruences'), ('applied', 'guards')}
 # The public items that are private in the Rust crate, for the same reason.
 HIDDEN = {('integer_core', 'Magnitudes')}
 NOT_READ = {'tests', 'assertions'}               # modules that only tests have
