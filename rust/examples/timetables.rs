@@ -9,19 +9,20 @@
 //! Error: "a period is at least 1 minute"
 //! ```
 
-use cellarcove::applied::schedules::next_meeting_of;
+use cellarcove::applied::schedules::{next_meeting_of, Schedule};
 use cellarcove::modular::CommonSolution;
 use std::env;
 use std::error::Error;
 
-fn schedule(word: &str) -> Result<(u64, u64), Box<dyn Error>> {
+fn schedule(word: &str) -> Result<Schedule<u64>, Box<dyn Error>> {
     let (first, period) = word
         .split_once('/')
         .ok_or("a bus is given as first/period")?;
-    match (first.parse()?, period.parse()?) {
-        (_, 0) => Err("a period is at least 1 minute".into()),
-        schedule => Ok(schedule),
+    let (first, period) = (first.parse()?, period.parse()?);
+    if period == 0 {
+        return Err("a period is at least 1 minute".into());
     }
+    Ok(Schedule { first, period })
 }
 
 fn main() -> Result<(), Box<dyn Error>> {
@@ -29,7 +30,7 @@ fn main() -> Result<(), Box<dyn Error>> {
     let (now, buses) = words
         .split_first()
         .ok_or("give the present minute and the buses")?;
-    let buses: Vec<(u64, u64)> = buses
+    let buses: Vec<Schedule<u64>> = buses
         .iter()
         .map(|word| schedule(word))
         .collect::<Result<_, _>>()?;

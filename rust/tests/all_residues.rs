@@ -4,7 +4,7 @@ use cellarcove::modular::{
     chinese_remainder, count_congruent, counted::power_modulo_counted, difference_modulo,
     inverse_modulo, negation_modulo, next_common_solution, next_common_solution_of, next_congruent,
     power_modulo, previous_congruent, product_modulo, quotient_modulo, residue, solutions,
-    sum_modulo, CommonSolution,
+    sum_modulo, CommonSolution, Congruence,
 };
 
 /// The numbers x from 0 to below `m` for which `a` times x is `b` modulo `m`: the first and the step.
@@ -136,15 +136,16 @@ macro_rules! all_bytes {
                         let solves = |x: &i32| (x - a) % m == 0 && (x - b) % n == 0;
                         let least = (0..120).find(solves);
                         let second = (0..240).filter(solves).nth(1);
-                        let class = least.zip(second).map(|(x, y)| (sure(x), sure(y - x)));
-                        let (a, m, b, n) = (sure(a), sure(m), sure(b), sure(n));
-                        assert_eq!(chinese_remainder(a, m, b, n), class, "{a} {m} {b} {n}");
+                        let class = least.zip(second).map(|(x, y)| Congruence { residue: sure(x), modulus: sure(y - x) });
+                        let first = Congruence { residue: sure(a), modulus: sure(m) };
+                        let second = Congruence { residue: sure(b), modulus: sure(n) };
+                        assert_eq!(chinese_remainder(first, second), class, "{a} {m} {b} {n}");
                         for from in (LOW..=HIGH).step_by(5) {
                             let next = match (from..from + 120).find(solves) {
                                 Some(x) => byte(x).map_or(CommonSolution::Beyond, CommonSolution::At),
                                 None => CommonSolution::Never,
                             };
-                            assert_eq!(next_common_solution(sure(from), a, m, b, n), next, "{from}");
+                            assert_eq!(next_common_solution(sure(from), first, second), next, "{from}");
                         }
                     }
                 }
@@ -183,7 +184,7 @@ fn common_solutions_of_three() {
                 None => CommonSolution::Never,
             };
             assert_eq!(
-                next_common_solution_of(from, &congruences),
+                next_common_solution_of(from, &congruences.map(Congruence::from)),
                 expected,
                 "{from} {congruences:?}"
             );

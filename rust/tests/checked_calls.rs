@@ -68,13 +68,14 @@ fn as_the_plain_calls_at_a_positive_modulus() {
                 .then(|| modular::count_congruent(a, b, 1, m))
                 .flatten();
             assert_eq!(residues::count_congruent(a, b, 1, m), plain, "{a} {b} {m}");
-            let plain = is_positive.then(|| modular::next_common_solution(a, b, m, 1, 3));
+            let plain =
+                is_positive.then(|| modular::next_common_solution(a, (b, m).into(), (1, 3).into()));
             assert_eq!(
-                residues::next_common_solution(a, b, m, 1, 3),
+                residues::next_common_solution(a, (b, m).into(), (1, 3).into()),
                 plain,
                 "{a} {b} {m}"
             );
-            let pairs = [(b, m), (1, 3)];
+            let pairs = [(b, m).into(), (1, 3).into()];
             let plain = is_positive.then(|| modular::next_common_solution_of(a, &pairs));
             assert_eq!(
                 residues::next_common_solution_of(a, &pairs),
@@ -82,26 +83,35 @@ fn as_the_plain_calls_at_a_positive_modulus() {
                 "{a} {b} {m}"
             );
             let plain = (is_positive && m.lcm_fits(&3))
-                .then(|| modular::chinese_remainder(a, m, b, 3))
+                .then(|| modular::chinese_remainder((a, m).into(), (b, 3).into()))
                 .flatten();
             assert_eq!(
-                residues::chinese_remainder(a, m, b, 3),
+                residues::chinese_remainder((a, m).into(), (b, 3).into()),
                 plain,
                 "{a} {b} {m}"
             );
         }
     }
-    assert_eq!(residues::next_common_solution(0i8, 1, 2, 1, 0), None);
     assert_eq!(
-        residues::next_common_solution_of(0i8, &[(1, 2), (1, 0)]),
+        residues::next_common_solution(0i8, (1, 2).into(), (1, 0).into()),
+        None
+    );
+    assert_eq!(
+        residues::next_common_solution_of(0i8, &[(1, 2).into(), (1, 0).into()]),
         None
     );
     assert_eq!(
         residues::next_common_solution_of(5i8, &[]),
         Some(CommonSolution::At(5))
     );
-    assert_eq!(residues::chinese_remainder(1i8, 2, 1, 0), None);
-    assert_eq!(residues::chinese_remainder(1i8, 4, 3, 6), Some((9, 12)));
+    assert_eq!(
+        residues::chinese_remainder((1i8, 2).into(), (1, 0).into()),
+        None
+    );
+    assert_eq!(
+        residues::chinese_remainder((1i8, 4).into(), (3, 6).into()),
+        Some((9, 12).into())
+    );
 }
 
 #[test]

@@ -33,7 +33,7 @@ fn aligned(offset: u64) -> Option<u64> {
 }
 
 fn both_buses(now: u64) -> CommonSolution<u64> {
-    next_meeting(now, (1, 4), (3, 6))
+    next_meeting(now, (1, 4).into(), (3, 6).into())
 }
 
 fn pay_day(year: i64, month: u8) -> Option<Date> {
@@ -118,7 +118,8 @@ fn date(text: &str) -> Date {
 }
 
 mod page {
-    use cellarcove::applied::{schedules, shares};
+    use cellarcove::applied::schedules::{self, Schedule};
+    use cellarcove::applied::shares;
     use cellarcove::calendar::Date;
     use cellarcove::checked;
     use cellarcove::modular::CommonSolution;
@@ -131,8 +132,9 @@ mod page {
         assert_eq!(budgets, [251, 250, 251, 250]);
         shares::shares_by_largest_remainder(1002, &[1, 1, 1, 1], &mut budgets).unwrap();
         assert_eq!(budgets, [251, 251, 250, 250]);
-        let both_buses = schedules::next_meeting(10, (1, 4), (3, 6));
-        assert_eq!(both_buses, CommonSolution::At(21));
+        let red = Schedule { first: 1, period: 4 };
+        let blue = Schedule { first: 3, period: 6 };
+        assert_eq!(schedules::next_meeting(10, red, blue), CommonSolution::At(21));
         assert_eq!(checked::product_div_mod_floor(1999, 19, 100), Some((379, 81)));
         let largest_tax = checked::product_div_mod_floor(i64::MAX, 19, 100);
         assert_eq!(largest_tax, Some((1752440687002407403, 33)));

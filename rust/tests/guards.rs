@@ -163,8 +163,8 @@ fn moduli_are_tested_before_their_multiple() {
     let reason = "a modulus is not positive";
     panics! {
         reason {
-            chinese_remainder(1, i64::MIN, 3, 5);
-            chinese_remainder(1, 5, 3, i64::MIN);
+            chinese_remainder((1, i64::MIN).into(), (3, 5).into());
+            chinese_remainder((1, 5).into(), (3, i64::MIN).into());
         }
     }
 }
@@ -172,8 +172,11 @@ fn moduli_are_tested_before_their_multiple() {
 /// 5100 does not fit, and no number is odd and even. So it is at a type of one's own, whose multiples nobody tests.
 #[test]
 fn without_a_solution_the_multiple_need_not_fit() {
-    assert_eq!(chinese_remainder(1u8, 100, 2, 102), None);
-    assert_eq!(chinese_remainder(1, i64::MAX - 1, 2, i64::MAX - 3), None);
+    assert_eq!(chinese_remainder((1u8, 100).into(), (2, 102).into()), None);
+    assert_eq!(
+        chinese_remainder((1, i64::MAX - 1).into(), (2, i64::MAX - 3).into()),
+        None
+    );
 }
 
 /// Where std's division would panic too, the reason is that of the call.

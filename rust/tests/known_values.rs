@@ -5,7 +5,7 @@ use cellarcove::applied::paging::item_at;
 use cellarcove::applied::powers::{is_perfect_power, is_power, is_square};
 use cellarcove::applied::ranking::{choice_of_rank, is_choice, next_choice, rank, rank_fits};
 use cellarcove::applied::rolling_hash::RollingHash;
-use cellarcove::applied::schedules::next_meeting_of;
+use cellarcove::applied::schedules::{next_meeting_of, Schedule};
 use cellarcove::checked::product_div_mod_floor;
 use cellarcove::modular::CommonSolution::{At, Beyond, Never};
 use cellarcove::{binomial, Fits};
@@ -74,14 +74,14 @@ fn items_at_their_places() {
 #[test]
 fn meetings_of_several() {
     for (now, next) in [(-128i8, At(0)), (1, Beyond)] {
-        let found = next_meeting_of(now, &[(0, 11), (0, 13), (0, 7)]);
+        let found = next_meeting_of(now, &[(0, 11).into(), (0, 13).into(), (0, 7).into()]);
         holds_at(found == next, &("next_meeting_of", now));
     }
-    let found = next_meeting_of(-128i8, &[(5, 11), (5, 13), (5, 7)]);
+    let found = next_meeting_of(-128i8, &[(5, 11).into(), (5, 13).into(), (5, 7).into()]);
     holds_at(found == At(5), &"next_meeting_of");
-    let found = next_meeting_of(0u8, &[(1, 4), (3, 6), (0, 7)]);
+    let found = next_meeting_of(0u8, &[(1, 4).into(), (3, 6).into(), (0, 7).into()]);
     holds_at(found == At(21), &"next_meeting_of");
-    let found = next_meeting_of(0u8, &[(1, 4), (3, 6), (0, 2)]);
+    let found = next_meeting_of(0u8, &[(1, 4).into(), (3, 6).into(), (0, 2).into()]);
     holds_at(found == Never, &"next_meeting_of");
     // not before the first time of any, which stands at each place of the list
     for schedules in [
@@ -89,10 +89,10 @@ fn meetings_of_several() {
         [(0, 1), (50, 10), (0, 2)],
         [(0, 1), (0, 2), (50, 10)],
     ] {
-        let found = next_meeting_of(0i8, &schedules);
+        let found = next_meeting_of(0i8, &schedules.map(Schedule::from));
         holds_at(found == At(50), &("next_meeting_of", schedules));
     }
-    let found = next_meeting_of(i64::MAX, &[(0, 1), (1, 2)]);
+    let found = next_meeting_of(i64::MAX, &[(0, 1).into(), (1, 2).into()]);
     holds_at(found == At(i64::MAX), &"next_meeting_of");
 }
 

@@ -50,13 +50,19 @@ fn residues() {
     assert_eq!(product_modulo(u64::MAX - 1, u64::MAX - 1, u64::MAX), 1);
     assert_eq!(product_modulo(i128::MIN, 2, i128::MAX), i128::MAX - 2);
     assert_eq!(inverse_modulo(3u8, 251), Some(84));
-    assert_eq!(chinese_remainder(2, 3, 3, 5), Some((8, 15)));
+    assert_eq!(
+        chinese_remainder((2, 3).into(), (3, 5).into()),
+        Some((8, 15).into())
+    );
     assert_eq!(counted::power_modulo_counted(2u8, 8, 255), (1, 3));
 }
 
 #[test]
 fn models() {
-    assert_eq!(next_meeting(10, (1, 4), (3, 6)), CommonSolution::At(21));
+    assert_eq!(
+        next_meeting(10, (1, 4).into(), (3, 6).into()),
+        CommonSolution::At(21)
+    );
     assert_eq!(paging::pages(i64::MIN, 1), i64::MIN);
     assert_eq!(layout::align_up(250u8, 8), None);
     assert_eq!(halving::lower_bound(&[1, 3, 3, 5], 4), 3);
@@ -103,7 +109,7 @@ fn places_of_before() {
         RollingHash::new(10, 97, 3)
     );
     assert_eq!(cellarcove::rounding::checked::div_round(7, 2), Some(4));
-    assert_eq!(cellarcove::schedules::count(4, 15, (3, 6)), Some(2));
+    assert_eq!(cellarcove::schedules::count(4, 15, (3, 6).into()), Some(2));
     let error: cellarcove::shares::SharesError =
         cellarcove::applied::shares::SharesError::ZeroWeights;
     assert_eq!(cellarcove::shares::shares(1, &[0], &mut [0]), Err(error));
@@ -151,7 +157,10 @@ fn one_import_of_checked_calls() {
         (checked::residue(-1, 7), checked::residue(-1, 0)),
         (Some(6), None)
     );
-    assert_eq!(checked::chinese_remainder(2, 3, 3, 5), Some((8, 15)));
+    assert_eq!(
+        checked::chinese_remainder((2, 3).into(), (3, 5).into()),
+        Some((8, 15).into())
+    );
 }
 
 /// What has no bound, holds any type.
@@ -177,7 +186,7 @@ fn comparisons_and_sets() {
     );
     assert_eq!(
         HashSet::from([
-            next_meeting(10, (1, 4), (3, 6)),
+            next_meeting(10, (1, 4).into(), (3, 6).into()),
             CommonSolution::At(21),
             CommonSolution::Never
         ])

@@ -20,7 +20,7 @@ fn times_of_bytes() {
             for from in bytes() {
                 for to in bytes() {
                     assert_eq!(
-                        count(from, to, (first, period)),
+                        count(from, to, (first, period).into()),
                         expected(from, to, first, period),
                         "{from} {to} {first} {period}"
                     );
@@ -32,18 +32,18 @@ fn times_of_bytes() {
 
 #[test]
 fn times_at_the_ends() {
-    assert_eq!(count(4, 15, (3, 6)), Some(2));
-    assert_eq!(count(-9, 15, (3, 6)), Some(3));
-    assert_eq!(count(-9, 2, (3, 6)), Some(0));
-    assert_eq!(count(15, 4, (3, 6)), Some(0));
-    assert_eq!(count(0, u64::MAX, (0, 1)), None);
-    assert_eq!(count(0, u64::MAX, (1, 1)), Some(u64::MAX));
-    assert_eq!(count(0, u64::MAX, (5, u64::MAX)), Some(1));
-    assert_eq!(count(i64::MIN, i64::MAX, (i64::MIN, 1)), None);
-    assert_eq!(count(i64::MIN, i64::MAX, (1, 1)), Some(i64::MAX));
+    assert_eq!(count(4, 15, (3, 6).into()), Some(2));
+    assert_eq!(count(-9, 15, (3, 6).into()), Some(3));
+    assert_eq!(count(-9, 2, (3, 6).into()), Some(0));
+    assert_eq!(count(15, 4, (3, 6).into()), Some(0));
+    assert_eq!(count(0, u64::MAX, (0, 1).into()), None);
+    assert_eq!(count(0, u64::MAX, (1, 1).into()), Some(u64::MAX));
+    assert_eq!(count(0, u64::MAX, (5, u64::MAX).into()), Some(1));
+    assert_eq!(count(i64::MIN, i64::MAX, (i64::MIN, 1).into()), None);
+    assert_eq!(count(i64::MIN, i64::MAX, (1, 1).into()), Some(i64::MAX));
     assert_eq!(
-        count(i64::MIN, i64::MAX, (i64::MIN, 3)),
+        count(i64::MIN, i64::MAX, (i64::MIN, 3).into()),
         Some(6148914691236517206)
     );
-    assert_eq!(count(i128::MIN, i128::MAX, (i128::MAX, 1)), Some(1));
+    assert_eq!(count(i128::MIN, i128::MAX, (i128::MAX, 1).into()), Some(1));
 }

@@ -9,7 +9,8 @@ use cellarcove::modular::CommonSolution::{self, At, Beyond, Never};
 use cellarcove::modular::{
     chinese_remainder, count_congruent, difference_modulo, inverse_modulo, negation_modulo,
     next_common_solution, next_common_solution_of, next_congruent, power_modulo,
-    previous_congruent, product_modulo, quotient_modulo, residue, solutions, sum_modulo, Modular,
+    previous_congruent, product_modulo, quotient_modulo, residue, solutions, sum_modulo,
+    Congruence, Modular,
 };
 use std::fmt::Debug;
 
@@ -150,21 +151,42 @@ fn congruences() {
         solutions(6000000000000000002u64, 4, 10000000000000000000),
         Some((4000000000000000002, 5000000000000000000))
     );
-    assert_eq!(chinese_remainder(1i64, 4, 3, 6), Some((9, 12)));
-    assert_eq!(chinese_remainder(1i64, 4, 2, 6), None);
-    assert_eq!(chinese_remainder(2i64, 3, 3, 5), Some((8, 15)));
-    assert_eq!(chinese_remainder(-1i64, 4, 5, 9), Some((23, 36)));
-    assert_eq!(chinese_remainder(7i64, 1, 3, 1), Some((0, 1)));
-    assert_eq!(chinese_remainder(3i64, 100, 53, 120), None);
-    assert_eq!(chinese_remainder(5i64, 6, 1, 4), Some((5, 12)));
-    assert_eq!(chinese_remainder(100i64, 200, 20, 80), Some((100, 400)));
     assert_eq!(
-        chinese_remainder(i64::MIN, i64::MAX, -1, 1),
-        Some((i64::MAX - 1, i64::MAX))
+        chinese_remainder((1i64, 4).into(), (3, 6).into()),
+        Some((9, 12).into())
+    );
+    assert_eq!(chinese_remainder((1i64, 4).into(), (2, 6).into()), None);
+    assert_eq!(
+        chinese_remainder((2i64, 3).into(), (3, 5).into()),
+        Some((8, 15).into())
     );
     assert_eq!(
-        chinese_remainder(5u64, 4294967291, 7, 4294967279),
-        Some((3074457330585873085, 18446743979220271189))
+        chinese_remainder((-1i64, 4).into(), (5, 9).into()),
+        Some((23, 36).into())
+    );
+    assert_eq!(
+        chinese_remainder((7i64, 1).into(), (3, 1).into()),
+        Some((0, 1).into())
+    );
+    assert_eq!(
+        chinese_remainder((3i64, 100).into(), (53, 120).into()),
+        None
+    );
+    assert_eq!(
+        chinese_remainder((5i64, 6).into(), (1, 4).into()),
+        Some((5, 12).into())
+    );
+    assert_eq!(
+        chinese_remainder((100i64, 200).into(), (20, 80).into()),
+        Some((100, 400).into())
+    );
+    assert_eq!(
+        chinese_remainder((i64::MIN, i64::MAX).into(), (-1, 1).into()),
+        Some((i64::MAX - 1, i64::MAX).into())
+    );
+    assert_eq!(
+        chinese_remainder((5u64, 4294967291).into(), (7, 4294967279).into()),
+        Some((3074457330585873085, 18446743979220271189).into())
     );
     assert_eq!(next_congruent(10i64, 1, 4), Some(13));
     assert_eq!(next_congruent(-10i64, 1, 4), Some(-7));
@@ -212,24 +234,60 @@ fn congruences() {
 
 #[test]
 fn next_common_solutions() {
-    assert_eq!(next_common_solution(10i8, 1, 4, 3, 6), At(21));
-    assert_eq!(next_common_solution(21i8, 1, 4, 3, 6), At(21));
-    assert_eq!(next_common_solution(-20i8, 1, 4, 3, 6), At(-15));
-    assert_eq!(next_common_solution(10i8, 1, 4, 2, 6), Never);
-    assert_eq!(next_common_solution(118i8, 1, 4, 3, 6), Beyond);
-    assert_eq!(next_common_solution(-128i8, 5, 10, 0, 13), At(-65));
-    assert_eq!(next_common_solution(-64i8, 5, 10, 0, 13), At(65));
-    assert_eq!(next_common_solution(66i8, 5, 10, 0, 13), Beyond);
-    assert_eq!(next_common_solution(-128i8, 2, 10, 2, 13), At(-128));
-    assert_eq!(next_common_solution(-127i8, 2, 10, 2, 13), At(2));
-    assert_eq!(next_common_solution(-128i8, 7, 127, 7, 126), At(7));
-    assert_eq!(next_common_solution(127i8, 0, 1, -1, 1), At(127));
     assert_eq!(
-        next_common_solution(0u128, 5, u128::MAX, 5, u128::MAX - 1),
+        next_common_solution(10i8, (1, 4).into(), (3, 6).into()),
+        At(21)
+    );
+    assert_eq!(
+        next_common_solution(21i8, (1, 4).into(), (3, 6).into()),
+        At(21)
+    );
+    assert_eq!(
+        next_common_solution(-20i8, (1, 4).into(), (3, 6).into()),
+        At(-15)
+    );
+    assert_eq!(
+        next_common_solution(10i8, (1, 4).into(), (2, 6).into()),
+        Never
+    );
+    assert_eq!(
+        next_common_solution(118i8, (1, 4).into(), (3, 6).into()),
+        Beyond
+    );
+    assert_eq!(
+        next_common_solution(-128i8, (5, 10).into(), (0, 13).into()),
+        At(-65)
+    );
+    assert_eq!(
+        next_common_solution(-64i8, (5, 10).into(), (0, 13).into()),
+        At(65)
+    );
+    assert_eq!(
+        next_common_solution(66i8, (5, 10).into(), (0, 13).into()),
+        Beyond
+    );
+    assert_eq!(
+        next_common_solution(-128i8, (2, 10).into(), (2, 13).into()),
+        At(-128)
+    );
+    assert_eq!(
+        next_common_solution(-127i8, (2, 10).into(), (2, 13).into()),
+        At(2)
+    );
+    assert_eq!(
+        next_common_solution(-128i8, (7, 127).into(), (7, 126).into()),
+        At(7)
+    );
+    assert_eq!(
+        next_common_solution(127i8, (0, 1).into(), (-1, 1).into()),
+        At(127)
+    );
+    assert_eq!(
+        next_common_solution(0u128, (5, u128::MAX).into(), (5, u128::MAX - 1).into()),
         At(5)
     );
     assert_eq!(
-        next_common_solution(6u128, 5, u128::MAX, 5, u128::MAX - 1),
+        next_common_solution(6u128, (5, u128::MAX).into(), (5, u128::MAX - 1).into()),
         Beyond
     );
 }
@@ -357,23 +415,29 @@ fn pages_parts_offsets_and_middles() {
 
 #[test]
 fn meetings() {
-    assert_eq!(next_meeting(10i8, (1, 4), (3, 6)), At(21));
-    assert_eq!(next_meeting(21i8, (1, 4), (3, 6)), At(21));
-    assert_eq!(next_meeting(0i8, (1, 4), (2, 6)), Never);
-    assert_eq!(next_meeting(-20i8, (-5, 6), (1, 4)), At(1));
-    assert_eq!(next_meeting(5i8, (100, 7), (3, 5)), Beyond);
-    assert_eq!(next_meeting(5i8, (93, 7), (3, 5)), At(93));
-    assert_eq!(next_meeting(100i8, (1, 4), (3, 6)), At(105));
-    assert_eq!(next_meeting(100i8, (0, 10), (0, 12)), At(120));
-    assert_eq!(next_meeting(5i8, (5, 10), (0, 13)), At(65));
-    assert_eq!(next_meeting(66i8, (5, 10), (0, 13)), Beyond);
-    assert_eq!(next_meeting(-128i8, (-128, 127), (-128, 126)), At(-128));
+    assert_eq!(next_meeting(10i8, (1, 4).into(), (3, 6).into()), At(21));
+    assert_eq!(next_meeting(21i8, (1, 4).into(), (3, 6).into()), At(21));
+    assert_eq!(next_meeting(0i8, (1, 4).into(), (2, 6).into()), Never);
+    assert_eq!(next_meeting(-20i8, (-5, 6).into(), (1, 4).into()), At(1));
+    assert_eq!(next_meeting(5i8, (100, 7).into(), (3, 5).into()), Beyond);
+    assert_eq!(next_meeting(5i8, (93, 7).into(), (3, 5).into()), At(93));
+    assert_eq!(next_meeting(100i8, (1, 4).into(), (3, 6).into()), At(105));
+    assert_eq!(next_meeting(100i8, (0, 10).into(), (0, 12).into()), At(120));
+    assert_eq!(next_meeting(5i8, (5, 10).into(), (0, 13).into()), At(65));
+    assert_eq!(next_meeting(66i8, (5, 10).into(), (0, 13).into()), Beyond);
+    assert_eq!(
+        next_meeting(-128i8, (-128, 127).into(), (-128, 126).into()),
+        At(-128)
+    );
     // not before the first time of either
-    assert_eq!(next_meeting(0i8, (0, 1), (50, 10)), At(50));
-    assert_eq!(next_meeting(0i8, (50, 10), (0, 1)), At(50));
-    assert_eq!(next_meeting(-128i8, (-3, 4), (61, 32)), At(61));
-    assert_eq!(next_meeting(10u8, (1, 4), (3, 6)), At(21));
-    assert_eq!(next_meeting(250u8, (1, 4), (3, 6)), Beyond);
+    assert_eq!(next_meeting(0i8, (0, 1).into(), (50, 10).into()), At(50));
+    assert_eq!(next_meeting(0i8, (50, 10).into(), (0, 1).into()), At(50));
+    assert_eq!(
+        next_meeting(-128i8, (-3, 4).into(), (61, 32).into()),
+        At(61)
+    );
+    assert_eq!(next_meeting(10u8, (1, 4).into(), (3, 6).into()), At(21));
+    assert_eq!(next_meeting(250u8, (1, 4).into(), (3, 6).into()), Beyond);
 }
 
 /// Where to begin, three congruences, and the next number that solves each.
@@ -394,26 +458,35 @@ const NEXT_OF_THREE: [Row; 8] = [
 #[test]
 fn next_common_solutions_of_several() {
     for (from, congruences, next) in NEXT_OF_THREE {
-        let found = next_common_solution_of(from, &congruences);
+        let found = next_common_solution_of(from, &congruences.map(Congruence::from));
         assert_eq!(found, next, "{from} {congruences:?}");
     }
     assert_eq!(next_common_solution_of(127i8, &[]), At(127));
-    assert_eq!(next_common_solution_of(-128i8, &[(-1, 127)]), At(-128));
+    assert_eq!(
+        next_common_solution_of(-128i8, &[(-1, 127).into()]),
+        At(-128)
+    );
     // No type has the common multiple of these moduli.
     let (m, n, k) = (u128::MAX, u128::MAX - 1, u128::MAX - 2);
-    assert_eq!(next_common_solution_of(0, &[(5, m), (5, n), (5, k)]), At(5));
     assert_eq!(
-        next_common_solution_of(6, &[(5, m), (5, n), (5, k)]),
+        next_common_solution_of(0, &[(5, m).into(), (5, n).into(), (5, k).into()]),
+        At(5)
+    );
+    assert_eq!(
+        next_common_solution_of(6, &[(5, m).into(), (5, n).into(), (5, k).into()]),
         Beyond
     );
-    assert_eq!(next_common_solution_of(0, &[(5, m), (5, n), (4, n)]), Never);
+    assert_eq!(
+        next_common_solution_of(0, &[(5, m).into(), (5, n).into(), (4, n).into()]),
+        Never
+    );
     let (least, m) = (i64::MIN, i64::MAX);
     assert_eq!(
-        next_common_solution_of(least, &[(-1, m), (-1, m - 1), (-1, 7)]),
+        next_common_solution_of(least, &[(-1, m).into(), (-1, m - 1).into(), (-1, 7).into()]),
         At(-1)
     );
     assert_eq!(
-        next_common_solution_of(least, &[(0, m), (-1, m - 1)]),
+        next_common_solution_of(least, &[(0, m).into(), (-1, m - 1).into()]),
         At(-m)
     );
 }
@@ -455,14 +528,14 @@ macro_rules! residues_at_the_ends {
                         quotient(w, z).map(|first| (first, M))
                     };
                     assert_eq!(solutions(a, b, M), class, "{a} {b}");
-                    let both = (z == w).then_some((rest(z), M));
-                    assert_eq!(chinese_remainder(a, M, b, M), both, "{a} {b}");
+                    let both = (z == w).then_some((rest(z), M).into());
+                    assert_eq!(chinese_remainder((a, M).into(), (b, M).into()), both, "{a} {b}");
                     let next = a.checked_add(rest(w - z));
                     assert_eq!(next_congruent(a, b, M), next, "{a} {b}");
                     let solution = next.map_or(Beyond, At);
-                    assert_eq!(next_common_solution(a, b, M, b, M), solution, "{a} {b}");
+                    assert_eq!(next_common_solution(a, (b, M).into(), (b, M).into()), solution, "{a} {b}");
                     let itself = if z == w { At(a) } else { Never };
-                    assert_eq!(next_common_solution(a, a, M, b, M), itself, "{a} {b}");
+                    assert_eq!(next_common_solution(a, (a, M).into(), (b, M).into()), itself, "{a} {b}");
                 }
             }
         }

@@ -40,8 +40,6 @@ SAME = {
     ('integer_core/guards.rs', '',
      '(number >= T::zero() || number == crate::taken_out::minus_one()) '
      '&& number.magnitude() == magnitude'): 'no number of magnitude 1 is made of another magnitude',
-    ('modular/common_solutions.rs', MODULUS, '!is_below(m, zero())'): LATER,
-    ('modular/common_solutions.rs', MODULUS, '!is_below(n, zero())'): LATER,
     ('rolling_hash.rs', MODULUS, ''): LATER,
     ('rolling_hash.rs', MODULUS, 'modulus >= 0'): LATER,
     ('rolling_hash.rs', MODULUS, 'base > 0'): LATER}

@@ -81,7 +81,7 @@ def of_number(argument: str) -> Iterator[str]:
 
 # What is tried of each argument of a guard but its reason, beside other parameters.
 KINDS = {'check': (of_condition,), 'check_none_negative': (of_list,),
-         'check_second_positive': (of_list,), 'check_choice': (of_list, of_number),
+         'check_moduli': (of_list,), 'check_choice': (of_list, of_number),
          'check_rank': (of_number, of_number, of_number), 'check_pair': (), 'check_lcm': ()}
 
 

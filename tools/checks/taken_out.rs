@@ -6,6 +6,7 @@ extern crate std;
 use crate::guards as tests;
 use crate::integer_core::guards;
 use crate::integer_core::{Integer, Magnitudes};
+use crate::modular::several_congruences::HasCongruence;
 use num_traits::Num;
 use std::sync::OnceLock;
 
@@ -111,13 +112,13 @@ pub(crate) fn check_none_negative<T: Integer>(number: usize, numbers: &[T], reas
 }
 
 #[track_caller]
-pub(crate) fn check_second_positive<T: Integer>(
+pub(crate) fn check_moduli<T: Integer, C: HasCongruence<T>>(
     number: usize,
-    pairs: &[(T, T)],
+    congruences: &[C],
     reason: &'static str,
 ) {
     if !is_out(number) {
-        guards::check_second_positive(pairs, reason);
+        crate::modular::guards::check_moduli(congruences, reason);
     }
 }
 

@@ -16,8 +16,8 @@ ALONE = re.compile(
     r'(?:(?<=[.] )|^)`[^`]+` is `[^`]+`(?:(?:,|, and| and) `[^`]+` is `[^`]+`)*\.(?: |$)')
 TEXT = r'"(?:[^"\\]|\\.)*"'
 NATIVE = r'\b[iu](?:8|16|32|64|128|size)'
-# Names that stand alone or begin a path, and names of methods.
-NAME = re.compile(rf'{TEXT}|(?<![\w.:])([A-Za-z_]\w*)')
+# Names that stand alone or begin a path, but no names of fields, and names of methods.
+NAME = re.compile(rf'{TEXT}|(?<![\w.:])([A-Za-z_]\w*)\b(?!:(?!:))')
 METHOD = re.compile(rf'{TEXT}|(?:\.|{NATIVE}::)(\w+)\(')
 
 

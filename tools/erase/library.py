@@ -25,7 +25,8 @@ JOINED = ('checked', 'counted')
 # there needs it.
 WITHIN = {('integer_core', 'counted'), ('integer_core', 'guards'), ('integer_core', 'padded'),
           ('integer_core', 'fitting'), ('integer_roots', 'counted'),
-          ('num_integer', 'sign_magnitude'), ('applied', 'guards')}
+          ('num_integer', 'sign_magnitude'), ('modular', 'guards'),
+          ('modular', 'several_congruences'), ('applied', 'guards')}
 # The public items that are private in the Rust crate, for the same reason.
 HIDDEN = {('integer_core', 'Magnitudes')}
 NOT_READ = {'tests', 'assertions'}               # modules that only tests have

@@ -8,12 +8,13 @@ pub use Rattle.applied.specs.Powers.{IsLogarithm}
 pub use Rattle.applied.specs.Ranking.{IsBefore, IsChoice, IsChoiceOfRank, IsFirstToRise, IsLastChoice}
 pub use Rattle.applied.specs.ReducedPairs.{HasSignOf, IsReducedPair}
 pub use Rattle.applied.specs.Rounding.{AnswersQuotient}
+pub use Rattle.applied.specs.declared.schedules.Schedule.{Schedule}
 pub use Rattle.applied.specs.Schedules.{HaveBegun, IsCountOfTimes, IsLeastTime, IsMeeting, IsMeetingOfEach, IsTimeTo}
 pub use Rattle.applied.specs.Shares.{AreShares, AreSharesByRemainder, AreSignedShares, AreSignedSharesByRemainder, IsNearShare, RoundsShare, count_from, remainder_of, rounded_down, signed_sum}
 pub use Rattle.applied.specs.Totals.{wrapped}
 pub use Rattle.modular.proofs.ForCallers.{congruent_difference, congruent_product, congruent_refl, congruent_sum, congruent_trans, congruent_equal}
 pub use Rattle.modular.proofs.Laws.{count_is_only}
-pub use Rattle.modular.specs.Congruences.{AreCongruent, IsCongruentUpTo, IsCountOfCongruent, IsResidue, SolvesBothCongruences, SolvesEach}
+pub use Rattle.modular.specs.Congruences.{AreCongruent, IsCongruentUpTo, IsCountOfCongruent, IsResidue, SolvesBothCongruences, SolvesEachItem}
 pub use Rattle.modular.specs.Counts.{AreAllFrom}
 pub use Rattle.modular.specs.declared.common_solutions.CommonSolution.{CommonSolution}
 pub use Rattle.modular.specs.declared.common_solutions.CommonSolution.TheVariants.{At, Beyond, Never}

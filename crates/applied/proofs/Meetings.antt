@@ -1,5 +1,5 @@
 -- Meetings of schedules, from solutions of their congruences from a time on at which all have begun.
-use Rattle.applied.proofs.Common.{◌+ℤ◌, pos, ◌≡◌, ◌<◌, ◌+◌, ◌≤ℤ◌, ◌∷◌, ℕ, ℤ, List, [], Option, Some, None, MatchOption, FitsWith, AreAllFrom, IsCongruentUpTo, IsCountOfCongruent, IsCountOfTimes, IsTimeTo, arith, cases_lt, get_or_read, length, slice_index_or, linear, SolvesBothCongruences, SolvesEach, IsLeastFrom, CommonSolution, At, Beyond, Never, HaveBegun, IsLeastTime, IsMeeting, IsMeetingOfEach}
+use Rattle.applied.proofs.Common.{◌+ℤ◌, pos, ◌≡◌, ◌<◌, ◌+◌, ◌≤ℤ◌, ◌∷◌, ℕ, ℤ, List, [], Option, Some, None, MatchOption, FitsWith, AreAllFrom, IsCongruentUpTo, IsCountOfCongruent, IsCountOfTimes, IsTimeTo, arith, cases_lt, get_or_read, length, slice_index_or, linear, SolvesBothCongruences, SolvesEachItem, IsLeastFrom, CommonSolution, At, Beyond, Never, HaveBegun, IsLeastTime, IsMeeting, IsMeetingOfEach, Schedule}
 
 -- the next solution from the least time on at which all have begun is the next meeting
 module _ {now from : ℤ} {Begun Solves Meets : ℤ → Type 0} (begun : IsLeastFrom now Begun from) (meets : (t : ℤ) → from ≤ℤ t → Solves t → Meets t) (apart : (t : ℤ) → Meets t → Begun t × Solves t) where
@@ -21,17 +21,17 @@ meeting_of_solution value fits {a = a} {b = b} p q m start from = result_is {Sol
     (λ t h. (start.least t h.of_first.from_first h.of_second.from_first, record { first = h.of_first.congruent; second = h.of_second.congruent }))
     value fits m
 
-pub meeting_of_each : {X : Type 0} (value : X → ℤ) (fits : ℤ → Type 0) (schedules : List (X × X)) {now from : ℤ} (m : CommonSolution X) → IsLeastFrom now (HaveBegun value schedules) from
-    → IsLeastTime value fits from (SolvesEach value schedules) m → IsLeastTime value fits now (IsMeetingOfEach value schedules) m
-meeting_of_each value fits schedules m from = result_is {Solves = SolvesEach value schedules} {Meets = IsMeetingOfEach value schedules} from
+pub meeting_of_each : {X : Type 0} (value : X → ℤ) (fits : ℤ → Type 0) (schedules : List (Schedule X)) {now from : ℤ} (m : CommonSolution X) → IsLeastFrom now (HaveBegun value schedules) from
+    → IsLeastTime value fits from (SolvesEachItem (λ s. value s.first) (λ s. value s.period) schedules) m → IsLeastTime value fits now (IsMeetingOfEach value schedules) m
+meeting_of_each value fits schedules m from = result_is {Solves = SolvesEachItem (λ s. value s.first) (λ s. value s.period) schedules} {Meets = IsMeetingOfEach value schedules} from
     (λ t after solves i d within. record { from_first = omega (arith, linear, from.holds i d within); congruent = solves i d within })
     (λ t h. (λ i d within. (h i d within).from_first, λ i d within. (h i d within).congruent)) value fits m
 
 -- ---- the latest first time
 
 -- with one more schedule the time is not before the first times so far
-pub begun_more : {X : Type 0} (value : X → ℤ) (schedules : List (X × X)) (k : ℕ) (schedule : X × X) {before after : ℤ} → k < length schedules → schedule ≡ slice_index_or schedules k schedule → before ≤ℤ after → value schedule.0 ≤ℤ after
-    → ((i : ℕ) (d : X × X) → i < k → value (slice_index_or schedules i d).0 ≤ℤ before) → (i : ℕ) (d : X × X) → i < k + 1 → value (slice_index_or schedules i d).0 ≤ℤ after
+pub begun_more : {X : Type 0} (value : X → ℤ) (schedules : List (Schedule X)) (k : ℕ) (schedule : Schedule X) {before after : ℤ} → k < length schedules → schedule ≡ slice_index_or schedules k schedule → before ≤ℤ after → value schedule.first ≤ℤ after
+    → ((i : ℕ) (d : Schedule X) → i < k → value (slice_index_or schedules i d).first ≤ℤ before) → (i : ℕ) (d : Schedule X) → i < k + 1 → value (slice_index_or schedules i d).first ≤ℤ after
 begun_more value schedules k schedule within is later own begun i d upto = grind (arith, cases_lt, linear, get_or_read)
 
 -- ---- the times of one schedule

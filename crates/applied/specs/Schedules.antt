@@ -6,6 +6,7 @@ use Rattle.modular.specs.Congruences.{AreCongruent}
 use Rattle.modular.specs.Counts.{IsCountFrom}
 use Rattle.modular.specs.declared.common_solutions.CommonSolution.{CommonSolution}
 use Rattle.num_integer.specs.Least.{IsLeastFrom}
+use Rattle.applied.specs.declared.schedules.Schedule.{Schedule}
 
 -- The time t is the first time, or a whole number of periods after it.
 -- Examples: first 3, period 6: 3; 9; 15; not -3; not 4.
@@ -30,15 +31,15 @@ pub record IsMeeting (a p b q t : ℤ) : Type 0 where
   pub of_first : IsTime a p t
   pub of_second : IsTime b q t
 
--- The time t is in each schedule of the list. A schedule is a pair of a first time and a period.
--- Examples: (1, 4), (3, 6), (0, 7): 21; 105; not 9. The empty list: every time.
-abbrev pub IsMeetingOfEach : {X : Type 0} → (X → ℤ) → List (X × X) → ℤ → Type 0
-IsMeetingOfEach value schedules t = All (λ s. IsTime (value s.0) (value s.1) t) schedules
+-- The time t is in each schedule of the list.
+-- Examples: first 1, period 4; first 3, period 6; first 0, period 7: 21; 105; not 9. The empty list: every time.
+abbrev pub IsMeetingOfEach : {X : Type 0} → (X → ℤ) → List (Schedule X) → ℤ → Type 0
+IsMeetingOfEach value schedules t = All (λ s. IsTime (value s.first) (value s.period) t) schedules
 
 -- The time t is not before the first time of any schedule in the list.
--- Examples: (1, 4), (3, 6): 3; 4; not 2.
-abbrev pub HaveBegun : {X : Type 0} → (X → ℤ) → List (X × X) → ℤ → Type 0
-HaveBegun value schedules t = All (λ s. value s.0 ≤ℤ t) schedules
+-- Examples: first 1, period 4; first 3, period 6: 3; 4; not 2.
+abbrev pub HaveBegun : {X : Type 0} → (X → ℤ) → List (Schedule X) → ℤ → Type 0
+HaveBegun value schedules t = All (λ s. value s.first ≤ℤ t) schedules
 
 -- The result is the first time from `now` on that satisfies P: `At` that time if it fits, and `Beyond` if it does not. It is `Never` if no time
 -- satisfies P.

@@ -186,15 +186,15 @@ pub fn next_meeting_and_wait(
     first: Schedule<u32>,
     second: Schedule<u32>,
 ) -> Option<(u32, u32)>
-    requires first { 0 < first.1 }
-    requires second { 0 < second.1 }
+    requires first { 0 < first.period }
+    requires second { 0 < second.period }
     ensures { MatchOption result
-        (((t : ℤ) → ¬ (IsMeeting (pos first.0) (pos first.1) (pos second.0) (pos second.1) t))
+        (((t : ℤ) → ¬ (IsMeeting (pos first.first) (pos first.period) (pos second.first) (pos second.period) t))
         ⊎ ((t : ℤ) × IsLeastFrom (pos now)
-        (IsMeeting (pos first.0) (pos first.1) (pos second.0) (pos second.1)) t
+        (IsMeeting (pos first.first) (pos first.period) (pos second.first) (pos second.period)) t
         × ¬ (FitsUnsignedBits 32 t)))
         (λ r. IsLeastFrom (pos now)
-        (IsMeeting (pos first.0) (pos first.1) (pos second.0) (pos second.1)) (pos r.0)
+        (IsMeeting (pos first.first) (pos first.period) (pos second.first) (pos second.period)) (pos r.0)
         × (now + r.1 ≡ r.0)) }
 {
     match next_meeting(now, first, second) {
@@ -205,11 +205,11 @@ pub fn next_meeting_and_wait(
 
 /// Returns how many buses of the timetable leave in `from..=to`, or `None` if the number does not fit.
 pub fn buses(from: u32, to: u32, timetable: Schedule<u32>) -> Option<u32>
-    requires { 0 < timetable.1 }
+    requires { 0 < timetable.period }
     ensures { MatchOption result
-        ((n : ℤ) × IsCountOfTimes (pos from) (pos to) (pos timetable.0) (pos timetable.1) n
+        ((n : ℤ) × IsCountOfTimes (pos from) (pos to) (pos timetable.first) (pos timetable.period) n
         × ¬ (FitsUnsignedBits 32 n))
-        (λ n. IsCountOfTimes (pos from) (pos to) (pos timetable.0) (pos timetable.1) (pos n)) }
+        (λ n. IsCountOfTimes (pos from) (pos to) (pos timetable.first) (pos timetable.period) (pos n)) }
 {
     let buses = count(from, to, timetable)?;
     Some(buses)

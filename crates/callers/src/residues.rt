@@ -9,8 +9,8 @@ ghost use Rattle.num_integer.specs.Least.{IsLeastFrom};
 ghost use Rattle.num_integer.specs.Range.{EachFits};
 
 use modular::{
-    CommonSolution, checked, difference_modulo, inverse_modulo, negation_modulo, next_congruent,
-    power_modulo, previous_congruent, product_modulo, sum_modulo,
+    CommonSolution, Congruence, checked, difference_modulo, inverse_modulo, negation_modulo,
+    next_congruent, power_modulo, previous_congruent, product_modulo, sum_modulo,
 };
 
 // ---- results that are known in advance
@@ -244,7 +244,15 @@ pub fn next_of_both(from: i64, a: i64, m: i64, b: i64, n: i64) -> CommonSolution
         ((t : ℤ) × IsNextCommonSolution from a m b n t × ¬ (FitsSigned w64 t))
         (λ t. IsNextCommonSolution from a m b n t) }
 {
-    match checked::next_common_solution(from, a, m, b, n) {
+    let first = Congruence {
+        residue: a,
+        modulus: m,
+    };
+    let second = Congruence {
+        residue: b,
+        modulus: n,
+    };
+    match checked::next_common_solution(from, first, second) {
         Some(next) => next,
         None => CommonSolution::Never,
     }
@@ -254,19 +262,21 @@ pub fn next_of_both(from: i64, a: i64, m: i64, b: i64, n: i64) -> CommonSolution
 
 /// Returns the numbers that solve two congruences, as the smallest and the step. Returns `None` if a modulus is 0, if
 /// the least common multiple does not fit, or if there is no such number.
-pub fn class_at_every_modulus(a: u64, m: u64, b: u64, n: u64) -> Option<(u64, u64)>
-    ensures { MatchWhere ((pos 0 <ℤ pos m) × (pos 0 <ℤ pos n)
-        × EachFits (FitsUnsignedBits 64) (IsLeastCommonMultiple (pos m) (pos n))) result
-        ((x : ℤ) → ¬ (SolvesBothCongruences (pos a) (pos m) (pos b) (pos n) x))
-        (λ s. IsResidueClass (SolvesBothCongruences (pos a) (pos m) (pos b) (pos n)) (pos s.0) (pos s.1)) }
+pub fn class_at_every_modulus(a: Congruence<u64>, b: Congruence<u64>) -> Option<Congruence<u64>>
+    ensures { MatchWhere ((pos 0 <ℤ pos a.modulus) × (pos 0 <ℤ pos b.modulus)
+        × EachFits (FitsUnsignedBits 64) (IsLeastCommonMultiple (pos a.modulus) (pos b.modulus))) result
+        ((x : ℤ) → ¬ (SolvesBothCongruences (pos a.residue) (pos a.modulus)
+        (pos b.residue) (pos b.modulus) x))
+        (λ c. IsResidueClass (SolvesBothCongruences (pos a.residue) (pos a.modulus)
+        (pos b.residue) (pos b.modulus)) (pos c.residue) (pos c.modulus)) }
 {
-    checked::chinese_remainder(a, m, b, n)
+    checked::chinese_remainder(a, b)
 }
 
 /// Returns the next number that solves each congruence, or `None`. The contract does not say when it is `None`.
-pub fn next_of_each_at_every_modulus(from: i64, congruences: &[(i64, i64)]) -> Option<i64>
-    requires { All (λ c. FitsSigned w64 c.0 × FitsSigned w64 c.1) congruences.now }
-    ensures { IfSome result (λ t. All (λ c. pos 0 <ℤ c.1) congruences.now
+pub fn next_of_each_at_every_modulus(from: i64, congruences: &[Congruence<i64>]) -> Option<i64>
+    requires { All (λ c. FitsSigned w64 c.residue × FitsSigned w64 c.modulus) congruences.now }
+    ensures { IfSome result (λ t. All (λ c. pos 0 <ℤ c.modulus) congruences.now
         × IsLeastFrom from (SolvesEach (λ x. x) congruences.now) t) }
 {
     match checked::next_common_solution_of(from, congruences) {

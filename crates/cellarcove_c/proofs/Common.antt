@@ -21,6 +21,7 @@ pub use Rattle.num_integer.specs.Range.{EachFits}
 pub use Rattle.modular.proofs.ForCallers.{congruent_refl}
 pub use Rattle.modular.proofs.Laws.{residue_class_is_only}
 pub use Rattle.modular.specs.CommonSolutions.{MatchCommonSolution}
+pub use Rattle.modular.specs.declared.congruent_numbers.Congruence.{Congruence}
 pub use Rattle.modular.specs.Congruences.{IsResidueClass, SolvesBothCongruences, SolvesEach}
 pub use Rattle.modular.specs.declared.common_solutions.CommonSolution.{CommonSolution}
 pub use Rattle.modular.specs.declared.common_solutions.CommonSolution.TheVariants.{At, Beyond, Never}

@@ -1,14 +1,14 @@
 -- Congruences, copied one by one.
-use Rattle.cellarcove_c.proofs.Common.{◌≡◌, ◌<◌, ◌≤◌, ◌<ℤ◌, ◌+◌, ℕ, ℤ, pos, List, [], ◌∷◌, ◌++◌, length, map, All, ◌∙◌, ap, arith, get_or, set, subst, sym, take, get_or-map, length-map, map_more, take_all, take_more_set, All-get_or, All-push}
+use Rattle.cellarcove_c.proofs.Common.{◌≡◌, ◌<◌, ◌≤◌, ◌<ℤ◌, ◌+◌, ℕ, ℤ, pos, List, [], ◌∷◌, ◌++◌, length, map, All, Congruence, ◌∙◌, ap, arith, get_or, set, subst, sym, take, get_or-map, length-map, map_more, take_all, take_more_set, All-get_or, All-push}
 
 -- the first i pairs are those of the first i congruences, and have a property
 pub record AreCopied {C P : Type 0} (pair : C → P) (Has : P → Type 0) (congruences : List C) (pairs : List P) (i : ℕ) : Type 0 where
   pub copied : take i pairs ≡ map pair (take i congruences)
   pub each : All Has (take i pairs)
 
--- both numbers of a pair are in range, and its modulus is positive
-abbrev pub IsPair : {X : Type 0} → (X → ℤ) → (ℤ → Type 0) → X × X → Type 0
-IsPair value fits p = fits (value p.0) × fits (value p.1) × (pos 0 <ℤ value p.1)
+-- residue and modulus of a congruence are in range, and its modulus is positive
+abbrev pub IsWithModulus : {X : Type 0} → (X → ℤ) → (ℤ → Type 0) → Congruence X → Type 0
+IsWithModulus value fits c = fits (value c.residue) × fits (value c.modulus) × (pos 0 <ℤ value c.modulus)
 
 module _ {C P : Type 0} (pair : C → P) (Has : P → Type 0) (congruences : List C) where
   -- with one more

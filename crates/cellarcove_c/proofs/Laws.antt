@@ -1,5 +1,5 @@
 -- The laws of specs/Laws.antt, a lemma each.
-use Rattle.cellarcove_c.proofs.Common.{◌≡◌, ◌≢◌, ◌⊎◌, ◌↔◌, ◌<◌, ◌≤◌, ◌+◌, ◌*◌, ◌<ℤ◌, ◌≤ℤ◌, ◌+ℤ◌, ◌-ℤ◌, ℕ, ℤ, zero, suc, pos, Bool, List, FitsSigned, IfSome, IsTrue, MatchOption, MatchResult, Option, Some, None, Ok, Err, Result, w64, ◌∙◌, ap, arith, inl, inr, mul-le-mul_right, refl, subst, sym, by_lt_z, ext_get_or, get_or, ints, Divides_difference, least_is_only, linear, sizes, small_multiple_is_zero, quotient_is_only, remainder_is_only, root_is_only, IsRemainder, IsTruncated, Divides, IsLeastCommonMultiple, IsLeastFrom, residue_class_is_only, MatchCommonSolution, IsResidueClass, SolvesBothCongruences, SolvesEach, HasParts, IsMonthsBetween, IsYearsBetween, Date, Weekday, same_month, date_of_parts_is_only, iso_number_is_only, text_is_only, IsBeyond, IsClassOfBoth, IsNever, IsNextOfSeveral, IsReasonOfCongruences, IsReasonOfSeveral, HasText, ReadsDate, HasDigits, bad_modulus, common_solution_of, no_solution, not_fitting, outside, FractionAnswer, answer_is_only, rounded_even_is_only, den_of, num_of, RatioError, Ratio}
+use Rattle.cellarcove_c.proofs.Common.{◌≡◌, ◌≢◌, ◌⊎◌, ◌↔◌, ◌<◌, ◌≤◌, ◌+◌, ◌*◌, ◌<ℤ◌, ◌≤ℤ◌, ◌+ℤ◌, ◌-ℤ◌, ℕ, ℤ, zero, suc, pos, Bool, List, FitsSigned, IfSome, IsTrue, MatchOption, MatchResult, Option, Some, None, Ok, Err, Result, w64, ◌∙◌, ap, arith, inl, inr, mul-le-mul_right, refl, subst, sym, by_lt_z, ext_get_or, get_or, ints, Divides_difference, least_is_only, linear, sizes, small_multiple_is_zero, quotient_is_only, remainder_is_only, root_is_only, IsRemainder, IsTruncated, Divides, IsLeastCommonMultiple, IsLeastFrom, residue_class_is_only, MatchCommonSolution, Congruence, IsResidueClass, SolvesBothCongruences, SolvesEach, HasParts, IsMonthsBetween, IsYearsBetween, Date, Weekday, same_month, date_of_parts_is_only, iso_number_is_only, text_is_only, IsBeyond, IsClassOfBoth, IsNever, IsNextOfSeveral, IsReasonOfCongruences, IsReasonOfSeveral, HasText, ReadsDate, HasDigits, bad_modulus, common_solution_of, no_solution, not_fitting, outside, FractionAnswer, answer_is_only, rounded_even_is_only, den_of, num_of, RatioError, Ratio}
 use Rattle.cellarcove_c.specs.Laws as law
 use Rattle.calendar.proofs.Laws.{months_between_is_only as whole_months_are_only, years_between_is_only as whole_years_are_only}
 use Rattle.cellarcove_c.specs.declared.dates.Date.{Date as Parts}
@@ -59,36 +59,36 @@ class_of_both_is_only value fits a m b n zeros zero zero c d injective decided h
 class_of_both_is_only value fits a m b n zeros s (suc t) c d injective decided h k = grind (arith, reason_of_both value fits h k)
 class_of_both_is_only value fits a m b n zeros (suc s) t c d injective decided h k = grind (arith, reason_of_both value fits k h)
 
-module _ {X : Type 0} (value : X → ℤ) (fits : ℤ → Type 0) {from : ℤ} {pairs : List (X × X)} {zero_value : X} where
+module _ {X : Type 0} (value : X → ℤ) (fits : ℤ → Type 0) {from : ℤ} {congruences : List (Congruence X)} {zero_value : X} where
   -- a status that says neither that there are too many congruences nor that a modulus is not positive
-  solved : {s : ℕ} {x : X} → IsNextOfSeveral value fits from pairs zero_value s x → s ≢ outside → s ≢ bad_modulus
-      → MatchCommonSolution (common_solution_of s x) (IsNever (SolvesEach value pairs)) (IsBeyond fits (IsLeastFrom from (SolvesEach value pairs))) (λ t. IsLeastFrom from (SolvesEach value pairs) (value t))
+  solved : {s : ℕ} {x : X} → IsNextOfSeveral value fits from congruences zero_value s x → s ≢ outside → s ≢ bad_modulus
+      → MatchCommonSolution (common_solution_of s x) (IsNever (SolvesEach value congruences)) (IsBeyond fits (IsLeastFrom from (SolvesEach value congruences))) (λ t. IsLeastFrom from (SolvesEach value congruences) (value t))
   solved h other another = grind arith
 
-  least_of : {x : X} → IsNextOfSeveral value fits from pairs zero_value 0 x → IsLeastFrom from (SolvesEach value pairs) (value x)
+  least_of : {x : X} → IsNextOfSeveral value fits from congruences zero_value 0 x → IsLeastFrom from (SolvesEach value congruences) (value x)
   least_of h = solved h (λ same. absurd (omega (arith, same))) (λ same. absurd (omega (arith, same)))
 
-  beyond_of : {s : ℕ} {x : X} → IsNextOfSeveral value fits from pairs zero_value s x → s ≡ not_fitting → IsBeyond fits (IsLeastFrom from (SolvesEach value pairs))
+  beyond_of : {s : ℕ} {x : X} → IsNextOfSeveral value fits from congruences zero_value s x → s ≡ not_fitting → IsBeyond fits (IsLeastFrom from (SolvesEach value congruences))
   beyond_of h far = rw far at (solved h (λ same. absurd (omega (arith, far, same))) (λ same. absurd (omega (arith, far, same))))
 
-  never_of : {s : ℕ} {x : X} → IsNextOfSeveral value fits from pairs zero_value s x → s ≡ no_solution → IsNever (SolvesEach value pairs)
+  never_of : {s : ℕ} {x : X} → IsNextOfSeveral value fits from congruences zero_value s x → s ≡ no_solution → IsNever (SolvesEach value congruences)
   never_of h none = rw none at (solved h (λ same. absurd (omega (arith, none, same))) (λ same. absurd (omega (arith, none, same))))
 
   -- if one result has a number that fits, no other has a reason
-  no_reason : {t : ℕ} {x y : X} → fits (value x) → IsNextOfSeveral value fits from pairs zero_value 0 x → IsNextOfSeveral value fits from pairs zero_value t y → IsReasonOfSeveral t → ⊥
+  no_reason : {t : ℕ} {x y : X} → fits (value x) → IsNextOfSeveral value fits from congruences zero_value 0 x → IsNextOfSeveral value fits from congruences zero_value t y → IsReasonOfSeveral t → ⊥
   no_reason in_range h k (inl more) = omega (arith, h.too_many.1 (k.too_many.0 more))
   no_reason in_range h k (inr (inl bad)) = omega (arith, h.modulus_is_bad.1 (k.modulus_is_bad.0 bad))
   no_reason in_range h k (inr (inr (inl far))) = let (z, least, beyond) = beyond_of k far in beyond (subst fits (least_is_only least _ (least_of h)) in_range)
   no_reason in_range h k (inr (inr (inr none))) = never_of k none _ (least_of h).holds
 
 pub next_of_several_is_only : {X : Type 0} (value : X → ℤ) (fits : ℤ → Type 0) → law.NextOfSeveralIsOnly value fits
-next_of_several_is_only value fits from pairs zero_value zero zero x y injective p q h k =
+next_of_several_is_only value fits from congruences zero_value zero zero x y injective p q h k =
     (refl, injective x y (least_is_only (least_of value fits k) _ (least_of value fits h)))
-next_of_several_is_only value fits from pairs zero_value zero (suc t) x y injective p q h k =
+next_of_several_is_only value fits from congruences zero_value zero (suc t) x y injective p q h k =
     absurd (no_reason value fits p h k (k.refusal nonzero).1)
-next_of_several_is_only value fits from pairs zero_value (suc s) zero x y injective p q h k =
+next_of_several_is_only value fits from congruences zero_value (suc s) zero x y injective p q h k =
     absurd (no_reason value fits q k h (h.refusal nonzero).1)
-next_of_several_is_only value fits from pairs zero_value (suc s) (suc t) x y injective p q h k = grind arith
+next_of_several_is_only value fits from congruences zero_value (suc s) (suc t) x y injective p q h k = grind arith
 
 -- ---- numbers
 

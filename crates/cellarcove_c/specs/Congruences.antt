@@ -7,6 +7,7 @@ use Rattle.num_integer.specs.Least.{IsLeastFrom}
 use Rattle.num_integer.specs.Range.{EachFits}
 use Rattle.modular.specs.CommonSolutions.{MatchCommonSolution}
 use Rattle.modular.specs.Congruences.{IsResidueClass, SolvesBothCongruences, SolvesEach}
+use Rattle.modular.specs.declared.congruent_numbers.Congruence.{Congruence}
 use Rattle.cellarcove_c.specs.Answers.{Refuses}
 use Rattle.cellarcove_c.specs.Statuses.{StatusIsOneOf, answer_of, bad_modulus, common_solution_of, no_solution, not_fitting, outside}
 use Rattle.cellarcove_c.specs.declared.answers.I64Answer.{I64Answer}
@@ -74,20 +75,20 @@ pub record IsClassOfBoth {X : Type 0} (value : X → ℤ) (fits : ℤ → Type 0
 
 -- ---- several congruences
 
--- The residues and moduli of signed congruences.
--- Examples: of the residue 1 and the modulus 4: (1, 4).
-abbrev pub i64_pairs : List I64Congruence → List (ℤ × ℤ)
-i64_pairs congruences = map (λ (c : I64Congruence). (c.residue, c.modulus)) congruences
+-- The signed congruences that C passes, as congruences.
+-- Examples: of the residue 1 and the modulus 4: 1 modulo 4.
+abbrev pub i64_congruences : List I64Congruence → List (Congruence ℤ)
+i64_congruences congruences = map (λ (c : I64Congruence). record { residue = c.residue; modulus = c.modulus }) congruences
 
--- The residues and moduli of natural congruences.
--- Examples: of the residue 1 and the modulus 4: (1, 4).
-abbrev pub u64_pairs : List U64Congruence → List (ℕ × ℕ)
-u64_pairs congruences = map (λ (c : U64Congruence). (c.residue, c.modulus)) congruences
+-- The natural congruences that C passes, as congruences.
+-- Examples: of the residue 1 and the modulus 4: 1 modulo 4.
+abbrev pub u64_congruences : List U64Congruence → List (Congruence ℕ)
+u64_congruences congruences = map (λ (c : U64Congruence). record { residue = c.residue; modulus = c.modulus }) congruences
 
 -- Each modulus is positive.
--- Examples: (1, 4) and (3, 6); not (1, 0).
-abbrev pub HavePositiveModuli : {X : Type 0} → (X → ℤ) → List (X × X) → Type 0
-HavePositiveModuli value pairs = All (λ c. pos 0 <ℤ value c.1) pairs
+-- Examples: 1 modulo 4 and 3 modulo 6; not 1 modulo 0.
+abbrev pub HavePositiveModuli : {X : Type 0} → (X → ℤ) → List (Congruence X) → Type 0
+HavePositiveModuli value congruences = All (λ c. pos 0 <ℤ value c.modulus) congruences
 
 -- The status says why several congruences have no result: that of two, or there are too many.
 -- Examples: 5, 2, 4 and 3; not 0.
@@ -97,10 +98,10 @@ IsReasonOfSeveral status = (status ≡ outside) ⊎ IsReasonOfCongruences status
 -- If there are at most 64 congruences and each modulus is positive, the status is 0 and the value is the smallest number from `from`
 -- on that solves each, `not_fitting` if that number does not fit, or `no_solution` if no number solves each. It is `outside` if there
 -- are more congruences, and else `bad_modulus` if a modulus is not positive. The value is zero if the status is not 0.
--- Examples: from 10, of (1, 4), (3, 6) and (0, 7): 0 and 21; of (1, 4) and (2, 6): 4 and 0; of (1, 0): 5 and 0.
-pub record IsNextOfSeveral {X : Type 0} (value : X → ℤ) (fits : ℤ → Type 0) (from : ℤ) (pairs : List (X × X)) (zero_value : X) (status : ℕ) (found : X) : Type 0 where
-  pub answer : (length pairs ≤ 64) → HavePositiveModuli value pairs → MatchCommonSolution (common_solution_of status found) (IsNever (SolvesEach value pairs))
-      (IsBeyond fits (IsLeastFrom from (SolvesEach value pairs))) (λ t. IsLeastFrom from (SolvesEach value pairs) (value t))
-  pub too_many : (status ≡ outside) ↔ (64 < length pairs)
-  pub modulus_is_bad : (status ≡ bad_modulus) ↔ ((length pairs ≤ 64) × (¬ (HavePositiveModuli value pairs)))
+-- Examples: from 10, of 1 modulo 4, 3 modulo 6 and 0 modulo 7: 0 and 21; of 1 modulo 4 and 2 modulo 6: 4 and 0; of 1 modulo 0: 5 and 0.
+pub record IsNextOfSeveral {X : Type 0} (value : X → ℤ) (fits : ℤ → Type 0) (from : ℤ) (congruences : List (Congruence X)) (zero_value : X) (status : ℕ) (found : X) : Type 0 where
+  pub answer : (length congruences ≤ 64) → HavePositiveModuli value congruences → MatchCommonSolution (common_solution_of status found) (IsNever (SolvesEach value congruences))
+      (IsBeyond fits (IsLeastFrom from (SolvesEach value congruences))) (λ t. IsLeastFrom from (SolvesEach value congruences) (value t))
+  pub too_many : (status ≡ outside) ↔ (64 < length congruences)
+  pub modulus_is_bad : (status ≡ bad_modulus) ↔ ((length congruences ≤ 64) × (¬ (HavePositiveModuli value congruences)))
   pub refusal : Refuses IsReasonOfSeveral zero_value status found

@@ -8,6 +8,7 @@ use Rattle.calendar.specs.declared.weekday.Weekday.{Weekday}
 use Rattle.ratio64.specs.declared.error.RatioError.{RatioError}
 use Rattle.ratio64.specs.declared.fraction.Ratio.{Ratio}
 use Rattle.ratio64.specs.declared.parse.ParseRatioError.{ParseRatioError}
+use Rattle.modular.specs.declared.congruent_numbers.Congruence.{Congruence}
 use Rattle.cellarcove_c.specs.Answers.{Answers}
 use Rattle.cellarcove_c.specs.Congruences.{AnswersModulo, IsClassOfBoth, IsNextOfSeveral}
 use Rattle.cellarcove_c.specs.Dates.{IsDayOfIsoNumber, IsMonthsLater, IsOfIsoNumber, MatchMonthsBetween, MatchYearsBetween}
@@ -49,8 +50,8 @@ ClassOfBothIsOnly {X} value fits = (a m b n : ℤ) (zeros : X × X) (s t : ℕ) 
 
 -- If no two values have one number, several congruences have at most one status and one value whose number fits.
 abbrev pub NextOfSeveralIsOnly : {X : Type 0} → (X → ℤ) → (ℤ → Type 0) → Type 0
-NextOfSeveralIsOnly {X} value fits = (from : ℤ) (pairs : List (X × X)) (zero_value : X) (s t : ℕ) (x y : X) → ((p q : X) → value p ≡ value q → p ≡ q)
-    → fits (value x) → fits (value y) → IsNextOfSeveral value fits from pairs zero_value s x → IsNextOfSeveral value fits from pairs zero_value t y → (s ≡ t) × (x ≡ y)
+NextOfSeveralIsOnly {X} value fits = (from : ℤ) (congruences : List (Congruence X)) (zero_value : X) (s t : ℕ) (x y : X) → ((p q : X) → value p ≡ value q → p ≡ q)
+    → fits (value x) → fits (value y) → IsNextOfSeveral value fits from congruences zero_value s x → IsNextOfSeveral value fits from congruences zero_value t y → (s ≡ t) × (x ≡ y)
 
 -- ---- numbers
 

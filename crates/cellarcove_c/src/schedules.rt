@@ -10,7 +10,7 @@ ghost use Rattle.cellarcove_c.specs.Congruences.{I64Congruent, IsBeyond, IsNever
 ghost use Rattle.cellarcove_c.specs.Statuses.{bad_modulus, common_solution_of};
 
 use crate::answers::{BAD_MODULUS, I64Answer, NOT_FITTING, U64Answer};
-use applied::schedules::{count, next_meeting};
+use applied::schedules::{Schedule, count, next_meeting};
 
 /// Returns the first time, not before `now`, that is in two schedules. One has the times `a`, `a + p`,
 /// `a + 2 * p` and so on, and the other those of `b` and `q`. For 10, 1, 4, 3 and 6 it is 21, and for 0, 13,
@@ -32,7 +32,17 @@ pub extern "C" fn cellarcove_next_meeting_i64(now: i64, a: i64, p: i64, b: i64, 
     if p <= 0 || q <= 0 {
         return I64Answer::none(BAD_MODULUS);
     }
-    I64Answer::of_common(next_meeting(now, (a, p), (b, q)))
+    I64Answer::of_common(next_meeting(
+        now,
+        Schedule {
+            first: a,
+            period: p,
+        },
+        Schedule {
+            first: b,
+            period: q,
+        },
+    ))
 }
 
 /// Returns the first time, not before `now`, that is in two schedules. One has the times `a`, `a + p`,
@@ -55,7 +65,17 @@ pub extern "C" fn cellarcove_next_meeting_u64(now: u64, a: u64, p: u64, b: u64, 
     if p == 0 || q == 0 {
         return U64Answer::none(BAD_MODULUS);
     }
-    U64Answer::of_common(next_meeting(now, (a, p), (b, q)))
+    U64Answer::of_common(next_meeting(
+        now,
+        Schedule {
+            first: a,
+            period: p,
+        },
+        Schedule {
+            first: b,
+            period: q,
+        },
+    ))
 }
 
 /// Returns how many times of a schedule are in the range of numbers between `from` and `to`, and at them.
@@ -76,7 +96,7 @@ pub extern "C" fn cellarcove_count_times_i64(
     if period <= 0 {
         return I64Answer::none(BAD_MODULUS);
     }
-    I64Answer::of(count(from, to, (first, period)), NOT_FITTING)
+    I64Answer::of(count(from, to, Schedule { first, period }), NOT_FITTING)
 }
 
 /// Returns how many times of a schedule are in the range of numbers between `from` and `to`, and at them.
@@ -96,5 +116,5 @@ pub extern "C" fn cellarcove_count_times_u64(
     if period == 0 {
         return U64Answer::none(BAD_MODULUS);
     }
-    U64Answer::of(count(from, to, (first, period)), NOT_FITTING)
+    U64Answer::of(count(from, to, Schedule { first, period }), NOT_FITTING)
 }

@@ -3,10 +3,11 @@
 ghost use Rattle.std.specs.Prelude.{◌≡◌, ◌↔◌, pos, length, map, FitsSigned, IsTrue};
 ghost use Rattle.std.specs.Int.{FitsUnsignedBits, w64};
 ghost use Rattle.std.specs.List.{All};
-ghost use Rattle.cellarcove_c.specs.Congruences.{HavePositiveModuli, IsNextOfSeveral, i64_pairs, u64_pairs};
+ghost use Rattle.modular.specs.declared.congruent_numbers.Congruence.{Congruence};
+ghost use Rattle.cellarcove_c.specs.Congruences.{HavePositiveModuli, IsNextOfSeveral, i64_congruences, u64_congruences};
 
 use crate::answers::{BAD_MODULUS, I64Answer, OUTSIDE, U64Answer, common_with_status};
-use modular::{Modular, next_common_solution_of};
+use modular::{Congruence, Modular, next_common_solution_of};
 use num_integer::operators::{is_below, zero};
 use num_integer::{Fits, Integer};
 
@@ -40,10 +41,13 @@ pub extern "C" fn cellarcove_next_common_solution_of_i64(
     from: i64,
     congruences: &[I64Congruence],
 ) -> I64Answer
-    ensures { IsNextOfSeveral (λ x. x) (FitsSigned w64) from (i64_pairs congruences.now) (pos 0)
+    ensures { IsNextOfSeveral (λ x. x) (FitsSigned w64) from (i64_congruences congruences.now) (pos 0)
         result.status result.value }
 {
-    let mut room = [(0, 1); MOST];
+    let mut room = [Congruence {
+        residue: 0,
+        modulus: 1,
+    }; MOST];
     let (status, value) = next_of_several(from, congruences, &mut room, 0);
     I64Answer { status, value }
 }
@@ -59,80 +63,92 @@ pub extern "C" fn cellarcove_next_common_solution_of_u64(
     congruences: &[U64Congruence],
 ) -> U64Answer
     ensures { IsNextOfSeveral (λ x. pos x) (FitsUnsignedBits 64) (pos from)
-        (u64_pairs congruences.now) 0 result.status result.value }
+        (u64_congruences congruences.now) 0 result.status result.value }
 {
-    let mut room = [(0, 1); MOST];
+    let mut room = [Congruence {
+        residue: 0,
+        modulus: 1,
+    }; MOST];
     let (status, value) = next_of_several(from, congruences, &mut room, 0);
     U64Answer { status, value }
 }
 
-/// A congruence of integers of a type.
-trait Congruence<T: Integer>: Copy {
-    ghost pair_of: { Self → T × T };
+/// A congruence as C passes it.
+trait ForeignCongruence<T: Integer>: Copy {
+    ghost congruence_of: { Self → Congruence T };
 
-    /// Returns the residue and the modulus.
-    fn pair(self) -> (T, T)
-        ensures pair { result ≡ pair_of self }
-        ensures in_range { T.fits (T.value result.0) × T.fits (T.value result.1) };
+    /// Returns the congruence.
+    fn congruence(self) -> Congruence<T>
+        ensures congruence { result ≡ congruence_of self }
+        ensures in_range { T.fits (T.value result.residue) × T.fits (T.value result.modulus) };
 }
 
-impl Congruence<i64> for I64Congruence {
-    ghost pair_of = { λ c. (c.residue, c.modulus) };
+impl ForeignCongruence<i64> for I64Congruence {
+    ghost congruence_of = { λ c. record { residue = c.residue; modulus = c.modulus } };
 
-    fn pair(self) -> (i64, i64) {
-        (self.residue, self.modulus)
+    fn congruence(self) -> Congruence<i64> {
+        Congruence {
+            residue: self.residue,
+            modulus: self.modulus,
+        }
     }
 }
 
-impl Congruence<u64> for U64Congruence {
-    ghost pair_of = { λ c. (c.residue, c.modulus) };
+impl ForeignCongruence<u64> for U64Congruence {
+    ghost congruence_of = { λ c. record { residue = c.residue; modulus = c.modulus } };
 
-    fn pair(self) -> (u64, u64) {
-        (self.residue, self.modulus)
+    fn congruence(self) -> Congruence<u64> {
+        Congruence {
+            residue: self.residue,
+            modulus: self.modulus,
+        }
     }
 }
 
 /// Returns the status and the value of the smallest number from `from` on that solves each of up to 64
 /// congruences. If there is no result, the value is `zero`. It copies the congruences to `room`. For 10,
 /// and 1 modulo 4 and 3 modulo 6, it returns 0 and 21.
-fn next_of_several<T: Modular + Fits, C: Congruence<T>>(
+fn next_of_several<T: Modular + Fits, C: ForeignCongruence<T>>(
     from: T,
     congruences: &[C],
-    room: &mut [(T, T)],
+    room: &mut [Congruence<T>],
     zero: T,
 ) -> (u32, T)
     requires in_range { T.fits (T.value from) × T.fits (T.value zero) }
     requires room { length room.old ≡ 64 }
-    ensures next { IsNextOfSeveral T.value T.fits (T.value from) (map C.pair_of congruences.now)
+    ensures next { IsNextOfSeveral T.value T.fits (T.value from) (map C.congruence_of congruences.now)
         zero result.0 result.1 }
     ensures in_range { T.fits (T.value result.1) }
 {
     if congruences.len() > MOST {
         return (OUTSIDE, zero);
     }
-    let pairs = &mut room[..congruences.len()];
-    if !copy(congruences, pairs) {
+    let copies = &mut room[..congruences.len()];
+    if !copy(congruences, copies) {
         return (BAD_MODULUS, zero);
     }
-    common_with_status(next_common_solution_of(from, pairs), zero)
+    common_with_status(next_common_solution_of(from, copies), zero)
 }
 
 /// Copies the congruences and returns `true`, or returns `false` if a modulus is not positive.
-fn copy<T: Integer + Copy, C: Congruence<T>>(congruences: &[C], pairs: &mut [(T, T)]) -> bool
-    requires { length pairs.old ≡ length congruences.now }
-    ensures pairs { IsTrue result → pairs.new ≡ map C.pair_of congruences.now }
+fn copy<T: Integer + Copy, C: ForeignCongruence<T>>(
+    congruences: &[C],
+    copies: &mut [Congruence<T>],
+) -> bool
+    requires { length copies.old ≡ length congruences.now }
+    ensures copies { IsTrue result → copies.new ≡ map C.congruence_of congruences.now }
     ensures in_range { IsTrue result
-        → All (λ c. T.fits (T.value c.0) × T.fits (T.value c.1)) pairs.new }
-    ensures each_positive { IsTrue result → HavePositiveModuli T.value pairs.new }
+        → All (λ c. T.fits (T.value c.residue) × T.fits (T.value c.modulus)) copies.new }
+    ensures each_positive { IsTrue result → HavePositiveModuli T.value copies.new }
     ensures positive { IsTrue result
-        ↔ HavePositiveModuli T.value (map C.pair_of congruences.now) }
+        ↔ HavePositiveModuli T.value (map C.congruence_of congruences.now) }
 {
     for i in 0..congruences.len() {
-        let pair = congruences[i].pair();
-        if !is_below(zero(), pair.1) {
+        let congruence = congruences[i].congruence();
+        if !is_below(zero(), congruence.modulus) {
             return false;
         }
-        pairs[i] = pair;
+        copies[i] = congruence;
     }
     true
 }

@@ -1,5 +1,5 @@
 -- Several congruences: if every two of them agree, they have a common solution, and all their solutions are congruent.
-use Rattle.modular.proofs.Common.{◌≡◌, ◌<◌, ◌≤◌, ◌+◌, ◌≤ℤ◌, ◌<ℤ◌, ◌+ℤ◌, ◌-ℤ◌, ◌*ℤ◌, ◌∷◌, ◌∙◌, ℤ, ℕ, pos, neg_ℤ, unsigned_abs, List, [], length, Option, Some, None, MatchOption, All, arith, ap, get_or, refl, subst, sym, take, All-cons, All-head, All-nil, All-tail, FitsWith, IsRange, Divides, IsGreatestCommonDivisor, IsLeastCommonMultiple, IsLeastFrom, Divides_cancel, Divides_sum, Divides_times, Divides_trans, comm, expand, gcd_nonzero, lcm_positive, linear, only_gcd, products, sizes, bezout_answer_exists, gcd_exists, gcd_times_lcm, lcm_exists, CommonSolution, Never, Beyond, At, MatchCommonSolution, Agree, AgreeInPairs, AgreesWithEach, AreCongruent, IsNextCongruent, IsResidueClass, IsSystem, SolvesBothCongruences, SolvesEach, divides_multiple, magnitude_divides}
+use Rattle.modular.proofs.Common.{◌≡◌, ◌<◌, ◌+◌, ◌≤ℤ◌, ◌<ℤ◌, ◌+ℤ◌, ◌-ℤ◌, ◌*ℤ◌, ◌∷◌, ◌∙◌, ℤ, ℕ, pos, neg_ℤ, unsigned_abs, List, [], length, Option, Some, None, MatchOption, All, arith, ap, get_or, refl, subst, sym, take, All-cons, All-head, All-nil, All-tail, FitsWith, IsRange, Divides, IsGreatestCommonDivisor, IsLeastCommonMultiple, IsLeastFrom, Divides_cancel, Divides_sum, Divides_times, Divides_trans, comm, expand, gcd_nonzero, lcm_positive, linear, only_gcd, products, sizes, bezout_answer_exists, gcd_exists, gcd_times_lcm, lcm_exists, CommonSolution, Never, Beyond, At, MatchCommonSolution, Agree, AgreeInPairs, AgreesWithEach, AreCongruent, IsNextCongruent, IsResidueClass, IsSystem, SolvesBothCongruences, SolvesEachItem, divides_multiple, magnitude_divides}
 use Rattle.modular.proofs.ListedItems.{at_item, one_item_more}
 use Rattle.modular.proofs.Congruences.{congruent_divisor, congruent_refl, congruent_sym, congruent_trans, congruent_by, divides_product, residue_exists}
 use Rattle.modular.proofs.NextCongruent.{next_congruent_is}
@@ -69,68 +69,68 @@ least_by_next h next = record { from_there = next.from_there; holds = h.no_other
 
 -- ---- several congruences
 
-module _ {X : Type 0} (value : X → ℤ) where
-  abbrev pub IsInRange : (ℤ → Type 0) → X × X → Type 0
-  IsInRange fits c = fits (value c.0) × fits (value c.1)
+module _ {C : Type 0} (residue modulus : C → ℤ) where
+  abbrev pub IsInRange : (ℤ → Type 0) → C → Type 0
+  IsInRange fits c = fits (residue c) × fits (modulus c)
 
-  abbrev pub IsPositive : X × X → Type 0
-  IsPositive c = pos 0 <ℤ value c.1
+  abbrev pub IsPositive : C → Type 0
+  IsPositive c = pos 0 <ℤ modulus c
 
-  abbrev pub AgreesAt : ℤ → ℤ → X × X → Type 0
-  AgreesAt a m c = Agree a m (value c.0) (value c.1)
+  abbrev pub AgreesAt : ℤ → ℤ → C → Type 0
+  AgreesAt a m c = Agree a m (residue c) (modulus c)
 
-  abbrev pub SolvesAt : ℤ → X × X → Type 0
-  SolvesAt x c = AreCongruent (value c.1) x (value c.0)
+  abbrev pub SolvesAt : ℤ → C → Type 0
+  SolvesAt x c = AreCongruent (modulus c) x (residue c)
 
   -- what is required of all pairs, of the one at an index
-  pub pair_at : (fits : ℤ → Type 0) (pairs : List (X × X)) (i : ℕ) {x : X × X} → x ≡ get_or pairs i x → i < length pairs → IsSystem fits value pairs → IsInRange fits x × IsPositive x
+  pub pair_at : (fits : ℤ → Type 0) (pairs : List C) (i : ℕ) {x : C} → x ≡ get_or pairs i x → i < length pairs → IsSystem fits residue modulus pairs → IsInRange fits x × IsPositive x
   pair_at fits pairs i is within system = (at_item (IsInRange fits) pairs i is within system.0, at_item IsPositive pairs i is within system.1)
 
   -- what is required of the first pair, and of the others
-  pub split_system : (fits : ℤ → Type 0) {c : X × X} {cs pairs : List (X × X)} → pairs ≡ c ∷ cs → IsSystem fits value pairs → (IsInRange fits c × IsPositive c) × IsSystem fits value cs
+  pub split_system : (fits : ℤ → Type 0) {c : C} {cs pairs : List C} → pairs ≡ c ∷ cs → IsSystem fits residue modulus pairs → (IsInRange fits c × IsPositive c) × IsSystem fits residue modulus cs
   split_system fits {c} {cs} split system =
-      let whole = subst (IsSystem fits value) split system in
+      let whole = subst (IsSystem fits residue modulus) split system in
       ((All-head (IsInRange fits) c cs whole.0, All-head IsPositive c cs whole.1), (All-tail (IsInRange fits) c cs whole.0, All-tail IsPositive c cs whole.1))
 
-  pub common_with : (cs : List (X × X)) {a m : ℤ} → pos 0 <ℤ m → All IsPositive cs → AgreesWithEach value a m cs → AgreeInPairs value cs → (x : ℤ) × AreCongruent m x a × SolvesEach value cs x
+  pub common_with : (cs : List C) {a m : ℤ} → pos 0 <ℤ m → All IsPositive cs → AgreesWithEach residue modulus a m cs → AgreeInPairs residue modulus cs → (x : ℤ) × AreCongruent m x a × SolvesEachItem residue modulus cs x
   common_with [] {a} {m} up positive agrees pairs = (a, congruent_refl a, All-nil (SolvesAt a))
   common_with (c ∷ cs) {a} {m} up positive agrees pairs =
       let c_up = All-head IsPositive c cs positive in
       let both = solution_of_two (All-head (AgreesAt a m) c cs agrees) in
-      let least = lcm_exists m (value c.1) in
+      let least = lcm_exists m (modulus c) in
       let l_up = lcm_positive least.1 (λ e. omega (arith, linear)) (λ e. omega (arith, linear)) in
-      let merged : AgreesWithEach value both.0 least.0 cs = λ k d within. merged_agree c_up both.1 least.1 (All-tail (AgreesAt a m) c cs agrees k d within) (pairs.0 k d within) in
+      let merged : AgreesWithEach residue modulus both.0 least.0 cs = λ k d within. merged_agree c_up both.1 least.1 (All-tail (AgreesAt a m) c cs agrees k d within) (pairs.0 k d within) in
       let rest = common_with cs {a = both.0} {m = least.0} l_up (All-tail IsPositive c cs positive) merged pairs.1 in (
         rest.0,
         congruent_trans (congruent_divisor least.1.left_divides rest.1) both.1.first,
         All-cons (SolvesAt rest.0) c cs (congruent_trans (congruent_divisor least.1.right_divides rest.1) both.1.second) rest.2,
       )
 
-  pub agreeing_have_solution : (cs : List (X × X)) → All IsPositive cs → AgreeInPairs value cs → (x : ℤ) × SolvesEach value cs x
+  pub agreeing_have_solution : (cs : List C) → All IsPositive cs → AgreeInPairs residue modulus cs → (x : ℤ) × SolvesEachItem residue modulus cs x
   agreeing_have_solution [] positive pairs = (pos 0, All-nil (SolvesAt (pos 0)))
   agreeing_have_solution (c ∷ cs) positive pairs =
       let rest = common_with cs (All-head IsPositive c cs positive) (All-tail IsPositive c cs positive) pairs.0 pairs.1 in
       (rest.0, All-cons (SolvesAt rest.0) c cs rest.1 rest.2)
 
-  pub first_agrees : {c : X × X} {cs rest : List (X × X)} {x : ℤ} → rest ≡ c ∷ cs → SolvesEach value rest x → AgreesWithEach value (value c.0) (value c.1) cs
+  pub first_agrees : {c : C} {cs rest : List C} {x : ℤ} → rest ≡ c ∷ cs → SolvesEachItem residue modulus rest x → AgreesWithEach residue modulus (residue c) (modulus c) cs
   first_agrees {c} {cs} {x = x} split each =
       let solved = subst (All (SolvesAt x)) split each in
       λ k d within. solved_agree (All-head (SolvesAt x) c cs solved) (All-tail (SolvesAt x) c cs solved k d within)
 
   -- a search that found no first pair
-  pub no_pairs : {A : Type 0} (P : A → Type 0) (found : Option A) (cs : List (X × X)) → ((x : A) → found ≡ Some x → ⊥)
-      → MatchOption found (length cs ≡ 0) P → AgreeInPairs value cs
+  pub no_pairs : {A : Type 0} (P : A → Type 0) (found : Option A) (cs : List C) → ((x : A) → found ≡ Some x → ⊥)
+      → MatchOption found (length cs ≡ 0) P → AgreeInPairs residue modulus cs
   no_pairs P None [] other none = tt
   no_pairs P None (c ∷ cs) other none = absurd (omega arith)
   no_pairs P (Some x) cs other none = absurd (other x refl)
 
-  pub period_of_solutions : {x : ℤ} (cs : List (X × X)) → All IsPositive cs → SolvesEach value cs x → (l : ℤ) × Narrowed (SolvesEach value cs) (SolvesEach value cs) x l
+  pub period_of_solutions : {x : ℤ} (cs : List C) → All IsPositive cs → SolvesEachItem residue modulus cs x → (l : ℤ) × Narrowed (SolvesEachItem residue modulus cs) (SolvesEachItem residue modulus cs) x l
   period_of_solutions {x} [] positive each = (pos 1, narrowed_by_one refl (λ y. All-nil (SolvesAt y)))
   period_of_solutions {x} (c ∷ cs) positive each =
       let up = All-head IsPositive c cs positive in
       let here = All-head (SolvesAt x) c cs each in
       let rest = period_of_solutions cs (All-tail IsPositive c cs positive) (All-tail (SolvesAt x) c cs each) in
-      let least = lcm_exists (value c.1) rest.0 in
+      let least = lcm_exists (modulus c) rest.0 in
       let rest_up = rest.1.positive in (
         least.0,
         record {
@@ -141,8 +141,8 @@ module _ {X : Type 0} (value : X → ℤ) where
       )
 
   -- if some number solves each congruence, there is a least one, beyond the type if none in the type does
-  pub least_beyond : {fits : ℤ → Type 0} {from : ℤ} (cs : List (X × X)) → All IsPositive cs → (x : ℤ) × SolvesEach value cs x
-      → ((t : ℤ) → from ≤ℤ t → SolvesEach value cs t → ¬ (fits t)) → (t : ℤ) × IsLeastFrom from (SolvesEach value cs) t × ¬ (fits t)
+  pub least_beyond : {fits : ℤ → Type 0} {from : ℤ} (cs : List C) → All IsPositive cs → (x : ℤ) × SolvesEachItem residue modulus cs x
+      → ((t : ℤ) → from ≤ℤ t → SolvesEachItem residue modulus cs t → ¬ (fits t)) → (t : ℤ) × IsLeastFrom from (SolvesEachItem residue modulus cs) t × ¬ (fits t)
   least_beyond {from = from} cs positive solution none =
       let period = (period_of_solutions cs positive solution.1).1 in
       let least = least_by_next period (next_congruent_is (residue_exists (solution.0 -ℤ from) period.positive).1) in
@@ -184,18 +184,18 @@ nearer_to_last range further_fits is onward = omega (arith, sizes, ((range.betwe
 
 -- ---- the class of the numbers that solve the congruences so far
 
-module _ {X : Type 0} (value : X → ℤ) (congruences : List (X × X)) {i : ℕ} {first step : ℤ} (h : Narrowed (SolvesEach value congruences) (SolvesEach value (take i congruences)) first step) where
-  pub narrowed_solves : {c : X × X} → c ≡ get_or congruences i c → i < length congruences → (x : ℤ) → SolvesEach value congruences x → SolvesBothCongruences first step (value c.0) (value c.1) x
+module _ {C : Type 0} (residue modulus : C → ℤ) (congruences : List C) {i : ℕ} {first step : ℤ} (h : Narrowed (SolvesEachItem residue modulus congruences) (SolvesEachItem residue modulus (take i congruences)) first step) where
+  pub narrowed_solves : {c : C} → c ≡ get_or congruences i c → i < length congruences → (x : ℤ) → SolvesEachItem residue modulus congruences x → SolvesBothCongruences first step (residue c) (modulus c) x
   narrowed_solves is within x each = grind arith
 
-  pub narrowed_more : {c : X × X} {f s : ℤ} → c ≡ get_or congruences i c → i < length congruences → IsResidueClass (SolvesBothCongruences first step (value c.0) (value c.1)) f s
-      → Narrowed (SolvesEach value congruences) (SolvesEach value (take (i + 1) congruences)) f s
+  pub narrowed_more : {c : C} {f s : ℤ} → c ≡ get_or congruences i c → i < length congruences → IsResidueClass (SolvesBothCongruences first step (residue c) (modulus c)) f s
+      → Narrowed (SolvesEachItem residue modulus congruences) (SolvesEachItem residue modulus (take (i + 1) congruences)) f s
   narrowed_more is within class = record {
     positive = omega (arith, linear, class.below.from_zero, class.below.below);
     every = λ x each. class.every x (narrowed_solves is within x each);
     no_other = λ x near.
         let both = class.no_other x near in
-        one_item_more (SolvesAt value x) congruences i is within (h.no_other x both.first) both.second;
+        one_item_more (SolvesAt residue modulus x) congruences i is within (h.no_other x both.first) both.second;
   }
 
 pub least_of_class : {Is : ℤ → Type 0} {first step : ℤ} → Narrowed Is Is first step → {A : Type 0} (number : A → ℤ) {fits : ℤ → Type 0} {low high from : ℤ} (found : Option A) → IsRange fits low high → fits from

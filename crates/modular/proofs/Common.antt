@@ -21,7 +21,7 @@ pub use Rattle.num_integer.specs.Least.{IsLeastFrom}
 pub use Rattle.modular.specs.Agreement.{Agree, AgreeInPairs, AgreesWithEach}
 pub use Rattle.modular.specs.Below.{IsNaturalRemainder, LiesBelow}
 pub use Rattle.modular.specs.CommonSolutions.{MatchCommonSolution}
-pub use Rattle.modular.specs.Congruences.{AreCongruent, IsCountOfCongruent, IsInverse, IsNextCommonSolution, IsNextCongruent, IsPreviousCongruent, IsQuotientModulo, IsReducedModulus, IsResidue, IsResidueClass, IsSystem, Solves, SolvesBothCongruences, SolvesEach}
+pub use Rattle.modular.specs.Congruences.{AreCongruent, IsCountOfCongruent, IsInverse, IsNextCommonSolution, IsNextCongruent, IsPreviousCongruent, IsQuotientModulo, IsReducedModulus, IsResidue, IsResidueClass, IsSystem, Solves, SolvesBothCongruences, SolvesEach, SolvesEachItem}
 pub use Rattle.modular.specs.Counts.{AreAllFrom, IsCountFrom}
 pub use Rattle.modular.specs.Laws.{CountOfCongruentIsOnly, InverseIsOnly, NextCommonSolutionIsOnly, NextCongruentIsOnly, NextSolutionOfEachIsOnly, PreviousCongruentIsOnly, QuotientIsOnly, ReducedModulusIsOnly, ResidueClassIsOnly, ResidueIsOnly}
 pub use Rattle.modular.specs.MontgomeryForms.{joined, represented}

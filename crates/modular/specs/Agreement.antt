@@ -9,13 +9,13 @@ use Rattle.modular.specs.Congruences.{AreCongruent}
 pub record Agree (a m b n : ℤ) : Type 0 where
   pub congruent : (g : ℤ) → IsGreatestCommonDivisor m n g → AreCongruent g a b
 
--- The congruence a modulo m agrees with each of the others.
--- Examples: 1 modulo 4 with [(3, 6), (0, 7)].
-abbrev pub AgreesWithEach : {X : Type 0} → (X → ℤ) → ℤ → ℤ → List (X × X) → Type 0
-AgreesWithEach value a m others = All (λ c. Agree a m (value c.0) (value c.1)) others
+-- The congruence a modulo m agrees with that of each other item. The functions give the residue and the modulus of an item.
+-- Examples: 1 modulo 4 with 3 modulo 6 and 0 modulo 7.
+abbrev pub AgreesWithEach : {C : Type 0} → (C → ℤ) → (C → ℤ) → ℤ → ℤ → List C → Type 0
+AgreesWithEach residue modulus a m others = All (λ c. Agree a m (residue c) (modulus c)) others
 
 -- Every two of the congruences agree.
--- Examples: [(1, 4), (3, 6), (0, 7)]; not: [(1, 4), (3, 6), (0, 2)].
-abbrev pub AgreeInPairs : {X : Type 0} → (X → ℤ) → List (X × X) → Type 0
-AgreeInPairs value [] = Unit {0}
-AgreeInPairs value (c ∷ others) = AgreesWithEach value (value c.0) (value c.1) others × AgreeInPairs value others
+-- Examples: 1 modulo 4, 3 modulo 6 and 0 modulo 7; not: 1 modulo 4, 3 modulo 6 and 0 modulo 2.
+abbrev pub AgreeInPairs : {C : Type 0} → (C → ℤ) → (C → ℤ) → List C → Type 0
+AgreeInPairs residue modulus [] = Unit {0}
+AgreeInPairs residue modulus (c ∷ others) = AgreesWithEach residue modulus (residue c) (modulus c) others × AgreeInPairs residue modulus others

@@ -13,6 +13,7 @@ ghost use Rattle.num_integer.specs.Least.{IsLeastFrom};
 ghost use Rattle.num_integer.specs.Range.{EachFits};
 
 use crate::common_solutions::CommonSolution;
+use crate::congruent_numbers::Congruence;
 use crate::products::Modular;
 use num_integer::operators::{is_below, zero};
 use num_integer::{Fits, Integer};
@@ -196,65 +197,69 @@ pub fn count_congruent<T: Fits>(from: T, to: T, residue: T, modulus: T) -> Optio
 }
 
 /// Returns [`chinese_remainder`](crate::chinese_remainder), or `None` if a modulus is not positive, if the least common
-/// multiple of the moduli does not fit, or if there is no such number. `chinese_remainder(1, 4, 3, 6)` is
-/// `Some((9, 12))`, and `chinese_remainder(1, 4, 3, 0)` is `None`.
-pub fn chinese_remainder<T: Modular + Fits>(a: T, m: T, b: T, n: T) -> Option<(T, T)>
-    requires in_range { T.fits (T.value a) × T.fits (T.value m) × T.fits (T.value b)
-        × T.fits (T.value n) }
-    ensures { MatchWhere ((pos 0 <ℤ T.value m) × (pos 0 <ℤ T.value n)
-        × EachFits T.fits (IsLeastCommonMultiple (T.value m) (T.value n))) result
-        ((x : ℤ) → ¬ (SolvesBothCongruences (T.value a) (T.value m) (T.value b) (T.value n) x))
-        (λ s. T.fits (T.value s.0) × T.fits (T.value s.1)
-        × IsResidueClass (SolvesBothCongruences (T.value a) (T.value m) (T.value b) (T.value n))
-        (T.value s.0) (T.value s.1)) }
+/// multiple of the moduli does not fit, or if there is no such number. `chinese_remainder((1, 4).into(), (3, 6).into())`
+/// is `Some((9, 12).into())`, and `chinese_remainder((1, 4).into(), (3, 0).into())` is `None`.
+pub fn chinese_remainder<T: Modular + Fits>(
+    a: Congruence<T>,
+    b: Congruence<T>,
+) -> Option<Congruence<T>>
+    requires in_range { T.fits (T.value a.residue) × T.fits (T.value a.modulus)
+        × T.fits (T.value b.residue) × T.fits (T.value b.modulus) }
+    ensures { MatchWhere ((pos 0 <ℤ T.value a.modulus) × (pos 0 <ℤ T.value b.modulus)
+        × EachFits T.fits (IsLeastCommonMultiple (T.value a.modulus) (T.value b.modulus))) result
+        ((x : ℤ) → ¬ (SolvesBothCongruences (T.value a.residue) (T.value a.modulus)
+        (T.value b.residue) (T.value b.modulus) x))
+        (λ c. T.fits (T.value c.residue) × T.fits (T.value c.modulus)
+        × IsResidueClass (SolvesBothCongruences (T.value a.residue) (T.value a.modulus)
+        (T.value b.residue) (T.value b.modulus)) (T.value c.residue) (T.value c.modulus)) }
 {
-    if is_positive(m) && is_positive(n) && m.lcm_fits(&n) {
-        crate::chinese_remainder(a, m, b, n)
+    if is_positive(a.modulus) && is_positive(b.modulus) && a.modulus.lcm_fits(&b.modulus) {
+        crate::chinese_remainder(a, b)
     } else {
         None
     }
 }
 
 /// Returns [`next_common_solution`](crate::next_common_solution), or `None` if a modulus is not positive.
-/// `next_common_solution(10, 1, 4, 3, 6)` is `Some(CommonSolution::At(21))`, and
-/// `next_common_solution(10, 1, 0, 3, 6)` is `None`.
+/// `next_common_solution(10, (1, 4).into(), (3, 6).into())` is `Some(CommonSolution::At(21))`, and
+/// `next_common_solution(10, (1, 0).into(), (3, 6).into())` is `None`.
 pub fn next_common_solution<T: Modular + Fits>(
     from: T,
-    a: T,
-    m: T,
-    b: T,
-    n: T,
+    a: Congruence<T>,
+    b: Congruence<T>,
 ) -> Option<CommonSolution<T>>
-    requires in_range { T.fits (T.value from) × T.fits (T.value a) × T.fits (T.value m)
-        × T.fits (T.value b) × T.fits (T.value n) }
-    ensures { AnswersWhere ((pos 0 <ℤ T.value m) × (pos 0 <ℤ T.value n))
+    requires from_in_range { T.fits (T.value from) }
+    requires in_range { T.fits (T.value a.residue) × T.fits (T.value a.modulus)
+        × T.fits (T.value b.residue) × T.fits (T.value b.modulus) }
+    ensures { AnswersWhere ((pos 0 <ℤ T.value a.modulus) × (pos 0 <ℤ T.value b.modulus))
         (λ s. MatchCommonSolution s
-        ((x : ℤ) → ¬ (SolvesBothCongruences (T.value a) (T.value m) (T.value b) (T.value n) x))
-        ((t : ℤ) × IsNextCommonSolution (T.value from) (T.value a) (T.value m) (T.value b)
-        (T.value n) t × ¬ (T.fits t))
-        (FitsWith T.fits T.value (IsNextCommonSolution (T.value from) (T.value a) (T.value m)
-        (T.value b) (T.value n))))
+        ((x : ℤ) → ¬ (SolvesBothCongruences (T.value a.residue) (T.value a.modulus)
+        (T.value b.residue) (T.value b.modulus) x))
+        ((t : ℤ) × IsNextCommonSolution (T.value from) (T.value a.residue) (T.value a.modulus)
+        (T.value b.residue) (T.value b.modulus) t × ¬ (T.fits t))
+        (FitsWith T.fits T.value (IsNextCommonSolution (T.value from) (T.value a.residue)
+        (T.value a.modulus) (T.value b.residue) (T.value b.modulus))))
         result }
 {
-    if is_positive(m) && is_positive(n) {
-        Some(crate::next_common_solution(from, a, m, b, n))
+    if is_positive(a.modulus) && is_positive(b.modulus) {
+        Some(crate::next_common_solution(from, a, b))
     } else {
         None
     }
 }
 
 /// Returns [`next_common_solution_of`](crate::next_common_solution_of), or `None` if a modulus is not positive.
-/// `next_common_solution_of(10, &[(1, 4), (3, 6), (0, 7)])` is `Some(CommonSolution::At(21))`, and
-/// `next_common_solution_of(10, &[(1, 4), (3, 0)])` is `None`.
+/// `next_common_solution_of(10, &[(1, 4).into(), (3, 6).into(), (0, 7).into()])` is `Some(CommonSolution::At(21))`, and
+/// `next_common_solution_of(10, &[(1, 4).into(), (3, 0).into()])` is `None`.
 ///
 /// In Rattle, a function that passes on a slice of its own parameters asks its callers for `in_range` too.
 pub fn next_common_solution_of<T: Modular + Fits>(
     from: T,
-    congruences: &[(T, T)],
+    congruences: &[Congruence<T>],
 ) -> Option<CommonSolution<T>>
     requires from_in_range { T.fits (T.value from) }
-    requires in_range { All (λ c. T.fits (T.value c.0) × T.fits (T.value c.1)) congruences.now }
-    ensures { AnswersWhere (All (λ c. pos 0 <ℤ T.value c.1) congruences.now)
+    requires in_range { All (λ c. T.fits (T.value c.residue) × T.fits (T.value c.modulus)) congruences.now }
+    ensures { AnswersWhere (All (λ c. pos 0 <ℤ T.value c.modulus) congruences.now)
         (λ s. MatchCommonSolution s
         ((x : ℤ) → ¬ (SolvesEach T.value congruences.now x))
         ((t : ℤ) × IsLeastFrom (T.value from) (SolvesEach T.value congruences.now) t
@@ -270,14 +275,13 @@ pub fn next_common_solution_of<T: Modular + Fits>(
 }
 
 /// Returns `true` if each modulus is positive.
-fn are_positive<T: Integer + Copy>(congruences: &[(T, T)]) -> bool
-    requires { All (λ c. T.fits (T.value c.0) × T.fits (T.value c.1)) congruences.now }
-    ensures { MatchBool result (All (λ c. pos 0 <ℤ T.value c.1) congruences.now)
-        (¬ (All (λ c. pos 0 <ℤ T.value c.1) congruences.now)) }
+fn are_positive<T: Integer + Copy>(congruences: &[Congruence<T>]) -> bool
+    requires { All (λ c. T.fits (T.value c.residue) × T.fits (T.value c.modulus)) congruences.now }
+    ensures { MatchBool result (All (λ c. pos 0 <ℤ T.value c.modulus) congruences.now)
+        (¬ (All (λ c. pos 0 <ℤ T.value c.modulus) congruences.now)) }
 {
     for congruence in congruences {
-        let (_, m) = *congruence;
-        if !is_positive(m) {
+        if !is_positive(congruence.modulus) {
             return false;
         }
     }

@@ -1,5 +1,6 @@
 -- That there is a residue, a quotient, a class, a next solution and a count.
 use Rattle.modular.proofs.Common.{◌≡◌, ◌<ℤ◌, ◌+ℤ◌, ◌-ℤ◌, ◌*ℤ◌, ◌∷◌, ℤ, pos, neg_ℤ, int_div, List, [], arith, inl, inr, refl, by_lt_z, All, All-cons, All-head, All-nil, All-tail, Divides, Divides_trans, bezout_answer_exists, comm, division_exists, expand, gcd_exists, linear, products, AreCongruent, IsCountOfCongruent, IsInverse, IsLeastFrom, IsNextCommonSolution, IsNextCongruent, IsPreviousCongruent, IsQuotientModulo, IsReducedModulus, IsResidueClass, IsTimesToReach, LiesBelow, Solves, SolvesBothCongruences, SolvesEach}
+use Rattle.modular.specs.declared.congruent_numbers.Congruence.{Congruence}
 use Rattle.modular.proofs.CommonSolutions.{reached_by_next, reached_by_quotient}
 use Rattle.modular.proofs.Congruences.{congruent_by, divides_congruent, reduced_modulus_positive, residue_exists, zero_difference}
 use Rattle.modular.proofs.Counts.{counted_by_times}
@@ -87,13 +88,13 @@ both_solved {a} {m} {b} {n} x m_up n_up h =
 pub next_common_solution_exists : (from a m b n x : ℤ) → pos 0 <ℤ m → pos 0 <ℤ n → SolvesBothCongruences a m b n x → (t : ℤ) × IsNextCommonSolution from a m b n t
 next_common_solution_exists from a m b n x m_up n_up h = let class = both_solved x m_up n_up h in next_of_class from class.2
 
-abbrev IsPositive : {X : Type 0} → (X → ℤ) → X × X → Type 0
-IsPositive value c = pos 0 <ℤ value c.1
+abbrev IsPositive : {X : Type 0} → (X → ℤ) → Congruence X → Type 0
+IsPositive value c = pos 0 <ℤ value c.modulus
 
-abbrev SolvesOne : {X : Type 0} → (X → ℤ) → ℤ → X × X → Type 0
-SolvesOne value x c = AreCongruent (value c.1) x (value c.0)
+abbrev SolvesOne : {X : Type 0} → (X → ℤ) → ℤ → Congruence X → Type 0
+SolvesOne value x c = AreCongruent (value c.modulus) x (value c.residue)
 
-each_solved : {X : Type 0} (value : X → ℤ) (congruences : List (X × X)) (x : ℤ) → All (IsPositive value) congruences → SolvesEach value congruences x
+each_solved : {X : Type 0} (value : X → ℤ) (congruences : List (Congruence X)) (x : ℤ) → All (IsPositive value) congruences → SolvesEach value congruences x
     → (first step : ℤ) × IsResidueClass (SolvesEach value congruences) first step
 each_solved value [] x up h = (
   pos 0,
@@ -109,7 +110,7 @@ each_solved value (c ∷ rest) x up h =
     let tail = λ (z : ℤ). All-tail (SolvesOne value z) c rest in
     let known = each_solved value rest x (All-tail (IsPositive value) c rest up) (tail x h) in
     let step_up : pos 0 <ℤ known.1 = omega (arith, linear, known.2.below.from_zero, known.2.below.below) in
-    let class = both_solved {a = known.0} {m = known.1} {b = value c.0} {n = value c.1} x step_up (All-head (IsPositive value) c rest up) (record { first = known.2.every x (tail x h); second = head x h }) in (
+    let class = both_solved {a = known.0} {m = known.1} {b = value c.residue} {n = value c.modulus} x step_up (All-head (IsPositive value) c rest up) (record { first = known.2.every x (tail x h); second = head x h }) in (
       class.0,
       class.1,
       record {
@@ -119,6 +120,6 @@ each_solved value (c ∷ rest) x up h =
       },
     )
 
-pub next_solution_of_each_exists : {X : Type 0} (value : X → ℤ) (congruences : List (X × X)) (from x : ℤ) → All (λ c. pos 0 <ℤ value c.1) congruences → SolvesEach value congruences x
+pub next_solution_of_each_exists : {X : Type 0} (value : X → ℤ) (congruences : List (Congruence X)) (from x : ℤ) → All (λ c. pos 0 <ℤ value c.modulus) congruences → SolvesEach value congruences x
     → (t : ℤ) × IsLeastFrom from (SolvesEach value congruences) t
 next_solution_of_each_exists value congruences from x up h = let class = each_solved value congruences x up h in next_of_class from class.2

@@ -8,6 +8,7 @@ ghost use Rattle.num_integer.specs.Divisors.{IsGreatestCommonDivisor};
 ghost use Rattle.num_integer.specs.Least.{IsLeastFrom};
 ghost use Rattle.num_integer.specs.RootOf.{IsRoot};
 ghost use Rattle.modular.specs.Congruences.{IsCountOfCongruent, IsInverse, IsNextCommonSolution, IsNextCongruent, IsPreviousCongruent, IsQuotientModulo, IsReducedModulus, IsResidue, IsResidueClass, Solves, SolvesBothCongruences, SolvesEach};
+ghost use Rattle.modular.specs.declared.congruent_numbers.Congruence.{Congruence};
 ghost use Rattle.ratio64.specs.Fraction.{fraction_cmp};
 ghost use Rattle.num_integer.specs.Laws as integers;
 ghost use Rattle.modular.specs.Laws as residues;
@@ -108,8 +109,8 @@ pub fn laws_of_residues<P: Property, T: Integer>()
     ensures next_common_solution_exists { (from a m b n x : ℤ) → pos 0 <ℤ m → pos 0 <ℤ n
         → SolvesBothCongruences a m b n x → (t : ℤ) × IsNextCommonSolution from a m b n t }
     ensures next_common_solution_is_only { residues.NextCommonSolutionIsOnly }
-    ensures next_solution_of_each_exists { (congruences : List (T × T)) (from x : ℤ)
-        → All (λ c. pos 0 <ℤ T.value c.1) congruences → SolvesEach T.value congruences x
+    ensures next_solution_of_each_exists { (congruences : List (Congruence T)) (from x : ℤ)
+        → All (λ c. pos 0 <ℤ T.value c.modulus) congruences → SolvesEach T.value congruences x
         → (t : ℤ) × IsLeastFrom from (SolvesEach T.value congruences) t }
     ensures next_solution_of_each_is_only { residues.NextSolutionOfEachIsOnly T.value }
 {}

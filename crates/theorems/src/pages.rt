@@ -26,8 +26,8 @@ pub fn items_of_page(page: u64, page_size: u64, items: u64) -> (u64, u64)
 /// Returns the next day from `now` on that is on each schedule, or `None` if there is no such day or it does not fit.
 #[tactic(auto, using(std::proofs::lemmas::Int::wraps))]
 pub fn next_shift(now: i64, schedules: &[Schedule<i64>]) -> Option<i64>
-    requires in_range { All (λ s. FitsSigned w64 s.0 × FitsSigned w64 s.1) schedules.now }
-    requires positive { All (λ s. pos 0 <ℤ s.1) schedules.now }
+    requires in_range { All (λ s. FitsSigned w64 s.first × FitsSigned w64 s.period) schedules.now }
+    requires positive { All (λ s. pos 0 <ℤ s.period) schedules.now }
     ensures { MatchOption result
         ((day : ℤ) → IsLeastFrom now (IsMeetingOfEach (λ t. t) schedules.now) day
         → ¬ (FitsSigned w64 day))

@@ -9,7 +9,7 @@ ghost use Rattle.num_integer.specs.Least.{IsLeastFrom};
 ghost use Rattle.num_integer.specs.Range.{EachFits};
 
 use modular::{
-    CommonSolution, chinese_remainder, inverse_modulo, next_common_solution,
+    CommonSolution, Congruence, chinese_remainder, inverse_modulo, next_common_solution,
     next_common_solution_of, next_congruent, previous_congruent, quotient_modulo, residue,
     solutions,
 };
@@ -88,57 +88,60 @@ pub fn previous_congruent_is_unique(to: i64, first: i64, step: i64, known: i64) 
 #[tactic(auto, using(std::proofs::lemmas::Int::wraps))]
 pub fn next_common_solution_is_unique(
     from: i64,
-    a: i64,
-    m: i64,
-    b: i64,
-    n: i64,
+    a: Congruence<i64>,
+    b: Congruence<i64>,
     known: i64,
 ) -> CommonSolution<i64>
-    requires positive { (pos 0 <ℤ m) × (pos 0 <ℤ n) }
-    requires next { IsNextCommonSolution from a m b n known }
+    requires positive { (pos 0 <ℤ a.modulus) × (pos 0 <ℤ b.modulus) }
+    requires next { IsNextCommonSolution from a.residue a.modulus b.residue b.modulus known }
     ensures { result ≡ At known }
 {
-    next_common_solution(from, a, m, b, n)
+    next_common_solution(from, a, b)
 }
 
 // ---- congruences
 
-/// Returns the first common solution and the step to the next one. Returns `None` if there is no common solution or
+/// Returns the numbers that solve both congruences, as a congruence. Returns `None` if there is no common solution or
 /// the least common multiple of the moduli does not fit.
-pub fn common_residue_class(a: i64, m: i64, b: i64, n: i64) -> Option<(i64, i64)>
-    requires m_positive { pos 0 <ℤ m }
-    requires n_positive { pos 0 <ℤ n }
+pub fn common_residue_class(a: Congruence<i64>, b: Congruence<i64>) -> Option<Congruence<i64>>
+    requires a_positive { pos 0 <ℤ a.modulus }
+    requires b_positive { pos 0 <ℤ b.modulus }
     ensures { MatchOption result
-        ((¬ (EachFits (FitsSigned w64) (IsLeastCommonMultiple m n)))
-        ⊎ ((x : ℤ) → ¬ (SolvesBothCongruences a m b n x)))
-        (λ s. IsResidueClass (SolvesBothCongruences a m b n) s.0 s.1) }
+        ((¬ (EachFits (FitsSigned w64) (IsLeastCommonMultiple a.modulus b.modulus)))
+        ⊎ ((x : ℤ) → ¬ (SolvesBothCongruences a.residue a.modulus b.residue b.modulus x)))
+        (λ c. IsResidueClass (SolvesBothCongruences a.residue a.modulus b.residue b.modulus) c.residue c.modulus) }
 {
-    if m.lcm_fits(&n) {
-        let (first, step) = chinese_remainder(a, m, b, n)?;
-        Some((first, step))
+    if a.modulus.lcm_fits(&b.modulus) {
+        let class = chinese_remainder(a, b)?;
+        Some(class)
     } else {
         None
     }
 }
 
 /// Returns the next number that solves both congruences, or `None` if no such number is in range.
-pub fn next_common_solution_or_none(from: i64, a: i64, m: i64, b: i64, n: i64) -> Option<i64>
-    requires m_positive { pos 0 <ℤ m }
-    requires n_positive { pos 0 <ℤ n }
+pub fn next_common_solution_or_none(
+    from: i64,
+    a: Congruence<i64>,
+    b: Congruence<i64>,
+) -> Option<i64>
+    requires a_positive { pos 0 <ℤ a.modulus }
+    requires b_positive { pos 0 <ℤ b.modulus }
     ensures { MatchOption result
-        ((t : ℤ) → IsNextCommonSolution from a m b n t → ¬ (FitsSigned w64 t))
-        (λ t. IsNextCommonSolution from a m b n t) }
+        ((t : ℤ) → IsNextCommonSolution from a.residue a.modulus b.residue b.modulus t
+        → ¬ (FitsSigned w64 t))
+        (λ t. IsNextCommonSolution from a.residue a.modulus b.residue b.modulus t) }
 {
-    match next_common_solution(from, a, m, b, n) {
+    match next_common_solution(from, a, b) {
         CommonSolution::At(t) => Some(t),
         CommonSolution::Beyond | CommonSolution::Never => None,
     }
 }
 
 /// Returns the next number that solves each of the congruences, or `None` if no such number is in range.
-pub fn next_solution_of_each(from: i64, congruences: &[(i64, i64)]) -> Option<i64>
-    requires in_range { All (λ c. FitsSigned w64 c.0 × FitsSigned w64 c.1) congruences.now }
-    requires positive { All (λ c. pos 0 <ℤ c.1) congruences.now }
+pub fn next_solution_of_each(from: i64, congruences: &[Congruence<i64>]) -> Option<i64>
+    requires in_range { All (λ c. FitsSigned w64 c.residue × FitsSigned w64 c.modulus) congruences.now }
+    requires positive { All (λ c. pos 0 <ℤ c.modulus) congruences.now }
     ensures { MatchOption result
         ((t : ℤ) → IsLeastFrom from (SolvesEach (λ x. x) congruences.now) t
         → ¬ (FitsSigned w64 t))

@@ -116,15 +116,15 @@ fn moduli() {
             RollingHash::new(10, 0, 2);
         }
         ONE_MODULUS {
-            modular::chinese_remainder(1, 0, 1, 3);
-            modular::chinese_remainder(1, 3, 1, 0);
-            modular::next_common_solution_of(0, &[(1, -3), (1, 2)]);
-            modular::next_common_solution_of(0, &[(1, 0), (1, 2)]);
-            modular::next_common_solution_of(0, &[(1, 2), (1, 0)]);
+            modular::chinese_remainder((1, 0).into(), (1, 3).into());
+            modular::chinese_remainder((1, 3).into(), (1, 0).into());
+            modular::next_common_solution_of(0, &[(1, -3).into(), (1, 2).into()]);
+            modular::next_common_solution_of(0, &[(1, 0).into(), (1, 2).into()]);
+            modular::next_common_solution_of(0, &[(1, 2).into(), (1, 0).into()]);
         }
         LCM {
-            modular::chinese_remainder(1u8, 100, 1, 101);
-            modular::chinese_remainder(100u8, 100, 1, 101);
+            modular::chinese_remainder((1u8, 100).into(), (1, 101).into());
+            modular::chinese_remainder((100u8, 100).into(), (1, 101).into());
         }
     }
     returns! {
@@ -136,10 +136,10 @@ fn moduli() {
         power_modulo_counted(-2, 3, 7).0 => 6;
         modular::power_modulo(2, 3, 1) => 0;
         modular::count_congruent(1, 10, 0, 1) => Some(10);
-        modular::chinese_remainder(0, 1, 0, 1) => Some((0, 1));
-        modular::chinese_remainder(0, 1, -1, 3) => Some((2, 3));
-        modular::chinese_remainder(-1, 3, 0, 1) => Some((2, 3));
-        modular::next_common_solution_of(5, &[(0, 1)]) => CommonSolution::At(5);
+        modular::chinese_remainder((0, 1).into(), (0, 1).into()) => Some((0, 1).into());
+        modular::chinese_remainder((0, 1).into(), (-1, 3).into()) => Some((2, 3).into());
+        modular::chinese_remainder((-1, 3).into(), (0, 1).into()) => Some((2, 3).into());
+        modular::next_common_solution_of(5, &[(0, 1).into()]) => CommonSolution::At(5);
         RollingHash::new(10, 1, 2).modulus() => 1;
     }
 }
@@ -276,19 +276,19 @@ fn times() {
     let (period, one_period) = ("the period is not positive", "a period is not positive");
     panics! {
         period {
-            schedules::next_meeting(0, (1, 0), (1, 3));
-            schedules::next_meeting(0, (1, 3), (1, 0));
-            schedules::count(0, 9, (1, 0));
+            schedules::next_meeting(0, (1, 0).into(), (1, 3).into());
+            schedules::next_meeting(0, (1, 3).into(), (1, 0).into());
+            schedules::count(0, 9, (1, 0).into());
         }
         one_period {
-            schedules::next_meeting_of(0, &[(1, -2), (1, 3)]);
-            schedules::next_meeting_of(0, &[(1, 0), (1, 3)]);
-            schedules::next_meeting_of(0, &[(1, 3), (1, 0)]);
+            schedules::next_meeting_of(0, &[(1, -2).into(), (1, 3).into()]);
+            schedules::next_meeting_of(0, &[(1, 0).into(), (1, 3).into()]);
+            schedules::next_meeting_of(0, &[(1, 3).into(), (1, 0).into()]);
         }
     }
     returns! {
-        schedules::next_meeting(0, (0, 1), (0, 1)) => CommonSolution::At(0);
-        schedules::next_meeting_of(0, &[(0, 1), (0, 1)]) => CommonSolution::At(0);
-        schedules::count(0, 9, (0, 1)) => Some(10);
+        schedules::next_meeting(0, (0, 1).into(), (0, 1).into()) => CommonSolution::At(0);
+        schedules::next_meeting_of(0, &[(0, 1).into(), (0, 1).into()]) => CommonSolution::At(0);
+        schedules::count(0, 9, (0, 1).into()) => Some(10);
     }
 }

@@ -143,8 +143,8 @@ fn divisors() {
             u64::MAX.gcd_lcm(&(u64::MAX - 1));
             cellarcove::gcd_lcm(u64::MAX, u64::MAX - 1);
             i64::MAX.extended_gcd_lcm(&(i64::MAX - 1));
-            modular::chinese_remainder(1u8, 100, 3, 101);
-            modular::chinese_remainder(1i64, i64::MAX, 3, i64::MAX - 1);
+            modular::chinese_remainder((1u8, 100).into(), (3, 101).into());
+            modular::chinese_remainder((1i64, i64::MAX).into(), (3, i64::MAX - 1).into());
             lists::lcm_of(&[16u8, 17]);
             lists::lcm_of(&[i64::MIN]);
         }
@@ -298,8 +298,8 @@ fn moduli() {
             modular::inverse_modulo(3, 0);
             modular::quotient_modulo(2, 3, -7);
             modular::solutions(2, 3, -7);
-            modular::next_common_solution(0, 1, -2, 1, 3);
-            modular::next_common_solution(0, 1, 2, 1, -3);
+            modular::next_common_solution(0, (1, -2).into(), (1, 3).into());
+            modular::next_common_solution(0, (1, 2).into(), (1, -3).into());
             RollingHash::new(10, 0, 2);
             modular::next_congruent(10, 1, -4);
             modular::previous_congruent(10, 1, -4);
@@ -307,10 +307,10 @@ fn moduli() {
             modular::count_congruent(10, 1, 1, 0);
         }
         ONE_MODULUS {
-            modular::chinese_remainder(1, -2, 1, 3);
-            modular::chinese_remainder(1, 2, 1, 0);
-            modular::next_common_solution_of(0, &[(1, 2), (1, -3)]);
-            modular::next_common_solution_of(0u8, &[(1, 0)]);
+            modular::chinese_remainder((1, -2).into(), (1, 3).into());
+            modular::chinese_remainder((1, 2).into(), (1, 0).into());
+            modular::next_common_solution_of(0, &[(1, 2).into(), (1, -3).into()]);
+            modular::next_common_solution_of(0u8, &[(1, 0).into()]);
         }
     }
 }
@@ -360,12 +360,12 @@ fn models() {
             shares::instalments(100u8, 0);
         }
         PERIOD {
-            schedules::next_meeting(0, (1, -2), (1, 3));
-            schedules::next_meeting(0, (1, 2), (1, 0));
-            schedules::count(0, 9, (1, -2));
-            schedules::count(9u8, 0, (1, 0));
+            schedules::next_meeting(0, (1, -2).into(), (1, 3).into());
+            schedules::next_meeting(0, (1, 2).into(), (1, 0).into());
+            schedules::count(0, 9, (1, -2).into());
+            schedules::count(9u8, 0, (1, 0).into());
         }
-        one_period { schedules::next_meeting_of(0, &[(1, 2), (1, -3)]); }
+        one_period { schedules::next_meeting_of(0, &[(1, 2).into(), (1, -3).into()]); }
         PAGE_SIZE {
             paging::pages(5, 0);
             paging::place_of(5, -8);

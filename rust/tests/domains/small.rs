@@ -403,21 +403,21 @@ macro_rules! tests {
                         "chinese_remainder",
                         (m, n, gap),
                         if above_zero && !solved { Some(None) } else { lcm.map(Some) },
-                        || modular::chinese_remainder(1, m, 1 + gap, n).map(|(_, step)| step),
+                        || modular::chinese_remainder((1, m).into(), (1 + gap, n).into()).map(|class| class.modulus),
                     );
                     let never = Some(!solved).filter(|_| above_zero);
                     let is_never = |answer| answer == modular::CommonSolution::Never;
                     check("next_common_solution", (m, n, gap), never, || {
-                        is_never(modular::next_common_solution(0, 1, m, 1 + gap, n))
+                        is_never(modular::next_common_solution(0, (1, m).into(), (1 + gap, n).into()))
                     });
                     check("next_common_solution_of", (m, n, gap), never, || {
-                        is_never(modular::next_common_solution_of(0, &[(1, m), (1 + gap, n)]))
+                        is_never(modular::next_common_solution_of(0, &[(1, m).into(), (1 + gap, n).into()]))
                     });
                     check("next_meeting", (m, n, gap), never, || {
-                        is_never(schedules::next_meeting(0, (1, m), (1 + gap, n)))
+                        is_never(schedules::next_meeting(0, (1, m).into(), (1 + gap, n).into()))
                     });
                     check("next_meeting_of", (m, n, gap), never, || {
-                        is_never(schedules::next_meeting_of(0, &[(1, m), (1 + gap, n)]))
+                        is_never(schedules::next_meeting_of(0, &[(1, m).into(), (1 + gap, n).into()]))
                     });
                 });
             }

@@ -103,8 +103,8 @@ macro_rules! tests {
                 let inverse = above_zero && gcd(size(a), size(b)) == 1;
                 check("inverse_modulo", pair, Some(inverse).filter(|_| above_zero), || modular::inverse_modulo(a, b).is_some());
                 let step = multiple.filter(|_| a > 0 && b > 0);
-                check("chinese_remainder", pair, step.map(|step| Some((c.rem_euclid(step), step))), || {
-                    modular::chinese_remainder(c, a, c, b)
+                check("chinese_remainder", pair, step.map(|step| Some((c.rem_euclid(step), step).into())), || {
+                    modular::chinese_remainder((c, a).into(), (c, b).into())
                 });
                 // Coefficients.
                 let (n, k) = if round % 2 == 0 { (a, b) } else { (a, (size(b) % 40) as N) };

@@ -9,9 +9,9 @@ use super::lines::LibraryCall;
 use super::spread::{OfThree, each_three, spread_of};
 use super::walks::{Answered, values};
 use modular::{
-    CommonSolution, Modular, chinese_remainder, count_congruent, difference_modulo, inverse_modulo,
-    negation_modulo, next_common_solution, next_congruent, power_modulo, previous_congruent,
-    product_modulo, quotient_modulo, residue, solutions, sum_modulo,
+    CommonSolution, Congruence, Modular, chinese_remainder, count_congruent, difference_modulo,
+    inverse_modulo, negation_modulo, next_common_solution, next_congruent, power_modulo,
+    previous_congruent, product_modulo, quotient_modulo, residue, solutions, sum_modulo,
 };
 use num_integer::Fits;
 use num_integer::operators::{is_below, zero};
@@ -71,19 +71,19 @@ impl<T: Modular + Tested> OfThree<T> for Residues {
 fn with_result_of_two<T: Modular + Fits>(
     call: Residues,
     sum: Checksum,
-    first: (T, T),
-    second: (T, T),
+    a: Congruence<T>,
+    b: Congruence<T>,
 ) -> Option<Checksum>
-    requires numbers_in_range { T.fits (T.value first.0) × T.fits (T.value second.0) }
-    requires moduli_in_range { T.fits (T.value first.1) × T.fits (T.value second.1) }
-    requires positive { pos 0 <ℤ T.value first.1 × pos 0 <ℤ T.value second.1 }
+    requires a_in_range { T.fits (T.value a.residue) × T.fits (T.value a.modulus) }
+    requires b_in_range { T.fits (T.value b.residue) × T.fits (T.value b.modulus) }
+    requires positive { pos 0 <ℤ T.value a.modulus × pos 0 <ℤ T.value b.modulus }
 {
-    let ((a, m), (b, n)) = (first, second);
     match call {
-        Residues::ChineseRemainder if m.lcm_fits(&n) => {
-            Some(with_values(sum, chinese_remainder(a, m, b, n)?))
+        Residues::ChineseRemainder if a.modulus.lcm_fits(&b.modulus) => {
+            let class = chinese_remainder(a, b)?;
+            Some(with_values(sum, (class.residue, class.modulus)))
         }
-        Residues::NextSolution => match next_common_solution(b, a, m, b, n) {
+        Residues::NextSolution => match next_common_solution(b.residue, a, b) {
             CommonSolution::At(t) => Some(with_value(sum, t)),
             CommonSolution::Beyond => Some(sum.with((true, 0))),
             CommonSolution::Never => None,
@@ -97,18 +97,23 @@ fn of_first<T: Modular + Tested>(
     call: Residues,
     so_far: Answered,
     numbers: &[T],
-    first: (T, T),
+    first: Congruence<T>,
 ) -> Answered
-    requires first_in_range { T.fits (T.value first.0) × T.fits (T.value first.1) }
-    requires positive { pos 0 <ℤ T.value first.1 }
+    requires first_in_range { T.fits (T.value first.residue) × T.fits (T.value first.modulus) }
+    requires positive { pos 0 <ℤ T.value first.modulus }
     requires numbers_in_range { All (λ x. T.fits (T.value x)) numbers.now }
 {
     let mut answered = so_far;
     for b in numbers {
         for n in numbers {
             if is_below(zero(), *n) {
-                let sum = with_values(with_values(answered.1, first), (*b, *n));
-                answered = answered.and(with_result_of_two(call, sum, first, (*b, *n)));
+                let sum = with_values(answered.1, (first.residue, first.modulus));
+                let second = Congruence {
+                    residue: *b,
+                    modulus: *n,
+                };
+                let sum = with_values(sum, (*b, *n));
+                answered = answered.and(with_result_of_two(call, sum, first, second));
             }
         }
     }
@@ -122,7 +127,11 @@ fn of_two_moduli<T: Modular + Tested>(rt: &impl Abort, alloc: Global, call: Resi
     for a in &numbers {
         for m in &numbers {
             if is_below(zero(), *m) {
-                answered = of_first(call, answered, &numbers, (*a, *m));
+                let first = Congruence {
+                    residue: *a,
+                    modulus: *m,
+                };
+                answered = of_first(call, answered, &numbers, first);
             }
         }
     }

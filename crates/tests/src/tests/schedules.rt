@@ -7,9 +7,9 @@ const MIN: i64 = i64::MIN;
 
 const MAX: i64 = i64::MAX;
 
-/// The first and the last time of a range, a schedule, and how many of its times are in the range, or `None` if the type
-/// cannot hold that number.
-type Range<T> = (T, T, Schedule<T>, Option<T>);
+/// The first and the last time of a range, the first time and the period of a schedule, and how many of its times are in
+/// the range, or `None` if the type cannot hold that number.
+type Range<T> = (T, T, (T, T), Option<T>);
 
 static RANGES: [Range<i64>; 22] = [
     (4, 15, (3, 6), Some(2)),
@@ -49,13 +49,15 @@ static SMALL_RANGES: [Range<i8>; 7] = [
 #[test]
 fn times_in_a_range(rt: HostRuntime) {
     for row in &RANGES {
-        let &(from, to, schedule, expected) = row;
-        holds_at(&rt, schedule.1 > 0, row);
+        let &(from, to, (first, period), expected) = row;
+        let schedule = Schedule { first, period };
+        holds_at(&rt, period > 0, row);
         holds_at(&rt, count(from, to, schedule) == expected, row);
     }
     for row in &SMALL_RANGES {
-        let &(from, to, schedule, expected) = row;
-        holds_at(&rt, schedule.1 > 0, row);
+        let &(from, to, (first, period), expected) = row;
+        let schedule = Schedule { first, period };
+        holds_at(&rt, period > 0, row);
         holds_at(&rt, count(from, to, schedule) == expected, row);
     }
 }

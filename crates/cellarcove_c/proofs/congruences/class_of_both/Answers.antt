@@ -7,7 +7,7 @@ returns-then-lcm_fits g c =
     let zero_fits = c.requires.in_range.4 in
     let good = c.are_positive.ensures.0 c.if-not-are_positive.false in
     let status = c.with_status in
-    class_is g.T.Number.value g.T.Number.fits _ _ _ _ (c.args.zero, c.args.zero) (zero_fits, zero_fits) good (c.lcm_fits.ensures.0 c.if-lcm_fits.true) status.result.0 status.result.1 c.chinese_remainder.result
+    class_is g.T.Number.value g.T.Number.fits _ _ _ _ (record { residue = c.args.zero; modulus = c.args.zero }) (zero_fits, zero_fits) good (c.lcm_fits.ensures.0 c.if-lcm_fits.true) status.result.0 status.result.1 c.chinese_remainder.result
     c.chinese_remainder.ensures status.ensures.answer status.ensures.refusal
 
 pub returns-else-lcm_fits : goal.returns-else-lcm_fits
@@ -16,4 +16,4 @@ returns-else-lcm_fits g c =
     let good = c.are_positive.ensures.0 c.if-not-are_positive.false in
     let beyond = iff_false c.lcm_fits.ensures c.if-lcm_fits.false in
     let reason = c.reason_for_congruences in
-    reason_is g.T.Number.value g.T.Number.fits _ _ _ _ (c.args.zero, c.args.zero) (zero_fits, zero_fits) good beyond reason.result reason.ensures.not_fitting reason.ensures.no_solution reason.ensures.refusal
+    reason_is g.T.Number.value g.T.Number.fits _ _ _ _ (record { residue = c.args.zero; modulus = c.args.zero }) (zero_fits, zero_fits) good beyond reason.result reason.ensures.not_fitting reason.ensures.no_solution reason.ensures.refusal
