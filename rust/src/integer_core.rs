@@ -426,7 +426,7 @@ pub trait Integer: Sized + Num + PartialOrd + Ord + Eq {
     /// # Examples
     ///
     /// ```
-    /// use cellarcove::{gcd, ExtendedGcd, Integer};
+    /// use cellarcove::{ExtendedGcd, Integer};
     ///
     /// assert_eq!(240.extended_gcd(&46), ExtendedGcd { gcd: 2, x: -9, y: 47 });
     /// assert_eq!(5.extended_gcd(&0), ExtendedGcd { gcd: 5, x: 1, y: 0 });
@@ -456,7 +456,7 @@ pub trait Integer: Sized + Num + PartialOrd + Ord + Eq {
     /// # Examples
     ///
     /// ```
-    /// use cellarcove::{gcd, ExtendedGcd, Integer};
+    /// use cellarcove::{ExtendedGcd, Integer};
     ///
     /// assert_eq!(10.extended_gcd_lcm(&4), (ExtendedGcd { gcd: 2, x: 1, y: -2 }, 20));
     /// ```

@@ -4,19 +4,22 @@
 
 pub mod checked;
 mod common_solutions;
+mod congruent_numbers;
 pub mod counted;
 mod exponentiation;
+pub(crate) mod guards;
 mod inverses;
 mod montgomery;
 mod native;
 mod products;
 mod residue_classes;
 mod residues;
-mod several_congruences;
+pub(crate) mod several_congruences;
 mod wide_residues;
 mod word_residues;
 
 pub use common_solutions::{chinese_remainder, next_common_solution, CommonSolution};
+pub use congruent_numbers::Congruence;
 pub use inverses::{inverse_modulo, quotient_modulo};
 pub use products::{power_modulo, product_modulo, Modular};
 pub use residue_classes::{count_congruent, next_congruent, previous_congruent, solutions};

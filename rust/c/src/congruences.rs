@@ -7,7 +7,8 @@ use crate::answers::{
 };
 use crate::modulo::reason_for_modulus;
 use cellarcove::modular::{
-    checked, chinese_remainder, next_common_solution, solutions, CommonSolution, Modular,
+    checked, chinese_remainder, next_common_solution, solutions, CommonSolution, Congruence,
+    Modular,
 };
 use cellarcove::operators::{is_below, zero};
 use cellarcove::{Fits, Integer};
@@ -67,11 +68,21 @@ pub extern "C" fn cellarcove_solutions_u64(a: u64, b: u64, m: u64) -> U64Solutio
 /// `NOT_FITTING` if there is one, and the step does not fit.
 #[unsafe(no_mangle)]
 pub extern "C" fn cellarcove_chinese_remainder_i64(a: i64, m: i64, b: i64, n: i64) -> I64Solutions {
-    let (status, (first, step)) = class_of_both(a, m, b, n, 0);
+    let (status, class) = class_of_both(
+        Congruence {
+            residue: a,
+            modulus: m,
+        },
+        Congruence {
+            residue: b,
+            modulus: n,
+        },
+        0,
+    );
     I64Solutions {
         status,
-        first,
-        step,
+        first: class.residue,
+        step: class.modulus,
     }
 }
 
@@ -82,11 +93,21 @@ pub extern "C" fn cellarcove_chinese_remainder_i64(a: i64, m: i64, b: i64, n: i6
 /// there is one, and the step does not fit.
 #[unsafe(no_mangle)]
 pub extern "C" fn cellarcove_chinese_remainder_u64(a: u64, m: u64, b: u64, n: u64) -> U64Solutions {
-    let (status, (first, step)) = class_of_both(a, m, b, n, 0);
+    let (status, class) = class_of_both(
+        Congruence {
+            residue: a,
+            modulus: m,
+        },
+        Congruence {
+            residue: b,
+            modulus: n,
+        },
+        0,
+    );
     U64Solutions {
         status,
-        first,
-        step,
+        first: class.residue,
+        step: class.modulus,
     }
 }
 
@@ -205,7 +226,17 @@ pub extern "C" fn cellarcove_next_common_solution_i64(
     if m <= 0 || n <= 0 {
         return I64Answer::none(BAD_MODULUS);
     }
-    I64Answer::of_common(next_common_solution(from, a, m, b, n))
+    I64Answer::of_common(next_common_solution(
+        from,
+        Congruence {
+            residue: a,
+            modulus: m,
+        },
+        Congruence {
+            residue: b,
+            modulus: n,
+        },
+    ))
 }
 
 /// Returns the smallest number from `from` on that is `a` modulo `m` and `b` modulo `n`. The least
@@ -225,7 +256,17 @@ pub extern "C" fn cellarcove_next_common_solution_u64(
     if m == 0 || n == 0 {
         return U64Answer::none(BAD_MODULUS);
     }
-    U64Answer::of_common(next_common_solution(from, a, m, b, n))
+    U64Answer::of_common(next_common_solution(
+        from,
+        Congruence {
+            residue: a,
+            modulus: m,
+        },
+        Congruence {
+            residue: b,
+            modulus: n,
+        },
+    ))
 }
 
 impl I64Solutions {
@@ -268,17 +309,25 @@ impl U64Solutions {
     }
 }
 
-/// Returns the status of the numbers that are `a` modulo `m` and `b` modulo `n`, the first of them
-/// and the step from each to the next. If there is no result, both are `zero`. For 1, 4, 3 and 6 it
-/// returns 0, 9 and 12.
-fn class_of_both<T: Modular + Fits>(a: T, m: T, b: T, n: T, zero: T) -> (u32, (T, T)) {
-    if !are_positive(m, n) {
-        return (BAD_MODULUS, (zero, zero));
+/// Returns the status of the numbers that solve both congruences, and the numbers as a congruence.
+/// If there is no result, its residue and its modulus are `zero`. For 1 modulo 4 and 3 modulo 6 it
+/// returns 0 and 9 modulo 12.
+fn class_of_both<T: Modular + Fits>(
+    a: Congruence<T>,
+    b: Congruence<T>,
+    zero: T,
+) -> (u32, Congruence<T>) {
+    let none = Congruence {
+        residue: zero,
+        modulus: zero,
+    };
+    if !are_positive(a.modulus, b.modulus) {
+        return (BAD_MODULUS, none);
     }
-    if m.lcm_fits(&n) {
-        with_status(chinese_remainder(a, m, b, n), (zero, zero), NO_SOLUTION)
+    if a.modulus.lcm_fits(&b.modulus) {
+        with_status(chinese_remainder(a, b), none, NO_SOLUTION)
     } else {
-        (reason_for_congruences(a, m, b, n), (zero, zero))
+        (reason_for_congruences(a, b), none)
     }
 }
 
@@ -289,8 +338,8 @@ fn are_positive<T: Integer>(m: T, n: T) -> bool {
 
 /// Returns why two congruences have no class of solutions, if the least common multiple of their
 /// moduli does not fit.
-fn reason_for_congruences<T: Modular + Fits>(a: T, m: T, b: T, n: T) -> u32 {
-    match next_common_solution(zero(), a, m, b, n) {
+fn reason_for_congruences<T: Modular + Fits>(a: Congruence<T>, b: Congruence<T>) -> u32 {
+    match next_common_solution(zero(), a, b) {
         CommonSolution::Never => NO_SOLUTION,
         _ => NOT_FITTING,
     }

@@ -2,7 +2,7 @@
 //! Times that recur after a period.
 
 use crate::answers::{I64Answer, U64Answer, BAD_MODULUS, NOT_FITTING};
-use cellarcove::applied::schedules::{count, next_meeting};
+use cellarcove::applied::schedules::{count, next_meeting, Schedule};
 
 /// Returns the first time, not before `now`, that is in two schedules. One has the times `a`,
 /// `a + p`, `a + 2 * p` and so on, and the other those of `b` and `q`. For 10, 1, 4, 3 and 6 it is
@@ -21,7 +21,17 @@ pub extern "C" fn cellarcove_next_meeting_i64(
     if p <= 0 || q <= 0 {
         return I64Answer::none(BAD_MODULUS);
     }
-    I64Answer::of_common(next_meeting(now, (a, p), (b, q)))
+    I64Answer::of_common(next_meeting(
+        now,
+        Schedule {
+            first: a,
+            period: p,
+        },
+        Schedule {
+            first: b,
+            period: q,
+        },
+    ))
 }
 
 /// Returns the first time, not before `now`, that is in two schedules. One has the times `a`,
@@ -41,7 +51,17 @@ pub extern "C" fn cellarcove_next_meeting_u64(
     if p == 0 || q == 0 {
         return U64Answer::none(BAD_MODULUS);
     }
-    U64Answer::of_common(next_meeting(now, (a, p), (b, q)))
+    U64Answer::of_common(next_meeting(
+        now,
+        Schedule {
+            first: a,
+            period: p,
+        },
+        Schedule {
+            first: b,
+            period: q,
+        },
+    ))
 }
 
 /// Returns how many times of a schedule are in the range of numbers between `from` and `to`, and at
@@ -59,7 +79,7 @@ pub extern "C" fn cellarcove_count_times_i64(
     if period <= 0 {
         return I64Answer::none(BAD_MODULUS);
     }
-    I64Answer::of(count(from, to, (first, period)), NOT_FITTING)
+    I64Answer::of(count(from, to, Schedule { first, period }), NOT_FITTING)
 }
 
 /// Returns how many times of a schedule are in the range of numbers between `from` and `to`, and at
@@ -77,5 +97,5 @@ pub extern "C" fn cellarcove_count_times_u64(
     if period == 0 {
         return U64Answer::none(BAD_MODULUS);
     }
-    U64Answer::of(count(from, to, (first, period)), NOT_FITTING)
+    U64Answer::of(count(from, to, Schedule { first, period }), NOT_FITTING)
 }

@@ -2,7 +2,7 @@
 //! The next number that solves several congruences.
 
 use crate::answers::{common_with_status, I64Answer, U64Answer, BAD_MODULUS, OUTSIDE};
-use cellarcove::modular::{next_common_solution_of, Modular};
+use cellarcove::modular::{next_common_solution_of, Congruence, Modular};
 use cellarcove::operators::{is_below, zero};
 use cellarcove::{Fits, Integer};
 
@@ -42,7 +42,10 @@ pub extern "C" fn cellarcove_next_common_solution_of_i64(
         // SAFETY: the caller promises that the pointer leads to so many items, which do not change.
         unsafe { core::slice::from_raw_parts(congruences, congruences_len) }
     };
-    let mut room = [(0, 1); MOST];
+    let mut room = [Congruence {
+        residue: 0,
+        modulus: 1,
+    }; MOST];
     let (status, value) = next_of_several(from, congruences, &mut room, 0);
     I64Answer { status, value }
 }
@@ -64,56 +67,68 @@ pub extern "C" fn cellarcove_next_common_solution_of_u64(
         // SAFETY: the caller promises that the pointer leads to so many items, which do not change.
         unsafe { core::slice::from_raw_parts(congruences, congruences_len) }
     };
-    let mut room = [(0, 1); MOST];
+    let mut room = [Congruence {
+        residue: 0,
+        modulus: 1,
+    }; MOST];
     let (status, value) = next_of_several(from, congruences, &mut room, 0);
     U64Answer { status, value }
 }
 
-/// A congruence of integers of a type.
-trait Congruence<T: Integer>: Copy {
-    /// Returns the residue and the modulus.
-    fn pair(self) -> (T, T);
+/// A congruence as C passes it.
+trait ForeignCongruence<T: Integer>: Copy {
+    /// Returns the congruence.
+    fn congruence(self) -> Congruence<T>;
 }
 
-impl Congruence<i64> for I64Congruence {
-    fn pair(self) -> (i64, i64) {
-        (self.residue, self.modulus)
+impl ForeignCongruence<i64> for I64Congruence {
+    fn congruence(self) -> Congruence<i64> {
+        Congruence {
+            residue: self.residue,
+            modulus: self.modulus,
+        }
     }
 }
 
-impl Congruence<u64> for U64Congruence {
-    fn pair(self) -> (u64, u64) {
-        (self.residue, self.modulus)
+impl ForeignCongruence<u64> for U64Congruence {
+    fn congruence(self) -> Congruence<u64> {
+        Congruence {
+            residue: self.residue,
+            modulus: self.modulus,
+        }
     }
 }
 
 /// Returns the status and the value of the smallest number from `from` on that solves each of up to
 /// 64 congruences. If there is no result, the value is `zero`. It copies the congruences to `room`.
 /// For 10, and 1 modulo 4 and 3 modulo 6, it returns 0 and 21.
-fn next_of_several<T: Modular + Fits, C: Congruence<T>>(
+fn next_of_several<T: Modular + Fits, C: ForeignCongruence<T>>(
     from: T,
     congruences: &[C],
-    room: &mut [(T, T)],
+    room: &mut [Congruence<T>],
     zero: T,
 ) -> (u32, T) {
     if congruences.len() > MOST {
         return (OUTSIDE, zero);
     }
-    let pairs = &mut room[..congruences.len()];
-    if !copy(congruences, pairs) {
+    let copies = &mut room[..congruences.len()];
+    if !copy(congruences, copies) {
         return (BAD_MODULUS, zero);
     }
-    common_with_status(next_common_solution_of(from, pairs), zero)
+    common_with_status(next_common_solution_of(from, copies), zero)
 }
 
 /// Copies the congruences and returns `true`, or returns `false` if a modulus is not positive.
-fn copy<T: Integer + Copy, C: Congruence<T>>(congruences: &[C], pairs: &mut [(T, T)]) -> bool {
+fn copy<T: Integer + Copy, C: ForeignCongruence<T>>(
+    congruences: &[C],
+    copies: &mut [Congruence<T>],
+) -> bool {
     for i in 0..congruences.len() {
-        let pair = congruences[i].pair();
-        if !is_below(zero(), pair.1) {
+        let congruence = congruences[i].congruence();
+        if !is_below(zero(), congruence.modulus) {
             return false;
         }
-        pairs[i] = pair;
+        copies[i] = congruence;
     }
     true
 }

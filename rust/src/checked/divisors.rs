@@ -78,7 +78,7 @@ pub fn gcd_lcm<T: Fits>(x: T, y: T) -> Option<(T, T)> {
 ///
 /// ```
 /// use cellarcove::ExtendedGcd;
-/// use cellarcove::checked::{extended_gcd, gcd};
+/// use cellarcove::checked::extended_gcd;
 ///
 /// assert_eq!(extended_gcd(240, 46), Some(ExtendedGcd { gcd: 2, x: -9, y: 47 }));
 /// assert_eq!(extended_gcd(10u8, 4), None);
@@ -101,7 +101,7 @@ pub fn extended_gcd<T: Fits>(x: T, y: T) -> Option<ExtendedGcd<T>> {
 ///
 /// ```
 /// use cellarcove::ExtendedGcd;
-/// use cellarcove::checked::{extended_gcd_lcm, gcd};
+/// use cellarcove::checked::extended_gcd_lcm;
 ///
 /// assert_eq!(extended_gcd_lcm(10, 4), Some((ExtendedGcd { gcd: 2, x: 1, y: -2 }, 20)));
 /// assert_eq!(extended_gcd_lcm(99i8, 100), None);

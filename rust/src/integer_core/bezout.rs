@@ -13,7 +13,7 @@ use crate::integer_core::Integer;
 /// # Examples
 ///
 /// ```
-/// use cellarcove::{gcd, ExtendedGcd, Integer};
+/// use cellarcove::{ExtendedGcd, Integer};
 ///
 /// assert_eq!(240.extended_gcd(&46), ExtendedGcd { gcd: 2, x: -9, y: 47 });
 /// ```
@@ -108,7 +108,7 @@ fn last_row<T: Integer + Clone>(a: T, b: T) -> (Row<T>, u32) {
 /// # Examples
 ///
 /// ```
-/// use cellarcove::{gcd, ExtendedGcd};
+/// use cellarcove::ExtendedGcd;
 /// use cellarcove::counted::extended_gcd_counted;
 ///
 /// assert_eq!(extended_gcd_counted(8, 13), (ExtendedGcd { gcd: 1, x: 5, y: -3 }, 5));

@@ -127,6 +127,7 @@ pub(crate) fn check_none_negative<T: Integer>(numbers: &[T], reason: &'static st
 }
 
 /// Panics if the second number of a pair is not positive.
+#[allow(dead_code)]
 #[inline]
 #[track_caller]
 pub(crate) fn check_second_positive<T: Integer>(pairs: &[(T, T)], reason: &'static str) {

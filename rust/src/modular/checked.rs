@@ -4,6 +4,7 @@
 //! `checked::sum_modulo(5, 4, 7)` is `Some(2)`, and `checked::sum_modulo(5, 4, 0)` is `None`.
 
 use crate::modular::common_solutions::CommonSolution;
+use crate::modular::congruent_numbers::Congruence;
 use crate::modular::products::Modular;
 use crate::operators::{is_below, zero};
 use crate::{Fits, Integer};
@@ -276,15 +277,18 @@ pub fn count_congruent<T: Fits>(from: T, to: T, residue: T, modulus: T) -> Optio
 /// ```
 /// use cellarcove::checked::chinese_remainder;
 ///
-/// assert_eq!(chinese_remainder(1, 4, 3, 6), Some((9, 12)));
-/// assert_eq!(chinese_remainder(1, 4, 3, 0), None);
+/// assert_eq!(chinese_remainder((1, 4).into(), (3, 6).into()), Some((9, 12).into()));
+/// assert_eq!(chinese_remainder((1, 4).into(), (3, 0).into()), None);
 /// ```
 ///
 /// [Contract](crate::definitions::modular#checkedchinese_remainder)
 #[must_use]
-pub fn chinese_remainder<T: Modular + Fits>(a: T, m: T, b: T, n: T) -> Option<(T, T)> {
-    if is_positive(m) && is_positive(n) && m.lcm_fits(&n) {
-        crate::modular::chinese_remainder(a, m, b, n)
+pub fn chinese_remainder<T: Modular + Fits>(
+    a: Congruence<T>,
+    b: Congruence<T>,
+) -> Option<Congruence<T>> {
+    if is_positive(a.modulus) && is_positive(b.modulus) && a.modulus.lcm_fits(&b.modulus) {
+        crate::modular::chinese_remainder(a, b)
     } else {
         None
     }
@@ -299,21 +303,22 @@ pub fn chinese_remainder<T: Modular + Fits>(a: T, m: T, b: T, n: T) -> Option<(T
 /// use cellarcove::checked::next_common_solution;
 /// use cellarcove::modular::CommonSolution;
 ///
-/// assert_eq!(next_common_solution(10, 1, 4, 3, 6), Some(CommonSolution::At(21)));
-/// assert_eq!(next_common_solution(10, 1, 0, 3, 6), None);
+/// assert_eq!(
+///     next_common_solution(10, (1, 4).into(), (3, 6).into()),
+///     Some(CommonSolution::At(21))
+/// );
+/// assert_eq!(next_common_solution(10, (1, 0).into(), (3, 6).into()), None);
 /// ```
 ///
 /// [Contract](crate::definitions::modular#checkednext_common_solution)
 #[must_use]
 pub fn next_common_solution<T: Modular + Fits>(
     from: T,
-    a: T,
-    m: T,
-    b: T,
-    n: T,
+    a: Congruence<T>,
+    b: Congruence<T>,
 ) -> Option<CommonSolution<T>> {
-    if is_positive(m) && is_positive(n) {
-        Some(crate::modular::next_common_solution(from, a, m, b, n))
+    if is_positive(a.modulus) && is_positive(b.modulus) {
+        Some(crate::modular::next_common_solution(from, a, b))
     } else {
         None
     }
@@ -329,17 +334,17 @@ pub fn next_common_solution<T: Modular + Fits>(
 /// use cellarcove::modular::CommonSolution;
 ///
 /// assert_eq!(
-///     next_common_solution_of(10, &[(1, 4), (3, 6), (0, 7)]),
+///     next_common_solution_of(10, &[(1, 4).into(), (3, 6).into(), (0, 7).into()]),
 ///     Some(CommonSolution::At(21))
 /// );
-/// assert_eq!(next_common_solution_of(10, &[(1, 4), (3, 0)]), None);
+/// assert_eq!(next_common_solution_of(10, &[(1, 4).into(), (3, 0).into()]), None);
 /// ```
 ///
 /// [Contract](crate::definitions::modular#checkednext_common_solution_of)
 #[must_use]
 pub fn next_common_solution_of<T: Modular + Fits>(
     from: T,
-    congruences: &[(T, T)],
+    congruences: &[Congruence<T>],
 ) -> Option<CommonSolution<T>> {
     if are_positive(congruences) {
         Some(crate::modular::next_common_solution_of(from, congruences))
@@ -349,10 +354,9 @@ pub fn next_common_solution_of<T: Modular + Fits>(
 }
 
 /// Returns `true` if each modulus is positive.
-fn are_positive<T: Integer + Copy>(congruences: &[(T, T)]) -> bool {
+fn are_positive<T: Integer + Copy>(congruences: &[Congruence<T>]) -> bool {
     for congruence in congruences {
-        let (_, m) = *congruence;
-        if !is_positive(m) {
+        if !is_positive(congruence.modulus) {
             return false;
         }
     }

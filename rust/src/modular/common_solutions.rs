@@ -3,14 +3,16 @@
 //! multiple of the moduli does not fit.
 
 use crate::guards::{check, check_lcm};
+use crate::modular::congruent_numbers::Congruence;
 use crate::modular::products::Modular;
 use crate::modular::residue_classes::{next_congruent, solutions, times_to_reach};
 use crate::modular::residues::{difference_modulo, residue};
 use crate::operators::{difference, is_negative, product, successor, sum, zero};
 use crate::{checked, Fits};
 
-/// Returns the numbers that are `a` modulo `m` and `b` modulo `n`, as the smallest that is not
-/// negative and the step from each to the next. It is `None` if there is no such number.
+/// Returns the numbers that solve both congruences, as a congruence: its residue is the smallest of
+/// them that is not negative, and its modulus the least common multiple of the two. It is `None` if
+/// there is no such number.
 ///
 /// [`Fits::lcm_fits`] tests whether the least common multiple fits, and
 /// [`checked::chinese_remainder`](crate::modular::checked::chinese_remainder) returns `None` if the
@@ -19,10 +21,13 @@ use crate::{checked, Fits};
 /// # Examples
 ///
 /// ```
-/// use cellarcove::modular::chinese_remainder;
+/// use cellarcove::modular::{chinese_remainder, Congruence};
 ///
-/// assert_eq!(chinese_remainder(1, 4, 3, 6), Some((9, 12)));
-/// assert_eq!(chinese_remainder(1, 4, 2, 6), None);
+/// assert_eq!(
+///     chinese_remainder((1, 4).into(), (3, 6).into()),
+///     Some(Congruence { residue: 9, modulus: 12 })
+/// );
+/// assert_eq!(chinese_remainder((1, 4).into(), (2, 6).into()), None);
 /// ```
 ///
 /// # Panics
@@ -33,14 +38,21 @@ use crate::{checked, Fits};
 /// [Contract](crate::definitions::modular#chinese_remainder)
 #[track_caller]
 #[must_use]
-pub fn chinese_remainder<T: Modular>(a: T, m: T, b: T, n: T) -> Option<(T, T)> {
-    check(m > zero(), "a modulus is not positive");
-    check(n > zero(), "a modulus is not positive");
-    let start = residue(a, m);
-    let gap = difference_modulo(b, start, n);
-    let (times, step) = solutions(m, gap, n)?;
-    check_lcm(&m, &n, "the least common multiple does not fit");
-    Some((sum(start, product(m, times)), product(m, step)))
+pub fn chinese_remainder<T: Modular>(a: Congruence<T>, b: Congruence<T>) -> Option<Congruence<T>> {
+    check(a.modulus > zero(), "a modulus is not positive");
+    check(b.modulus > zero(), "a modulus is not positive");
+    let start = residue(a.residue, a.modulus);
+    let gap = difference_modulo(b.residue, start, b.modulus);
+    let (times, step) = solutions(a.modulus, gap, b.modulus)?;
+    check_lcm(
+        &a.modulus,
+        &b.modulus,
+        "the least common multiple does not fit",
+    );
+    Some(Congruence {
+        residue: sum(start, product(a.modulus, times)),
+        modulus: product(a.modulus, step),
+    })
 }
 
 /// The result of [`next_common_solution`] and
@@ -51,15 +63,15 @@ pub fn chinese_remainder<T: Modular>(a: T, m: T, b: T, n: T) -> Option<(T, T)> {
 /// ```
 /// use cellarcove::modular::{next_common_solution, CommonSolution};
 ///
-/// assert_eq!(next_common_solution(10, 1, 4, 3, 6), CommonSolution::At(21));
+/// assert_eq!(next_common_solution(10, (1, 4).into(), (3, 6).into()), CommonSolution::At(21));
 /// ```
 #[derive(Debug, Clone, Copy, PartialEq, Eq, Hash)]
 pub enum CommonSolution<T> {
-    /// No number solves the congruences. `next_common_solution(10, 1, 4, 2, 6)` is
-    /// `CommonSolution::Never`.
+    /// No number solves the congruences. `next_common_solution(10, (1, 4).into(), (2, 6).into())`
+    /// is `CommonSolution::Never`.
     Never,
-    /// The smallest solution is too large for the type. `next_common_solution(118i8, 1, 4, 3, 6)`
-    /// is `CommonSolution::Beyond`.
+    /// The smallest solution is too large for the type.
+    /// `next_common_solution(118i8, (1, 4).into(), (3, 6).into())` is `CommonSolution::Beyond`.
     Beyond,
     /// The smallest solution.
     At(T),
@@ -88,9 +100,9 @@ impl<T> CommonSolution<T> {
     }
 }
 
-/// Returns the smallest number from `from` on that is `a` modulo `m` and `b` modulo `n`. The least
-/// common multiple of `m` and `n` need not fit: `next_common_solution(0u8, 1, 16, 1, 17)` is
-/// `CommonSolution::At(1)`.
+/// Returns the smallest number from `from` on that solves both congruences. The least common
+/// multiple of the moduli need not fit: `next_common_solution(0u8, (1, 16).into(), (1, 17).into())`
+/// is `CommonSolution::At(1)`.
 ///
 /// [`checked::next_common_solution`](crate::modular::checked::next_common_solution) returns `None`
 /// if the precondition does not hold.
@@ -98,10 +110,16 @@ impl<T> CommonSolution<T> {
 /// # Examples
 ///
 /// ```
-/// use cellarcove::modular::{next_common_solution, CommonSolution};
+/// use cellarcove::modular::{next_common_solution, CommonSolution, Congruence};
 ///
-/// assert_eq!(next_common_solution(10, 1, 4, 3, 6), CommonSolution::At(21));
-/// assert_eq!(next_common_solution(0u8, 1, 16, 1, 17), CommonSolution::At(1));
+/// assert_eq!(
+///     next_common_solution(0u8, (1, 16).into(), (1, 17).into()),
+///     CommonSolution::At(1)
+/// );
+/// let first = Congruence { residue: 1, modulus: 4 };
+/// let second = Congruence { residue: 3, modulus: 6 };
+/// assert_eq!(next_common_solution(10, first, second), CommonSolution::At(21));
+/// assert_eq!(next_common_solution(10, (1, 4).into(), (3, 6).into()), CommonSolution::At(21));
 /// ```
 ///
 /// # Panics
@@ -113,15 +131,13 @@ impl<T> CommonSolution<T> {
 #[must_use]
 pub fn next_common_solution<T: Modular + Fits>(
     from: T,
-    a: T,
-    m: T,
-    b: T,
-    n: T,
+    a: Congruence<T>,
+    b: Congruence<T>,
 ) -> CommonSolution<T> {
-    let start = residue(a, m);
-    let gap = difference_modulo(b, start, n);
-    match solutions(m, gap, n) {
-        Some((first, step)) => match next_in_class(from, start, m, first, step) {
+    let start = residue(a.residue, a.modulus);
+    let gap = difference_modulo(b.residue, start, b.modulus);
+    match solutions(a.modulus, gap, b.modulus) {
+        Some((first, step)) => match next_in_class(from, start, a.modulus, first, step) {
             Some(solution) => CommonSolution::At(solution),
             None => CommonSolution::Beyond,
         },
