@@ -58,7 +58,7 @@ pub fn falling<T: Integer + Copy>(n: T, k: T) -> T
 /// Returns the product of the numbers above `low` up to `high`. In plain Rust it panics with the reason if the product
 /// does not fit.
 #[tactic(auto, using(crate::proofs::FallingFactorials::product_first, crate::proofs::FallingFactorials::product_next))]
-fn product_above<T: Integer + Copy>(low: T, high: T, reason: &str) -> T
+fn product_above<T: Integer + Copy>(low: T, high: T, reason: &'static str) -> T
     requires in_range { T.fits (T.value low) × T.fits (T.value high) }
     requires from_zero { pos 0 ≤ℤ T.value low }
     requires ordered { T.value low ≤ℤ T.value high }

@@ -67,7 +67,7 @@ pub fn falling<T: Integer + Copy>(n: T, k: T) -> T {
 /// Returns the product of the numbers above `low` up to `high`. In plain Rust it panics with the
 /// reason if the product does not fit.
 #[track_caller]
-fn product_above<T: Integer + Copy>(low: T, high: T, reason: &str) -> T {
+fn product_above<T: Integer + Copy>(low: T, high: T, reason: &'static str) -> T {
     let mut ways = one();
     let mut factor = low;
     while is_below(factor, high) {
