@@ -1,15 +1,13 @@
-//! Everyday tasks in their users' words: payments, pages, a clock, prices, an age, runs of a job.
+//! Everyday tasks in their users' words: payments, pages, a clock, prices, runs of a job.
 
-ghost use Rattle.std.specs.Prelude.{◌≡◌, ◌↔◌, ◌+◌, ◌*◌, ◌%◌, ◌^◌, ◌<◌, ◌≤◌, ◌-ℤ◌, ◌<ℤ◌, ◌≤ℤ◌, FitsSigned, IfOk, IsTrue, MatchOption, map, pos, ℕ, ℤ};
+ghost use Rattle.std.specs.Prelude.{◌≡◌, ◌↔◌, ◌+◌, ◌*◌, ◌%◌, ◌^◌, ◌<◌, ◌≤◌, ◌-ℤ◌, ◌<ℤ◌, FitsSigned, IfOk, IsTrue, MatchOption, map, pos, ℕ, ℤ};
 ghost use Rattle.std.specs.Int.{w64};
 ghost use Rattle.num_integer.specs.Divisors.{Divides};
 ghost use Rattle.modular.specs.Counts.{IsCountFrom};
 ghost use Rattle.applied.specs.Instalments.{AreInstalments};
-ghost use Rattle.calendar.specs.Dates.{IsYearsBetween};
 
 use applied::paging::pages;
 use applied::shares::instalments;
-use calendar::{Date, years_between};
 use modular::{count_congruent, difference_modulo};
 use num_integer::Integer;
 use num_integer::operators::predecessor;
@@ -68,16 +66,6 @@ pub fn is_cheaper(cents: u32, grams: u32, other_cents: u32, other_grams: u32) ->
     ensures { IsTrue result ↔ (cents * other_grams < other_cents * grams) }
 {
     u64::from(cents) * u64::from(other_grams) < u64::from(other_cents) * u64::from(grams)
-}
-
-/// Returns `true` if somebody is at least 18 years old. The contract says what is so if it is `true`.
-pub fn is_adult(born: &Date, today: &Date) -> bool
-    ensures { IsTrue result → ((years : ℤ) × IsYearsBetween born.now today.now years × (pos 18 ≤ℤ years)) }
-{
-    match years_between(born, today) {
-        Some(years) => years >= 18,
-        None => false,
-    }
 }
 
 /// Returns how many times a job runs from `from` on and before `end`, or `None` if that number does not fit. It runs at the

@@ -7,12 +7,12 @@ ghost use Rattle.num_integer.specs.Least.{IsLeastFrom};
 ghost use Rattle.num_integer.specs.Range.{EachFits};
 ghost use Rattle.applied.specs.Layout.{IsAlignedUp};
 ghost use Rattle.applied.specs.Paging.{IsPlace, IsRangeOfPart};
-ghost use Rattle.applied.specs.Schedules.{IsCountOfTimes, IsMeeting};
+ghost use Rattle.applied.specs.Schedules.{IsCountOfTimes, IsLeastTime, IsMeeting, IsMeetingOfEach};
 ghost use Rattle.applied.specs.Shares.{AreShares, AreSharesByRemainder, AreSignedShares, AreSignedSharesByRemainder, IsNearShare, signed_sum};
 
 use applied::layout::{align_up, padding};
 use applied::paging::{item_at, place_of, range_of_part};
-use applied::schedules::{Schedule, count, next_meeting};
+use applied::schedules::{Schedule, count, next_meeting, next_meeting_of};
 use applied::shares::{
     SharesError, shares, shares_by_largest_remainder, signed_shares,
     signed_shares_by_largest_remainder,
@@ -201,6 +201,22 @@ pub fn next_meeting_and_wait(
         CommonSolution::At(time) => Some((time, time - now)),
         CommonSolution::Never | CommonSolution::Beyond => None,
     }
+}
+
+/// Returns the next time at which a bus of each of three lines leaves.
+pub fn next_of_three_lines(
+    now: u32,
+    first: Schedule<u32>,
+    second: Schedule<u32>,
+    third: Schedule<u32>,
+) -> CommonSolution<u32>
+    requires first { 0 < first.period }
+    requires second { 0 < second.period }
+    requires third { 0 < third.period }
+    ensures { IsLeastTime (λ x. pos x) (FitsUnsignedBits 32) (pos now)
+        (IsMeetingOfEach (λ x. pos x) (first ∷ second ∷ third ∷ [])) result }
+{
+    next_meeting_of(now, &[first, second, third])
 }
 
 /// Returns how many buses of the timetable leave in `from..=to`, or `None` if the number does not fit.

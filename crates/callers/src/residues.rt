@@ -1,6 +1,6 @@
 //! Functions that call `modular`.
 
-ghost use Rattle.std.specs.Prelude.{◌≡◌, ◌⊎◌, ◌+◌, ◌%◌, ◌<◌, ◌≤◌, ◌<ℤ◌, ◌+ℤ◌, ◌-ℤ◌, ◌*ℤ◌, All, FitsSigned, IfSome, MatchOption, neg_ℤ, pos, ℤ};
+ghost use Rattle.std.specs.Prelude.{◌≡◌, ◌∷◌, [], ◌⊎◌, ◌+◌, ◌%◌, ◌<◌, ◌≤◌, ◌<ℤ◌, ◌+ℤ◌, ◌-ℤ◌, ◌*ℤ◌, All, FitsSigned, IfSome, MatchOption, neg_ℤ, pos, ℤ};
 ghost use Rattle.std.specs.Int.{FitsUnsignedBits, int_pow, w64};
 ghost use Rattle.modular.specs.CommonSolutions.{MatchCommonSolution, MatchWhere};
 ghost use Rattle.modular.specs.Congruences.{IsCountOfCongruent, IsInverse, IsNextCommonSolution, IsNextCongruent, IsPreviousCongruent, IsQuotientModulo, IsReducedModulus, IsResidue, IsResidueClass, Solves, SolvesBothCongruences, SolvesEach};
@@ -10,7 +10,8 @@ ghost use Rattle.num_integer.specs.Range.{EachFits};
 
 use modular::{
     CommonSolution, Congruence, checked, difference_modulo, inverse_modulo, negation_modulo,
-    next_congruent, power_modulo, previous_congruent, product_modulo, sum_modulo,
+    next_common_solution, next_common_solution_of, next_congruent, power_modulo,
+    previous_congruent, product_modulo, sum_modulo,
 };
 
 // ---- results that are known in advance
@@ -283,4 +284,35 @@ pub fn next_of_each_at_every_modulus(from: i64, congruences: &[Congruence<i64>])
         Some(CommonSolution::At(t)) => Some(t),
         _ => None,
     }
+}
+
+/// Returns the next number that solves three congruences, or `None` if it does not fit or if there is none.
+pub fn next_of_three(
+    from: i64,
+    a: Congruence<i64>,
+    b: Congruence<i64>,
+    c: Congruence<i64>,
+) -> Option<i64>
+    requires a { pos 0 <ℤ a.modulus }
+    requires b { pos 0 <ℤ b.modulus }
+    requires c { pos 0 <ℤ c.modulus }
+    ensures { IfSome result (λ t. IsLeastFrom from (SolvesEach (λ x. x) (a ∷ b ∷ c ∷ [])) t) }
+{
+    next_common_solution_of(from, &[a, b, c]).value()
+}
+
+/// Returns the next day, counted from 0, on which two lamps flash: one on each fourth day from day 1 on, and one on each
+/// sixth day from day 3 on.
+pub fn next_flash(from: u32) -> CommonSolution<u32>
+    ensures { MatchCommonSolution result
+        ((x : ℤ) → ¬ (SolvesBothCongruences (pos 1) (pos 4) (pos 3) (pos 6) x))
+        ((t : ℤ) × IsNextCommonSolution (pos from) (pos 1) (pos 4) (pos 3) (pos 6) t
+        × ¬ (FitsUnsignedBits 32 t))
+        (λ t. IsNextCommonSolution (pos from) (pos 1) (pos 4) (pos 3) (pos 6) (pos t)) }
+{
+    let first = Congruence {
+        residue: 1,
+        modulus: 4,
+    };
+    next_common_solution(from, first, (3, 6).into())
 }
