@@ -3,8 +3,8 @@
 The contracts of functions in C are assumed. Of a program and of a static library the check prints
 how many are declared below it, and how many it reaches. Of a crate that declares some itself, the
 line of its verdict has `foreign=`. Some kits print nothing of a crate whose proof is kept from an
-earlier run, so then there is nothing to compare. The page shows the verdict of a crate, whose count
-of functions and checksum of the logic are compared too.
+earlier run, so then there is nothing to compare. The page shows the verdict of a crate, whose
+checksum of the logic is compared too. Its count of functions is not: kits count in several ways.
 
 Of the kit, the checksum and the size of its logic are compared, and its name is not: kits of one
 logic prove the same."""
@@ -40,7 +40,7 @@ def facts_of(log: str) -> Iterator[str]:
     if found and not any('foreign=' in words for words, _ in found.values()):
         yield 'No crate adds an axiom'
     if SHOWN in found:
-        yield 'logic=proved ' + ' '.join(found[SHOWN][0].split()[:2])
+        yield found[SHOWN][0].split()[1]
     for name in LINKED:
         reports = found.get(name, ('', ()))[1]
         if reports:

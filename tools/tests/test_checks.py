@@ -146,7 +146,7 @@ SAID, LOG = (text for _, text in samples.cases('trust'))
                           ('functions=2 sum=1 native', 'functions=2 sum=1 foreign=low::f native', 4,
                            0), ('== intcalc', '== other', 4, 0), ('libc and std', 'libc', 4, 1),
                           ('prints `logic=proved functions=2', 'prints `logic=proved functions=1',
-                           4, 1), ('sum=1 native=nat\nrt:', 'sum=2 native=nat\nrt:', 4, 1),
+                           5, 0), ('sum=1 native=nat\nrt:', 'sum=2 native=nat\nrt:', 4, 1),
                           ('== integer_core', '== low', 4, 0),])
 def test_slips_of_axioms(old: str, new: str, has: int, lacks: int) -> None:
     found = [passed for _, passed in trust.compared(SAID.replace(old, new),
