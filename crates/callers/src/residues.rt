@@ -286,19 +286,22 @@ pub fn next_of_each_at_every_modulus(from: i64, congruences: &[Congruence<i64>])
     }
 }
 
-/// Returns the next number that solves three congruences, or `None` if it does not fit or if there is none.
+/// Returns the next number that solves three congruences.
 pub fn next_of_three(
     from: i64,
     a: Congruence<i64>,
     b: Congruence<i64>,
     c: Congruence<i64>,
-) -> Option<i64>
+) -> CommonSolution<i64>
     requires a { pos 0 <ℤ a.modulus }
     requires b { pos 0 <ℤ b.modulus }
     requires c { pos 0 <ℤ c.modulus }
-    ensures { IfSome result (λ t. IsLeastFrom from (SolvesEach (λ x. x) (a ∷ b ∷ c ∷ [])) t) }
+    ensures { MatchCommonSolution result
+        ((x : ℤ) → ¬ (SolvesEach (λ x. x) (a ∷ b ∷ c ∷ []) x))
+        ((t : ℤ) × IsLeastFrom from (SolvesEach (λ x. x) (a ∷ b ∷ c ∷ [])) t × ¬ (FitsSigned w64 t))
+        (λ t. IsLeastFrom from (SolvesEach (λ x. x) (a ∷ b ∷ c ∷ [])) t) }
 {
-    next_common_solution_of(from, &[a, b, c]).value()
+    next_common_solution_of(from, &[a, b, c])
 }
 
 /// Returns the next day, counted from 0, on which two lamps flash: one on each fourth day from day 1 on, and one on each
