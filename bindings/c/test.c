@@ -410,6 +410,10 @@ static bool is_date(cellarcove_date d, int64_t year, int month, int day_of_month
     return d.year == year && d.month == month && d.day_of_month == day_of_month;
 }
 
+static bool is_answer(cellarcove_date_answer found, uint32_t status, int64_t year, int month, int day_of_month) {
+    return found.status == status && is_date(found.date, year, month, day_of_month);
+}
+
 static void dates(void) {
     cellarcove_date end = {2000, 1, 31}, none = {1900, 2, 29}, far = {INT64_MAX, 12, 31};
     CHECK(is_date(cellarcove_date_from_day(-1), 1969, 12, 31));
@@ -418,12 +422,9 @@ static void dates(void) {
     REFUSES(cellarcove_day_from_date(far), CELLARCOVE_NOT_FITTING);
     CHECK(cellarcove_weekday(0) == 4 && cellarcove_weekday(3) == 7 && cellarcove_weekday(4) == 1);
     CHECK(cellarcove_weekday(INT64_MIN) == 3);
-    cellarcove_date_answer later = cellarcove_plus_months(end, 1);
-    CHECK(later.status == CELLARCOVE_ANSWER && is_date(later.date, 2000, 2, 29));
-    later = cellarcove_plus_months(none, 1);
-    CHECK(later.status == CELLARCOVE_NO_DATE && is_date(later.date, 0, 0, 0));
-    later = cellarcove_plus_months(far, 1);
-    CHECK(later.status == CELLARCOVE_NOT_FITTING && is_date(later.date, 0, 0, 0));
+    CHECK(is_answer(cellarcove_plus_months(end, 1), CELLARCOVE_ANSWER, 2000, 2, 29));
+    CHECK(is_answer(cellarcove_plus_months(none, 1), CELLARCOVE_NO_DATE, 0, 0, 0));
+    CHECK(is_answer(cellarcove_plus_months(far, 1), CELLARCOVE_NOT_FITTING, 0, 0, 0));
     ANSWERS(cellarcove_months_between(end, date(2000, 2, 29)), 1);
     REFUSES(cellarcove_months_between(end, none), CELLARCOVE_NO_DATE);
     REFUSES(cellarcove_months_between(end, far), CELLARCOVE_NOT_FITTING);
@@ -431,48 +432,31 @@ static void dates(void) {
     CHECK(week.status == CELLARCOVE_ANSWER && week.week == 53 && week.year == 2004);
     week = cellarcove_iso_week(none);
     CHECK(week.status == CELLARCOVE_NO_DATE && week.week == 0 && week.year == 0);
-    cellarcove_date_answer day = cellarcove_date_from_iso_week(2009, 53, 7);
-    CHECK(day.status == CELLARCOVE_ANSWER && is_date(day.date, 2010, 1, 3));
-    day = cellarcove_date_from_iso_week(2010, 53, 7);
-    CHECK(day.status == CELLARCOVE_NO_DATE && is_date(day.date, 0, 0, 0));
-    day = cellarcove_date_from_iso_week(2009, 0, 7);
-    CHECK(day.status == CELLARCOVE_NO_DATE && is_date(day.date, 0, 0, 0));
-    day = cellarcove_date_from_iso_week(2009, 53, 8);
-    CHECK(day.status == CELLARCOVE_OUTSIDE && is_date(day.date, 0, 0, 0));
-    day = cellarcove_date_from_iso_week(2009, 99, 0);
-    CHECK(day.status == CELLARCOVE_OUTSIDE && is_date(day.date, 0, 0, 0));
+    CHECK(is_answer(cellarcove_date_from_iso_week(2009, 53, 7), CELLARCOVE_ANSWER, 2010, 1, 3));
+    CHECK(is_answer(cellarcove_date_from_iso_week(2010, 53, 7), CELLARCOVE_NO_DATE, 0, 0, 0));
+    CHECK(is_answer(cellarcove_date_from_iso_week(2009, 0, 7), CELLARCOVE_NO_DATE, 0, 0, 0));
+    CHECK(is_answer(cellarcove_date_from_iso_week(2009, 53, 8), CELLARCOVE_OUTSIDE, 0, 0, 0));
+    CHECK(is_answer(cellarcove_date_from_iso_week(2009, 99, 0), CELLARCOVE_OUTSIDE, 0, 0, 0));
     CHECK(is_date(cellarcove_easter(2024), 2024, 3, 31));
 }
 
 static void days_and_years(void) {
     cellarcove_date none = {1900, 2, 29}, far = {INT64_MAX, 12, 31};
-    cellarcove_date_answer day = cellarcove_plus_days(date(2000, 3, 1), -1);
-    CHECK(day.status == CELLARCOVE_ANSWER && is_date(day.date, 2000, 2, 29));
-    day = cellarcove_plus_days(far, 1);
-    CHECK(day.status == CELLARCOVE_NOT_FITTING && is_date(day.date, 0, 0, 0));
-    day = cellarcove_plus_days(none, 1);
-    CHECK(day.status == CELLARCOVE_NO_DATE && is_date(day.date, 0, 0, 0));
-    day = cellarcove_minus_days(date(2000, 3, 1), 1);
-    CHECK(day.status == CELLARCOVE_ANSWER && is_date(day.date, 2000, 2, 29));
-    day = cellarcove_minus_days(far, -1);
-    CHECK(day.status == CELLARCOVE_NOT_FITTING && is_date(day.date, 0, 0, 0));
-    day = cellarcove_minus_days(none, 1);
-    CHECK(day.status == CELLARCOVE_NO_DATE && is_date(day.date, 0, 0, 0));
+    CHECK(is_answer(cellarcove_plus_days(date(2000, 3, 1), -1), CELLARCOVE_ANSWER, 2000, 2, 29));
+    CHECK(is_answer(cellarcove_plus_days(far, 1), CELLARCOVE_NOT_FITTING, 0, 0, 0));
+    CHECK(is_answer(cellarcove_plus_days(none, 1), CELLARCOVE_NO_DATE, 0, 0, 0));
+    CHECK(is_answer(cellarcove_minus_days(date(2000, 3, 1), 1), CELLARCOVE_ANSWER, 2000, 2, 29));
+    CHECK(is_answer(cellarcove_minus_days(far, -1), CELLARCOVE_NOT_FITTING, 0, 0, 0));
+    CHECK(is_answer(cellarcove_minus_days(none, 1), CELLARCOVE_NO_DATE, 0, 0, 0));
     ANSWERS(cellarcove_days_between(date(2000, 3, 1), date(2000, 2, 28)), -2);
     REFUSES(cellarcove_days_between(date(2000, 3, 1), far), CELLARCOVE_NOT_FITTING);
     REFUSES(cellarcove_days_between(none, far), CELLARCOVE_NO_DATE);
-    day = cellarcove_nth_weekday_of_month(2026, 11, 4, 4);
-    CHECK(day.status == CELLARCOVE_ANSWER && is_date(day.date, 2026, 11, 26));
-    day = cellarcove_nth_weekday_of_month(2026, 11, 4, 5);
-    CHECK(day.status == CELLARCOVE_NO_DATE && is_date(day.date, 0, 0, 0));
-    day = cellarcove_nth_weekday_of_month(2026, 13, 8, 1);
-    CHECK(day.status == CELLARCOVE_OUTSIDE && is_date(day.date, 0, 0, 0));
-    day = cellarcove_last_weekday_of_month(2026, 10, 5);
-    CHECK(day.status == CELLARCOVE_ANSWER && is_date(day.date, 2026, 10, 30));
-    day = cellarcove_last_weekday_of_month(2026, 13, 5);
-    CHECK(day.status == CELLARCOVE_NO_DATE && is_date(day.date, 0, 0, 0));
-    day = cellarcove_last_weekday_of_month(2026, 13, 0);
-    CHECK(day.status == CELLARCOVE_OUTSIDE && is_date(day.date, 0, 0, 0));
+    CHECK(is_answer(cellarcove_nth_weekday_of_month(2026, 11, 4, 4), CELLARCOVE_ANSWER, 2026, 11, 26));
+    CHECK(is_answer(cellarcove_nth_weekday_of_month(2026, 11, 4, 5), CELLARCOVE_NO_DATE, 0, 0, 0));
+    CHECK(is_answer(cellarcove_nth_weekday_of_month(2026, 13, 8, 1), CELLARCOVE_OUTSIDE, 0, 0, 0));
+    CHECK(is_answer(cellarcove_last_weekday_of_month(2026, 10, 5), CELLARCOVE_ANSWER, 2026, 10, 30));
+    CHECK(is_answer(cellarcove_last_weekday_of_month(2026, 13, 5), CELLARCOVE_NO_DATE, 0, 0, 0));
+    CHECK(is_answer(cellarcove_last_weekday_of_month(2026, 13, 0), CELLARCOVE_OUTSIDE, 0, 0, 0));
     CHECK(cellarcove_is_leap_year(2000) && cellarcove_is_leap_year(-4) && !cellarcove_is_leap_year(1900));
     CHECK(cellarcove_weeks_in_year(2020) == 53 && cellarcove_weeks_in_year(2021) == 52);
     ANSWERS(cellarcove_days_in_month(1900, 2), 28);
@@ -488,12 +472,9 @@ static void last_and_first_week(void) {
         cellarcove_date_answer day = cellarcove_date_from_iso_week(INT64_MAX, 53, weekday);
         CHECK(day.status == (fits ? CELLARCOVE_ANSWER : CELLARCOVE_NOT_FITTING));
         CHECK(fits ? is_date(day.date, INT64_MAX, 12, 27 + weekday) : is_date(day.date, 0, 0, 0));
-        day = cellarcove_date_from_iso_week(INT64_MAX, 54, weekday);
-        CHECK(day.status == CELLARCOVE_NO_DATE && is_date(day.date, 0, 0, 0));
-        day = cellarcove_date_from_iso_week(INT64_MIN, 1, weekday);
-        CHECK(day.status == CELLARCOVE_ANSWER && is_date(day.date, INT64_MIN, 1, 1 + weekday));
-        day = cellarcove_date_from_iso_week(INT64_MIN, 0, weekday);
-        CHECK(day.status == CELLARCOVE_NO_DATE && is_date(day.date, 0, 0, 0));
+        CHECK(is_answer(cellarcove_date_from_iso_week(INT64_MAX, 54, weekday), CELLARCOVE_NO_DATE, 0, 0, 0));
+        CHECK(is_answer(cellarcove_date_from_iso_week(INT64_MIN, 1, weekday), CELLARCOVE_ANSWER, INT64_MIN, 1, 1 + weekday));
+        CHECK(is_answer(cellarcove_date_from_iso_week(INT64_MIN, 0, weekday), CELLARCOVE_NO_DATE, 0, 0, 0));
     }
 }
 

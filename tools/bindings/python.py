@@ -35,7 +35,7 @@ SEEN_TO = 'there is not one part for each weight, or if '
 DIVIDES = ('division', 'products')  # the modules whose parameters `y` and `d` are divisors
 OPTIONS = "out=None, where=True, errors='raise'"  # of a call with columns
 # What says, before there is room for the numbers that a call writes, whether it has a result.
-ASKED = {'choice_of_rank': 'is_below_binomial(numbers[0].u, numbers[1].u, numbers[2].u)'}
+ASKED = {'choice_of_rank': 'is_below_binomial(numbers)'}
 
 
 def public_calls() -> list[tuple[str, list[Call]]]:
@@ -109,7 +109,7 @@ def object_of(call: Call) -> str:
     """The result in Python of the result `r` in C."""
     whole = {'FractionAnswer': 'fraction_of(r.value)', 'DateAnswer': 'date_of(r.date)',
              'Date': 'date_of(r)',
-             'DecimalAnswer': f'decimal_of(r, (uint32_t)a[{len(cells(call)) - 1}].u)'}
+             'DecimalAnswer': f'decimal_of(r, (uint32_t)a[{len(cells(call)) - 1}])'}
     items = [f'{OBJECTS[kind]}(r{path})' for path, kind in results(call)]
     if call.result in whole or len(items) == 1:
         return whole.get(call.result, items[0])
@@ -129,7 +129,7 @@ def form_text(call: Call) -> str:
         'form.c', name=call.symbol.removeprefix('cellarcove_'), type=c_type(call.result),
         symbol=call.symbol, refused=refused,
         taken=arguments(call, lambda k, kind: (
-            f'({TYPES[LETTERS[kind]]})a[{k}].{"i" if kind[0] == "i" else "u"}')),
+            f'({TYPES[LETTERS[kind]]})a[{k}]')),
         object=object_of(call), cells=''.join(LETTERS[kind] for kind in cells(call)))
 
 
@@ -240,15 +240,14 @@ def docstring(name: str, forms: list[Call]) -> str:
 
 def call_text(name: str, forms: list[Call]) -> str:
     """The entry of a call, and its function."""
-    call, two = forms[0], len(forms) == 2
-    follows = [two and a != b for a, b in zip(cells(forms[0]), cells(forms[-1]))]
-    named = {form.form: f'&form_{form.symbol.removeprefix("cellarcove_")}' for form in forms}
+    call, ends = forms[0], (forms[0], forms[-1])
     of_many = filled('of_many.c', name=name) if name in OF_MANY else ''
     return filled('call.c', name=name, count=str(len(shapes(call))),
                   names=quoted(parameter_names(call)), shapes=shapes(call),
-                  divides=bools(divides(call)), follows=bools(follows), of_many=of_many,
-                  forms=f'NULL, {named["i64"]}, {named["u64"]}' if two
-                  else f'&form_{call.symbol.removeprefix("cellarcove_")}, NULL, NULL')
+                  of_numbers='true' if set(shapes(call)) <= {'n', 'w'} else 'false',
+                  divides=bools(divides(call)), of_many=of_many,
+                  forms=', '.join(f'&form_{form.symbol.removeprefix("cellarcove_")}'
+                                  for form in ends))
 
 
 def list_text(name: str, forms: list[Call]) -> str:
@@ -260,11 +259,12 @@ def list_text(name: str, forms: list[Call]) -> str:
                 if not parameter.item} <= {form.form} and not form.writes, form
 
     def case(form: Call) -> str:
-        passed = ', '.join('of.items, (size_t)of.count' if parameter.item
-                           else f'other.{form.form[0]}' for parameter in form.parameters)
+        number = f'({TYPES[LETTERS[form.form]]})other'
+        passed = ', '.join('of.items, (size_t)of.count' if parameter.item else number
+                           for parameter in form.parameters)
         return filled('list_case.c', type=c_type(form.result), symbol=form.symbol, passed=passed,
                       object=OBJECTS[form.form])
-    signed = f'\n    if (of.is_signed) {{\n{case(forms[0])}    }}\n' if len(forms) == 2 else ''
+    signed = f'\n    if (of.kind == \'q\') {{\n{case(forms[0])}    }}\n' if len(forms) == 2 else ''
     parsed = f'!PyArg_ParseTuple(object, "OO:{name}", &given[0], &given[1]) || ' * (count > 1)
     return filled('list.c', name=name, parsed=parsed, place=str(place), other=str(1 - place),
                   width=str(width), has_signed='true' if len(forms) == 2 else 'false',
@@ -280,7 +280,7 @@ def written_text(name: str, call: Call) -> str:
     read = ', '.join(f'read_unsigned, &numbers[{k}]' for k in range(last + 1))
     return filled('written.c', name=name, symbol=call.symbol, asked=ASKED[name],
                   count=str(last + 1), last=str(last), letters='O&' * (last + 1), read=read,
-                  passed=', '.join(f'numbers[{k}].u' for k in range(last)))
+                  passed=', '.join(f'(uint64_t)numbers[{k}]' for k in range(last)))
 
 
 def method(name: str, forms: list[Call]) -> str:

@@ -23,6 +23,7 @@ NUMPY = {
     'B': 'UINT8',
     '?': 'BOOL',
 }
+COUNTED = '_counted'  # the end of the name of a ufunc that counts the failures alone
 WHOLE = {'Fraction': 'Fraction', 'Date': 'Date', 'Decimal': 'Decimal'}
 
 
@@ -72,18 +73,21 @@ def loop(call: Call) -> str:
             'loop_shares.c', name=name, symbol=call.symbol, type=TYPES[LETTERS[call.form]]
         )
     first, found = len(cells(call)), results(call)
+    last, has_status = first + len(found), EXPORTS().has_status(call)
     stores = [
         f'        AT({TYPES[LETTERS[kind]]}, {first + k}) = r{path};'
         for k, (path, kind) in enumerate(found)
     ]
-    stores += [
-        f'        AT(uint8_t, {first + len(found)}) = (uint8_t)r.status;'
-    ] * EXPORTS().has_status(call)
+    if has_status:
+        stores += [
+            f'        AT(uint8_t, {last}) = (uint8_t)r.status;',
+            '        failed |= r.status;',
+        ]
     given = arguments(call, lambda k, kind: f'AT(const {TYPES[LETTERS[kind]]}, {k})')
     return filled(
         'loop.c',
-        opening='    (void)data;\n' + by_one(call),
-        first='' if by_one(call) else 'npy_intp k = 0',
+        opening=opening(last, has_status) + by_one(call),
+        closing='    failures += failed != CELLARCOVE_ANSWER;' * has_status,
         name=name,
         type=c_type(call.result),
         symbol=call.symbol,
@@ -92,25 +96,50 @@ def loop(call: Call) -> str:
     )
 
 
-def arrays(name: str, forms: list[Call]) -> str:
-    """The loops of a ufunc, and the types of each."""
-    loops = ', '.join(f'loop_{call.symbol.removeprefix("cellarcove_")}' for call in forms)
-    letters = (taken(call) + returned(call) + 'B' * EXPORTS().has_status(call) for call in forms)
-    types = ', '.join(f'NPY_{NUMPY[letter]}' for letter in ''.join(letters))
-    return (
-        f'static PyUFuncGenericFunction loops_{name}[] = {{{loops}}};\n'
-        f'static void *data_{name}[{len(forms)}];\n'
-        f'static const char types_{name}[] = {{{types}}};\n'
+def opening(count: int, has_status: bool) -> str:
+    """What a loop begins with: where so many numbers lie, and the statuses if there are any."""
+    places = ' '.join(f'PLACE({k})' for k in range(count))
+    return f'    {places}\n' + (
+        f'    STATUSES({count})\n    uint32_t failed = CELLARCOVE_ANSWER;\n    npy_intp k = 0;'
+        if has_status
+        else '    npy_intp k = 0;\n    (void)data;'
     )
 
 
-def row(name: str, forms: list[Call]) -> str:
-    """The row of a ufunc."""
-    count = len(returned(forms[0])) + EXPORTS().has_status(forms[0])
-    signature = '"(),(n)->(n),()"' if is_shared(forms[0]) else 'NULL'
+def types(name: str, forms: list[Call], has_status: bool) -> str:
+    """The types of the loops of a ufunc, of which the status may be one."""
+    letters = ''.join(taken(call) + returned(call) + 'B' * has_status for call in forms)
+    listed = ', '.join(f'NPY_{NUMPY[letter]}' for letter in letters)
+    return f'static const char types_{name}[] = {{{listed}}};\n'
+
+
+def arrays(name: str, forms: list[Call]) -> str:
+    """The loops of a call, and the types of its ufuncs."""
+    has_status = EXPORTS().has_status(forms[0])
+    loops = ', '.join(f'loop_{call.symbol.removeprefix("cellarcove_")}' for call in forms)
     return (
-        f'    {{"{name}", {signature}, loops_{name}, data_{name}, types_{name}, '
-        f'{len(forms)}, {len(taken(forms[0]))}, {count}}},\n'
+        f'static PyUFuncGenericFunction loops_{name}[] = {{{loops}}};\n'
+        + types(name, forms, has_status)
+        + types(f'{name}{COUNTED}', forms, False) * counts(forms)
+    )
+
+
+def counts(forms: list[Call]) -> bool:
+    """Whether a call has a ufunc that returns no statuses, and counts the failures."""
+    return EXPORTS().has_status(forms[0]) and not is_shared(forms[0])
+
+
+def row(name: str, forms: list[Call]) -> str:
+    """The rows of the ufuncs of a call."""
+    has_status = EXPORTS().has_status(forms[0])
+    signature = '"(),(n)->(n),()"' if is_shared(forms[0]) else 'NULL'
+    given, made = len(taken(forms[0])), len(returned(forms[0]))
+    rows = [(name, 'returns_statuses', made + has_status)]
+    rows += [(f'{name}{COUNTED}', 'counts_failures', made)] * counts(forms)
+    return ''.join(
+        f'    {{"{ufunc}", {signature}, loops_{name}, {data}, types_{ufunc}, '
+        f'{len(forms)}, {given}, {count}}},\n'
+        for ufunc, data, count in rows
     )
 
 

@@ -21,11 +21,8 @@
 
 enum { MAX_PARAMETERS = 6, MAX_CELLS = 6 };
 
-/* The number of a cell. */
-typedef union {
-    int64_t i;
-    uint64_t u;
-} cell;
+/* The number of a cell, or 2**64 or -2**64 for one that is in the range of no type. */
+__extension__ typedef __int128 cell;
 
 /* A form of a call. The types of its cells have the letters of `array`. */
 typedef struct {
@@ -34,27 +31,27 @@ typedef struct {
     PyObject *(*one)(const cell *cells, uint32_t *status);
 } form;
 
-/* A call. */
+/* A call. If it has one form alone, that is both. */
 typedef struct {
     const char *name;
     Py_ssize_t count;
     const char *names[MAX_PARAMETERS];
     const char *shapes;  /* of the parameters: a number, a fraction or the like */
+    bool of_numbers;     /* whether each parameter is a number */
     const bool *divides; /* whether the call divides by the number of a cell */
-    const bool *follows; /* whether a cell has the type of the form */
-    const form *only, *forms_i64, *forms_u64;
+    const form *of_signed, *of_unsigned;
 } call;
 
 /* What the package installs. */
-static PyObject *refusal, *out_of_range, *new_fraction, *new_decimal, *call_of_others, *items_of;
-static PyObject *add_others, *subtract_others, *class_tuple;
+static PyObject *refusal, *refusal_of_text, *out_of_range, *call_of_others, *items_of;
+static PyObject *add_others, *subtract_others;
+static PyObject *new_fraction, *new_decimal, *class_tuple, *names_of_parts;
 static PyObject *class_date, *class_gcd, *class_solutions, *class_week, *class_weekday;
 static PyObject *class_congruence, *class_schedule;
 static newfunc new_tuple;
 
-/* The names of the parts of an object that is a fraction, a date or a day of the week. */
-static const char *const parts[] = {"numerator", "denominator", "year", "month", "day", "value"};
-static PyObject *names_of_parts[6];
+/* The places of the names of an object's parts: of a fraction, a date and a day of the week. */
+enum { OF_FRACTION, OF_DATE = 2, OF_WEEKDAY = 5 };
 
 /* ---- errors ---- */
 
@@ -73,17 +70,6 @@ static PyObject *refused(uint32_t status, bool by_zero) {
         PyObject_CallFunction(refusal, "IO", (unsigned)status, by_zero ? Py_True : Py_False));
 }
 
-/* The same of a text. */
-static PyObject *refused_text(uint32_t status) {
-    return raised(PyObject_CallFunction(refusal, "IOOOO", (unsigned)status, Py_False, Py_None,
-                                        Py_None, Py_True));
-}
-
-/* Raises that a number is out of the range of a type. */
-static PyObject *beyond(PyObject *number, char kind) {
-    return raised(PyObject_CallFunction(out_of_range, "OC", number, (int)kind));
-}
-
 /* ---- numbers ---- */
 
 /* Whether an object is an integer, and no array, which may have `__index__` too. */
@@ -91,41 +77,49 @@ static bool is_integer(PyObject *object) {
     return PyLong_Check(object) || (PyIndex_Check(object) && !PySequence_Check(object));
 }
 
-/* Reads an integer into a cell. It is 1 if the number is above 2**63 - 1, 2 if it is 2**64 or
- * above, 3 if it is below -2**63, and -1 after an error. */
-static inline int integer(PyObject *object, cell *to) {
+/* Reads an integer. It is false after an error. */
+static inline int integer(PyObject *object, void *to) {
     bool is_exact = Py_TYPE(object) == &PyLong_Type;
     PyObject *number = is_exact ? object : PyNumber_Index(object);
     int overflow;
     if (number == NULL) {
-        return -1;
+        return false;
     }
-    to->i = PyLong_AsLongLongAndOverflow(number, &overflow);
-    if (overflow > 0) {
-        to->u = PyLong_AsUnsignedLongLong(number);
-        overflow = PyErr_Occurred() ? 2 : 1;
+    cell found = PyLong_AsLongLongAndOverflow(number, &overflow);
+    if (overflow != 0) {
+        uint64_t large = overflow > 0 ? PyLong_AsUnsignedLongLong(number) : 0;
+        found = overflow < 0 || PyErr_Occurred() ? overflow * ((cell)UINT64_MAX + 1) : large;
         PyErr_Clear();
     }
     if (!is_exact) {
         Py_DECREF(number);
     }
-    return overflow < 0 ? 3 : overflow;
+    *(cell *)to = found;
+    return true;
 }
 
-static inline bool fits(const cell *number, int said, char kind) {
-    switch (kind) {
-    case 'q': return said == 0;
-    case 'Q': return said == 1 || (said == 0 && number->i >= 0);
-    case 'I': return said == 0 && 0 <= number->i && number->i <= UINT32_MAX;
-    case 'H': return said == 0 && 0 <= number->i && number->i <= UINT16_MAX;
-    case 'i': return said == 0 && INT32_MIN <= number->i && number->i <= INT32_MAX;
-    default: return said == 0 && 0 <= number->i && number->i <= UINT8_MAX;
-    }
+static inline bool fits(cell number, char kind) {
+    return kind == 'q'   ? number == (int64_t)number
+           : kind == 'Q' ? number == (uint64_t)number
+           : kind == 'I' ? number == (uint32_t)number
+           : kind == 'H' ? number == (uint16_t)number
+           : kind == 'i' ? number == (int32_t)number
+                         : number == (uint8_t)number;
 }
 
-/* Whether an integer that was read is negative. */
-static inline bool is_negative(const cell *number, int said) {
-    return said == 3 || (said == 0 && number->i < 0);
+/* Whether the number of an object is in the range of a type. If not, it raises. */
+static inline bool in_range(PyObject *object, cell number, char kind) {
+    return fits(number, kind) ||
+           raised(PyObject_CallFunction(out_of_range, "OC", object, (int)kind)) != NULL;
+}
+
+/* Read a number of one type or the other, for `PyArg_ParseTuple`. */
+static int read_signed(PyObject *object, void *to) {
+    return integer(object, to) && in_range(object, *(cell *)to, 'q');
+}
+
+static int read_unsigned(PyObject *object, void *to) {
+    return integer(object, to) && in_range(object, *(cell *)to, 'Q');
 }
 
 /* ---- results ---- */
@@ -183,23 +177,15 @@ static PyObject *date_of(cellarcove_date date) { return date_as((PyTypeObject *)
 
 static PyObject *date_new(PyTypeObject *class, PyObject *args, PyObject *named) {
     static char *names[] = {"year", "month", "day", NULL};
-    PyObject *given[3];
-    cell cells[3];
-    bool fit = true;
-    if (!PyArg_ParseTupleAndKeywords(args, named, "OOO:Date", names, &given[0], &given[1],
-                                     &given[2])) {
+    cell year, month, day;
+    if (!PyArg_ParseTupleAndKeywords(args, named, "O&O&O&:Date", names, read_signed, &year, integer,
+                                     &month, integer, &day)) {
         return NULL;
     }
-    for (int k = 0; k < 3; k++) {
-        int said = integer(given[k], &cells[k]);
-        if (said < 0 || (k == 0 && said != 0)) {
-            return said < 0 ? NULL : beyond(given[k], 'q');
-        }
-        fit &= k == 0 || fits(&cells[k], said, 'B');
-    }
-    cellarcove_date date = {cells[0].i, (uint8_t)cells[1].u, (uint8_t)cells[2].u};
-    fit = fit && cellarcove_plus_days(date, 0).status == CELLARCOVE_ANSWER;
-    return fit ? date_as(class, date) : refused(CELLARCOVE_NO_DATE, false);
+    cellarcove_date date = {(int64_t)year, (uint8_t)month, (uint8_t)day};
+    bool is_there = fits(month, 'B') && fits(day, 'B') &&
+                    cellarcove_plus_days(date, 0).status == CELLARCOVE_ANSWER;
+    return is_there ? date_as(class, date) : refused(CELLARCOVE_NO_DATE, false);
 }
 
 /* The date of an answer, or its error. */
@@ -209,14 +195,14 @@ static PyObject *date_or_error(cellarcove_date_answer r) {
 
 /* Whether an object is an `int` that is a number of days, and no other one. */
 static bool is_days(PyObject *object, cell *days) {
-    return Py_TYPE(object) == &PyLong_Type && integer(object, days) == 0;
+    return Py_TYPE(object) == &PyLong_Type && integer(object, days) && fits(*days, 'q');
 }
 
 /* `date + days` or `days + date`. */
 static PyObject *date_add(PyObject *a, PyObject *b) {
     PyObject *date = is_date(a) ? a : b, *other = is_date(a) ? b : a;
     cell days;
-    return is_days(other, &days) ? date_or_error(cellarcove_plus_days(in(date), days.i))
+    return is_days(other, &days) ? date_or_error(cellarcove_plus_days(in(date), (int64_t)days))
                                  : PyObject_CallFunctionObjArgs(add_others, date, other, NULL);
 }
 
@@ -224,7 +210,7 @@ static PyObject *date_add(PyObject *a, PyObject *b) {
 static PyObject *date_subtract(PyObject *a, PyObject *b) {
     cell days;
     if (is_date(a) && is_days(b, &days)) {
-        return date_or_error(cellarcove_minus_days(in(a), days.i));
+        return date_or_error(cellarcove_minus_days(in(a), (int64_t)days));
     }
     if (!is_date(a) || !is_date(b)) {
         return PyObject_CallFunctionObjArgs(subtract_others, a, b, NULL);
@@ -282,40 +268,44 @@ static PyType_Spec date_spec = {"cellarcove._calls._BaseDate", sizeof(date_objec
 
 /* ---- calls of numbers ---- */
 
+/* The numbers of a call: objects, which are owned, or NULL for one that is in its cell already. */
+typedef struct {
+    PyObject *objects[MAX_CELLS];
+    cell cells[MAX_CELLS];
+    Py_ssize_t count;
+} numbers;
+
 /* Which number does not fit its cell of a form, or the count. */
-static Py_ssize_t misfit(const form *f, const cell *cells, const int *said, Py_ssize_t count) {
+static Py_ssize_t misfit(const form *f, const numbers *found) {
     Py_ssize_t k = 0;
-    while (k < count && fits(&cells[k], said[k], f->cells[k])) {
+    while (k < found->count && fits(found->cells[k], f->cells[k])) {
         k++;
     }
     return k;
 }
 
-/* Runs a call of numbers: those of the objects, or of the cells where there is none. If no number
- * is negative it is the unsigned form, and the signed one if the result of that does not fit, as a
- * negative one does not. */
-static PyObject *run_one(const call *c, PyObject *const *objects, cell *cells, Py_ssize_t count) {
-    int said[MAX_CELLS];
+/* Runs a call of numbers. If none is negative it is the unsigned form, and the signed one if the
+ * result of that does not fit, as a negative one does not. */
+static PyObject *run_one(const call *c, numbers *found) {
     bool negative = false, by_zero = false;
-    for (Py_ssize_t k = 0; k < count; k++) {
-        said[k] = objects[k] == NULL ? 0 : integer(objects[k], &cells[k]);
-        if (said[k] < 0) {
+    for (Py_ssize_t k = 0; k < found->count; k++) {
+        if (found->objects[k] != NULL && !integer(found->objects[k], &found->cells[k])) {
             return NULL;
         }
-        negative |= c->follows[k] && is_negative(&cells[k], said[k]);
-        by_zero |= c->divides[k] && said[k] == 0 && cells[k].i == 0;
+        negative |= c->of_signed->cells[k] != c->of_unsigned->cells[k] && found->cells[k] < 0;
+        by_zero |= c->divides[k] && found->cells[k] == 0;
     }
-    const form *f = c->only != NULL ? c->only : negative ? c->forms_i64 : c->forms_u64;
-    Py_ssize_t place = misfit(f, cells, said, count);
-    if (place < count) {
-        return beyond(objects[place], f->cells[place]);
+    const form *f = negative ? c->of_signed : c->of_unsigned;
+    Py_ssize_t k = misfit(f, found);
+    if (k < found->count && !in_range(found->objects[k], found->cells[k], f->cells[k])) {
+        return NULL;
     }
     uint32_t status = 0;
-    PyObject *result = f->one(cells, &status);
-    if (status == CELLARCOVE_NOT_FITTING && f == c->forms_u64 &&
-        misfit(c->forms_i64, cells, said, count) == count) {
+    PyObject *result = f->one(found->cells, &status);
+    if (status == CELLARCOVE_NOT_FITTING && f != c->of_signed &&
+        misfit(c->of_signed, found) == found->count) {
         status = 0;
-        result = c->forms_i64->one(cells, &status);
+        result = c->of_signed->one(found->cells, &status);
     }
     return status == 0 ? result : refused(status, by_zero);
 }
@@ -324,28 +314,22 @@ static PyObject *run_one(const call *c, PyObject *const *objects, cell *cells, P
  * others: then the package says why. */
 static bool bind(const call *c, PyObject *const *args, Py_ssize_t count, PyObject *names,
                  PyObject **bound) {
-    Py_ssize_t all = count + (names == NULL ? 0 : PyTuple_Size(names)), p = 0;
-    for (Py_ssize_t k = 0; all == c->count && k < all && p < all; k++) {
+    Py_ssize_t all = count + (names == NULL ? 0 : PyTuple_Size(names));
+    bool right = all == c->count;
+    for (Py_ssize_t k = 0; right && k < all; k++) {
         PyObject *name = k < count ? NULL : PyTuple_GetItem(names, k - count);
-        p = k < count ? k : count;
-        while (name != NULL && p < all && PyUnicode_CompareWithASCIIString(name, c->names[p])) {
+        Py_ssize_t p = k < count ? k : count;
+        while (name != NULL && p < all &&
+               (bound[p] != NULL || PyUnicode_CompareWithASCIIString(name, c->names[p]) != 0)) {
             p++;
         }
-        if (p < all) {
+        right = p < all;
+        if (right) {
             bound[p] = args[k];
         }
     }
-    for (p = 0; all == c->count && p < all && bound[p] != NULL; p++) {
-    }
-    return p == c->count;
+    return right;
 }
-
-/* The numbers of a call: objects, which are owned, or NULL for one that is in its cell. */
-typedef struct {
-    PyObject *objects[MAX_CELLS];
-    cell cells[MAX_CELLS];
-    Py_ssize_t count;
-} numbers;
 
 /* Adds an integer, which is given away. It is false if it is none. */
 static bool add(numbers *to, PyObject *object) {
@@ -358,20 +342,21 @@ static bool add(numbers *to, PyObject *object) {
 }
 
 static bool add_date(numbers *to, cellarcove_date date) {
-    const int64_t cells[3] = {date.year, date.month, date.day_of_month};
+    const cell cells[3] = {date.year, date.month, date.day_of_month};
     for (int k = 0; k < 3; k++) {
-        to->cells[to->count].i = cells[k];
-        to->objects[to->count++] = NULL;
+        to->objects[to->count] = NULL;
+        to->cells[to->count++] = cells[k];
     }
     return true;
 }
 
-/* Adds the integers of a tuple, or of the attributes of another object. It is false if there are
- * none, and perhaps after an error. */
-static bool add_parts(numbers *to, PyObject *object, PyObject *const *names, Py_ssize_t count) {
+/* Adds the integers of a tuple, or of the attributes of another object, whose names are from a
+ * place on. It is false if there are none, and perhaps after an error. */
+static bool add_parts(numbers *to, PyObject *object, int place, Py_ssize_t count) {
     bool is_tuple = PyTuple_Check(object), right = !is_tuple || PyTuple_Size(object) == count;
     for (Py_ssize_t k = 0; right && k < count; k++) {
-        PyObject *part = is_tuple ? PyTuple_GetItem(object, k) : PyObject_GetAttr(object, names[k]);
+        PyObject *name = PyTuple_GetItem(names_of_parts, place + k);
+        PyObject *part = is_tuple ? PyTuple_GetItem(object, k) : PyObject_GetAttr(object, name);
         if (is_tuple) {
             Py_INCREF(part);
         }
@@ -383,56 +368,35 @@ static bool add_parts(numbers *to, PyObject *object, PyObject *const *names, Py_
 /* Adds the numbers of an argument. It is false if it is not made of integers, and perhaps after an
  * error. */
 static bool add_argument(numbers *to, PyObject *object, char shape) {
-    if (shape == 'd' && is_date(object)) {
-        return add_date(to, in(object));
-    }
-    PyObject *class = shape == 'c' ? class_congruence : class_schedule;
+    PyTypeObject *class = (PyTypeObject *)(shape == 'c' ? class_congruence : class_schedule);
     switch (shape) {
     case 'c':
-    case 's':
-        return PyObject_TypeCheck(object, (PyTypeObject *)class) && add_parts(to, object, NULL, 2);
-    case 'f': return add_parts(to, object, &names_of_parts[0], 2);
-    case 'd': return add_parts(to, object, &names_of_parts[2], 3);
+    case 's': return PyObject_TypeCheck(object, class) && add_parts(to, object, 0, 2);
+    case 'f': return add_parts(to, object, OF_FRACTION, 2);
+    case 'd': return is_date(object) ? add_date(to, in(object)) : add_parts(to, object, OF_DATE, 3);
     default:
         if (shape == 'w' && (PyObject *)Py_TYPE(object) == class_weekday) {
-            return add_parts(to, object, &names_of_parts[5], 1);
+            return add_parts(to, object, OF_WEEKDAY, 1);
         }
         Py_INCREF(object);
         return add(to, object);
     }
 }
 
-/* Adds those of all arguments. */
-static bool add_arguments(numbers *to, const call *c, PyObject *const *bound) {
-    Py_ssize_t p = 0;
-    while (p < c->count && add_argument(to, bound[p], c->shapes[p])) {
-        p++;
+/* A list of the arguments. */
+static PyObject *list_of(PyObject *const *args, Py_ssize_t count) {
+    PyObject *objects = PyList_New(count);
+    for (Py_ssize_t k = 0; objects != NULL && k < count; k++) {
+        Py_INCREF(args[k]);
+        PyList_SetItem(objects, k, args[k]);
     }
-    return p == c->count;
-}
-
-/* Whether the arguments are one `int` for each parameter, in their order. */
-static bool are_ints(const call *c, PyObject *const *args, Py_ssize_t count, PyObject *names) {
-    Py_ssize_t p = 0;
-    if (names != NULL || count != c->count) {
-        return false;
-    }
-    while (p < count && (c->shapes[p] == 'n' || c->shapes[p] == 'w') &&
-           Py_TYPE(args[p]) == &PyLong_Type) {
-        p++;
-    }
-    return p == count;
+    return objects;
 }
 
 /* The call by the package, which takes names, and what is no number. */
 static PyObject *run_others(const call *c, PyObject *const *args, Py_ssize_t count,
                             PyObject *names) {
-    Py_ssize_t all = count + (names == NULL ? 0 : PyTuple_Size(names));
-    PyObject *given = PyTuple_New(all);
-    for (Py_ssize_t k = 0; given != NULL && k < all; k++) {
-        Py_INCREF(args[k]);
-        PyTuple_SetItem(given, k, args[k]);
-    }
+    PyObject *given = list_of(args, count + (names == NULL ? 0 : PyTuple_Size(names)));
     names = names == NULL ? Py_None : names;
     return given == NULL ? NULL
                          : PyObject_CallFunction(call_of_others, "sNO", c->name, given, names);
@@ -441,12 +405,21 @@ static PyObject *run_others(const call *c, PyObject *const *args, Py_ssize_t cou
 static PyObject *run(const call *c, PyObject *const *args, Py_ssize_t count, PyObject *names) {
     PyObject *bound[MAX_PARAMETERS] = {NULL}, *result = NULL;
     numbers found;
-    found.count = 0;
-    if (are_ints(c, args, count, names)) {
-        return run_one(c, args, found.cells, count);
+    bool are_ints = c->of_numbers && names == NULL && count == c->count;
+    for (Py_ssize_t k = 0; are_ints && k < count; k++) {
+        found.objects[k] = args[k];
+        are_ints = Py_TYPE(args[k]) == &PyLong_Type;
     }
-    if (bind(c, args, count, names, bound) && add_arguments(&found, c, bound)) {
-        result = run_one(c, found.objects, found.cells, found.count);
+    found.count = are_ints ? count : 0;
+    if (are_ints) {
+        return run_one(c, &found);
+    }
+    bool right = bind(c, args, count, names, bound);
+    for (Py_ssize_t p = 0; right && p < c->count; p++) {
+        right = add_argument(&found, bound[p], c->shapes[p]);
+    }
+    if (right) {
+        result = run_one(c, &found);
     } else if (!PyErr_Occurred() || PyErr_ExceptionMatches(PyExc_AttributeError)) {
         PyErr_Clear();
         result = run_others(c, args, count, names);
@@ -461,47 +434,50 @@ static PyObject *run(const call *c, PyObject *const *args, Py_ssize_t count, PyO
 
 /* The items of a list. */
 typedef struct {
-    cell *copy;      /* those of an iterable, or NULL */
-    PyObject *bytes; /* those of an array, or NULL */
+    uint64_t *copy;  /* those of a list, or NULL */
+    PyObject *owner; /* of those that the package has made, or NULL */
     const void *items;
     Py_ssize_t count;
     Py_ssize_t width; /* of an item: a number, or a residue and a modulus */
-    bool is_signed;
+    char kind;        /* `q`, or `Q` */
 } list;
 
 /* Room for so many numbers. */
-static void *room_for(uint64_t count) {
-    void *room = NULL;
-    if (count < PY_SSIZE_T_MAX / sizeof(cell)) {
-        room = PyMem_Malloc((size_t)(count + 1) * sizeof(cell));
+static uint64_t *room_for(uint64_t count) {
+    uint64_t *room = count < SIZE_MAX ? PyMem_Calloc((size_t)count + 1, sizeof *room) : NULL;
+    if (room == NULL) {
+        PyErr_NoMemory();
     }
-    return room == NULL ? PyErr_NoMemory() : room;
+    return room;
 }
 
 static void free_list(list *of) {
     PyMem_Free(of->copy);
-    Py_XDECREF(of->bytes);
+    Py_XDECREF(of->owner);
 }
 
-/* Copies the integers of a list, as signed numbers or as unsigned ones. If one is negative, and
- * there is a form for signed numbers, it begins again. It is false after an error. */
+/* Copies the `int`s of a list, as unsigned numbers or as signed ones. If one is negative, and there
+ * is a form for signed numbers, it begins again. It is false after an error. */
 static bool copy_list(PyObject *objects, bool has_signed, list *to) {
     Py_ssize_t count = PyList_Size(objects);
-    to->copy = room_for((uint64_t)count);
-    for (Py_ssize_t k = 0; to->copy != NULL && k < count; k++) {
-        PyObject *number = PyList_GetItem(objects, k);
-        int said = integer(number, &to->copy[k]);
-        char kind = to->is_signed ? 'q' : 'Q';
-        if (has_signed && !to->is_signed && is_negative(&to->copy[k], said)) {
-            to->is_signed = true;
+    uint64_t *copy = room_for((uint64_t)count);
+    to->items = to->copy = copy;
+    to->count = count;
+    for (Py_ssize_t k = 0; copy != NULL && k < count; k++) {
+        PyObject *object = PyList_GetItem(objects, k);
+        cell number;
+        if (!integer(object, &number)) {
+            return false;
+        }
+        copy[k] = (uint64_t)number;
+        if (has_signed && number < 0 && to->kind == 'Q') {
+            to->kind = 'q';
             k = -1;
-        } else if (said < 0 || (!fits(&to->copy[k], said, kind) && beyond(number, kind) == NULL)) {
+        } else if (!in_range(object, number, to->kind)) {
             return false;
         }
     }
-    to->items = to->copy;
-    to->count = count / to->width;
-    return to->copy != NULL;
+    return copy != NULL;
 }
 
 static bool are_exact_ints(PyObject *object) {
@@ -512,48 +488,40 @@ static bool are_exact_ints(PyObject *object) {
     return k == count;
 }
 
-/* Takes the items of a list. The package makes them of what is no list of numbers: a list, or of an
- * array a pair of its bytes and of whether they are signed. */
+/* Takes the items of a list. Of what is no list of `int`s the package makes one, or of an array its
+ * bytes and their kind. It is false after an error. */
 static bool take_list(const char *name, PyObject *object, bool has_signed, list *to) {
-    PyObject *made = object;
     if (to->width == 1 && are_exact_ints(object)) {
-        Py_INCREF(made);
-    } else {
-        made = PyObject_CallFunction(items_of, "sOnO", name, object, to->width,
-                                     has_signed ? Py_True : Py_False);
+        return copy_list(object, has_signed, to);
     }
-    if (made != NULL && PyTuple_Check(made)) {
-        to->bytes = PyTuple_GetItem(made, 0);
-        Py_INCREF(to->bytes);
-        to->items = PyBytes_AsString(to->bytes);
-        to->count = PyBytes_Size(to->bytes) / (Py_ssize_t)sizeof(cell);
-        to->is_signed = PyTuple_GetItem(made, 1) == Py_True;
-    } else if (made == NULL || !copy_list(made, has_signed, to)) {
-        free_list(to);
-        Py_CLEAR(made);
+    int kind = 0;
+    to->owner = PyObject_CallFunction(items_of, "sOnO", name, object, to->width,
+                                      has_signed ? Py_True : Py_False);
+    if (to->owner != NULL && PyList_Check(to->owner)) {
+        bool right = copy_list(to->owner, has_signed, to);
+        to->count /= to->width;
+        return right;
     }
-    Py_XDECREF(made);
-    return made != NULL;
+    bool right =
+        to->owner != NULL && PyArg_ParseTuple(to->owner, "y#C", &to->items, &to->count, &kind);
+    to->count /= to->width * (Py_ssize_t)sizeof *to->copy;
+    to->kind = (char)kind;
+    return right;
 }
 
 /* Reads the list of a call, and the number that may be beside it. Without one it is NULL. */
 static bool read_list(const char *name, PyObject *object, PyObject *number, Py_ssize_t width,
                       bool has_signed, list *to, cell *other) {
-    int said = number == NULL ? 0 : integer(number, other);
-    *to = (list){.width = width};
-    if (said < 0) {
+    *other = 0;
+    if (number != NULL && !integer(number, other)) {
         return false;
     }
-    to->is_signed = has_signed && number != NULL && is_negative(other, said);
-    if (!take_list(name, object, has_signed, to)) {
-        return false;
-    }
-    char kind = to->is_signed ? 'q' : 'Q';
-    bool fit = number == NULL || fits(other, said, kind) || beyond(number, kind) != NULL;
-    if (!fit) {
+    *to = (list){.width = width, .kind = has_signed && *other < 0 ? 'q' : 'Q'};
+    bool right = take_list(name, object, has_signed, to) && in_range(number, *other, to->kind);
+    if (!right) {
         free_list(to);
     }
-    return fit;
+    return right;
 }
 
 /* The result of a call with a list, which is freed: the object, which is given away, or the error
@@ -561,7 +529,7 @@ static bool read_list(const char *name, PyObject *object, PyObject *number, Py_s
 static PyObject *of_list(list *of, uint32_t status, PyObject *result) {
     bool by_zero = false;
     for (Py_ssize_t k = 1; of->width > 1 && k < of->count * of->width; k += of->width) {
-        by_zero |= of->copy[k].u == 0;
+        by_zero |= ((const uint64_t *)of->items)[k] == 0;
     }
     free_list(of);
     if (status == CELLARCOVE_ANSWER) {
@@ -571,60 +539,40 @@ static PyObject *of_list(list *of, uint32_t status, PyObject *result) {
     return refused(status, by_zero && status == CELLARCOVE_BAD_MODULUS);
 }
 
-/* A call of two numbers with another count of them: that of a list. */
-static PyObject *of_any_count(PyCFunction of, const char *name, PyObject *const *args,
+/* A call of two numbers with another count of them: that of a list, or the call by the package. */
+static PyObject *of_any_count(const call *c, PyCFunction of, PyObject *const *args,
                               Py_ssize_t count, PyObject *names) {
-    if (names != NULL) {
-        return PyErr_Format(PyExc_TypeError, "%s() takes two arrays with names", name);
+    PyObject *objects = list_of(args, names == NULL ? count : 0), *result = NULL;
+    if (objects != NULL) {
+        bool is_list = names == NULL && are_exact_ints(objects);
+        result = is_list ? of(NULL, objects) : run_others(c, args, count, names);
+        Py_DECREF(objects);
     }
-    PyObject *numbers = PyList_New(count);
-    for (Py_ssize_t k = 0; numbers != NULL && k < count; k++) {
-        if (PySequence_Check(args[k])) {
-            PyErr_Format(PyExc_TypeError, "%s() takes arrays two at a time, and not %zd", name,
-                         count);
-            Py_CLEAR(numbers);
-        } else {
-            Py_INCREF(args[k]);
-            PyList_SetItem(numbers, k, args[k]);
-        }
-    }
-    PyObject *result = numbers == NULL ? NULL : of(NULL, numbers);
-    Py_XDECREF(numbers);
     return result;
 }
 
 /* ---- numbers that a call writes ---- */
 
-/* Reads an unsigned number into a cell, for `PyArg_ParseTuple`. */
-static int read_unsigned(PyObject *object, void *to) {
-    int said = integer(object, to);
-    return said >= 0 && (fits(to, said, 'Q') || beyond(object, 'Q') != NULL);
-}
-
-/* Whether a number is below the binomial coefficient, which may not fit. */
-static bool is_below_binomial(uint64_t number, uint64_t n, uint64_t k) {
-    cellarcove_u64_answer ways = cellarcove_binomial_u64(n, k);
-    return ways.status != CELLARCOVE_ANSWER || number < ways.value;
-}
-
-static PyObject *tuple_of(const cell *numbers, Py_ssize_t count, bool is_signed) {
-    PyObject *tuple = PyTuple_New(count);
-    for (Py_ssize_t k = 0; tuple != NULL && k < count; k++) {
-        PyObject *number = is_signed ? PyLong_FromLongLong(numbers[k].i)
-                                     : PyLong_FromUnsignedLongLong(numbers[k].u);
-        if (number == NULL || PyTuple_SetItem(tuple, k, number) != 0) {
-            Py_CLEAR(tuple);
-        }
-    }
-    return tuple;
+/* Whether the first number is below the binomial coefficient of the others, which may not fit. */
+static bool is_below_binomial(const cell *numbers) {
+    cellarcove_u64_answer ways =
+        cellarcove_binomial_u64((uint64_t)numbers[1], (uint64_t)numbers[2]);
+    return ways.status != CELLARCOVE_ANSWER || numbers[0] < ways.value;
 }
 
 /* A tuple of the numbers that a call has written, which are freed, or the error for a status. */
-static PyObject *written(cell *numbers, uint64_t count, uint32_t status, bool is_signed) {
-    PyObject *result = status == CELLARCOVE_ANSWER ? tuple_of(numbers, (Py_ssize_t)count, is_signed)
-                                                   : refused(status, false);
+static PyObject *written(uint64_t *numbers, uint64_t count, uint32_t status, bool is_signed) {
+    PyObject *tuple =
+        status == CELLARCOVE_ANSWER ? PyTuple_New((Py_ssize_t)count) : refused(status, false);
+    for (uint64_t k = 0; tuple != NULL && k < count; k++) {
+        PyObject *number = is_signed ? PyLong_FromLongLong((int64_t)numbers[k])
+                                     : PyLong_FromUnsignedLongLong(numbers[k]);
+        if (number == NULL || PyTuple_SetItem(tuple, (Py_ssize_t)k, number) != 0) {
+            Py_CLEAR(tuple);
+        }
+    }
     PyMem_Free(numbers);
-    return result;
+    return tuple;
 }
 
 typedef uint32_t by_signed(int64_t, const uint64_t *, size_t, int64_t *, size_t);
@@ -635,26 +583,23 @@ typedef uint32_t by_unsigned(uint64_t, const uint64_t *, size_t, uint64_t *, siz
 static PyObject *divided(const call *c, PyObject *const *args, Py_ssize_t given, PyObject *names,
                          by_signed *of_signed, by_unsigned *of_unsigned) {
     PyObject *bound[MAX_PARAMETERS] = {NULL}, *result = NULL;
-    list of = {.width = 1};
+    list of = {.width = 1, .kind = 'Q'};
     cell amount;
-    bool quick = bind(c, args, given, names, bound) && Py_TYPE(bound[0]) == &PyLong_Type;
-    int said = quick && are_exact_ints(bound[1]) ? integer(bound[0], &amount) : 2;
-    bool negative = is_negative(&amount, said);
-    if (!fits(&amount, said, negative && of_signed != NULL ? 'q' : 'Q')) {
+    bool right = bind(c, args, given, names, bound) && Py_TYPE(bound[0]) == &PyLong_Type &&
+                 are_exact_ints(bound[1]) && integer(bound[0], &amount) &&
+                 fits(amount, amount < 0 && of_signed != NULL ? 'q' : 'Q');
+    if (!right) {
         return run_others(c, args, given, names);
     }
-    if (!take_list(c->name, bound[1], false, &of)) {
-        return NULL;
-    }
-    size_t count = (size_t)of.count;
-    cell *parts = room_for(count);
+    size_t count = (size_t)PyList_Size(bound[1]);
+    uint64_t *parts = copy_list(bound[1], false, &of) ? room_for(count) : NULL;
     if (parts != NULL) {
         uint32_t status;
         Py_BEGIN_ALLOW_THREADS
-        status = negative ? of_signed(amount.i, of.items, count, &parts->i, count)
-                          : of_unsigned(amount.u, of.items, count, &parts->u, count);
+        status = amount < 0 ? of_signed((int64_t)amount, of.items, count, (int64_t *)parts, count)
+                            : of_unsigned((uint64_t)amount, of.items, count, parts, count);
         Py_END_ALLOW_THREADS
-        result = written(parts, count, status, negative);
+        result = written(parts, count, status, amount < 0);
     }
     free_list(&of);
     return result;
@@ -675,53 +620,48 @@ static bool read_text(const char *name, PyObject *text, const char **bytes, Py_s
 
 /* Says that the calls are taken, if they are: the objects that they keep are those of one life of
  * one interpreter. That one has a mark in its dictionary. */
-static int take_calls(void) {
+static bool take_calls(void) {
     static bool taken;
     PyObject *marks = PyInterpreterState_GetDict(PyInterpreterState_Get());
     if (marks == NULL || (taken && PyDict_GetItemString(marks, "cellarcove") == NULL)) {
         PyErr_SetString(PyExc_ImportError,
                         "another interpreter of this process has imported cellarcove");
-        return -1;
+        return false;
     }
     taken = true;
-    return PyDict_SetItemString(marks, "cellarcove", Py_True);
+    return PyDict_SetItemString(marks, "cellarcove", Py_True) == 0;
 }
 
 /* Keeps what the package installs, which is the tuple of the arguments. */
 static PyObject *install(PyObject *module, PyObject *args) {
     static PyObject *kept;
     (void)module;
-    if (!PyArg_ParseTuple(args, "OOOOOOOOOOOOOOOO", &refusal, &out_of_range, &call_of_others,
-                          &items_of, &add_others, &subtract_others, &new_fraction, &new_decimal,
-                          &class_tuple, &class_date, &class_gcd, &class_solutions, &class_week,
-                          &class_weekday, &class_congruence, &class_schedule)) {
+    if (!PyArg_ParseTuple(args, "OOOOOOOOOOOOOOOOOO", &refusal, &refusal_of_text, &out_of_range,
+                          &call_of_others, &items_of, &add_others, &subtract_others, &new_fraction,
+                          &new_decimal, &class_tuple, &names_of_parts, &class_date, &class_gcd,
+                          &class_solutions, &class_week, &class_weekday, &class_congruence,
+                          &class_schedule)) {
         return NULL;
     }
+    void *slot = PyType_GetSlot((PyTypeObject *)class_tuple, Py_tp_new);
+    memcpy(&new_tuple, &slot, sizeof slot);
     Py_INCREF(args);
     Py_XDECREF(kept);
     kept = args;
-    /* `tuple.__new__` without its test of the class. The stable ABI of 3.9 gives the slots of
-     * classes that Python makes. */
-    void *slot = PyType_GetSlot((PyTypeObject *)class_tuple, Py_tp_new);
-    memcpy(&new_tuple, &slot, sizeof slot);
     Py_RETURN_NONE;
 }
 
 /* Adds the names of the calls, the version, the compiler of the calls, and the class below that of
  * dates. That one stays when the package is imported again. */
 static int prepare(PyObject *module, PyObject *all) {
-    bool right =
-        take_calls() == 0 && all != NULL && PyModule_AddObject(module, "__all__", all) == 0;
-    for (int k = 0; k < 6 && right; k++) {
-        right = (names_of_parts[k] = PyUnicode_InternFromString(parts[k])) != NULL;
-    }
     if (base_of_dates == NULL) {
         base_of_dates = PyType_FromSpec(&date_spec);
     }
     Py_XINCREF(base_of_dates);
-    right = right && base_of_dates != NULL &&
-            PyModule_AddObject(module, "_BaseDate", base_of_dates) == 0 &&
-            PyModule_AddStringConstant(module, "VERSION", CELLARCOVE_VERSION) == 0 &&
-            PyModule_AddStringConstant(module, "BUILT_BY", cellarcove_built_by()) == 0;
+    bool right = take_calls() && all != NULL && base_of_dates != NULL &&
+                 PyModule_AddObject(module, "__all__", all) == 0 &&
+                 PyModule_AddObject(module, "_BaseDate", base_of_dates) == 0 &&
+                 PyModule_AddStringConstant(module, "VERSION", CELLARCOVE_VERSION) == 0 &&
+                 PyModule_AddStringConstant(module, "BUILT_BY", cellarcove_built_by()) == 0;
     return right ? 0 : -1;
 }

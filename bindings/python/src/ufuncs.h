@@ -14,8 +14,18 @@
 
 #include "cellarcove.h"
 
+/* Where the numbers of an argument or of a result lie. */
+#define PLACE(n)                                                                                   \
+    char *const at##n = args[n];                                                                   \
+    const npy_intp step##n = steps[n];
+
+/* Where the statuses lie: all at one place, which nothing reads, if the ufunc returns none. */
+#define STATUSES(n)                                                                                \
+    char unread, *const at##n = data == NULL ? &unread : args[n];                                  \
+    const npy_intp step##n = data == NULL ? 0 : steps[n];
+
 /* The number of a call at a place. */
-#define AT(type, place) (*(type *)(void *)(args[place] + k * steps[place]))
+#define AT(type, n) (*(type *)(void *)(at##n + k * step##n))
 
 /* How many numbers are divided by one at a time. */
 #define BLOCK 512
@@ -27,6 +37,23 @@ typedef struct {
     const char *types;
     int forms, taken, returned;
 } ufunc;
+
+/* The data of the loops of a ufunc that returns the statuses, and of one that counts the failures
+ * alone. */
+static void *returns_statuses[2] = {returns_statuses, returns_statuses}, *counts_failures[2];
+
+/* How many loops of this thread had an element without a result. */
+static _Thread_local unsigned long long failures;
+
+static PyObject *count_of_failures(PyObject *module, PyObject *none) {
+    (void)module, (void)none;
+    return PyLong_FromUnsignedLongLong(failures);
+}
+
+static PyMethodDef methods[] = {
+    {"failures", count_of_failures, METH_NOARGS, NULL},
+    {NULL, NULL, 0, NULL},
+};
 
 /* Room for so many numbers. Without it a loop sets the error that numpy raises. */
 static uint64_t *room_for(size_t count) {
@@ -60,14 +87,6 @@ static void scatter(const uint64_t *from, char *to, npy_intp step, size_t count)
 static bool apart(const void *one, const void *other, size_t count) {
     uintptr_t first = (uintptr_t)one, second = (uintptr_t)other;
     return first + count * sizeof(uint64_t) <= second || second + count * sizeof(uint64_t) <= first;
-}
-
-/* Writes the statuses of what has a result. */
-static void clear(char *to, npy_intp step, size_t count) {
-    for (size_t k = 0; step != 1 && k < count; k++, to += step) {
-        *to = CELLARCOVE_ANSWER;
-    }
-    memset(to, CELLARCOVE_ANSWER, step == 1 ? count : 0);
 }
 
 /* Adds the ufuncs to the module. They keep what a table points to. */

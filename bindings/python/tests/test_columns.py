@@ -390,6 +390,22 @@ class Threads(unittest.TestCase):
         ratio = min(times[2]) / min(times[1])
         print(f'two threads took {ratio:.2f} of the time of one', file=sys.stderr)
 
+    def test_failures(self):
+        """A call raises for its own element without a result, and for none of another thread."""
+        x, failed = numpy.arange(5000), []
+        good, bad = numpy.ones(5000, int), x % 4999
+
+        def run(divisors):
+            for _ in range(50):
+                try:
+                    found = cellarcove.mod_floor(x, divisors)
+                    failed.append(found.any() or divisors is bad)
+                except cellarcove.DivisionByZero as error:
+                    failed.append((error.index, error.count) != (0, 2) or divisors is good)
+
+        together([lambda: run(good), lambda: run(bad)] * 4)
+        self.assertEqual((len(failed), any(failed)), (400, False))
+
 
 def together(runners):
     threads = [threading.Thread(target=run) for run in runners]

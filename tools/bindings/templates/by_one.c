@@ -1,15 +1,16 @@
-    npy_intp k = 0;
+
     uint64_t read[BLOCK], written[BLOCK];
-    for (npy_intp count; steps[1] == 0 && k < dimensions[0]; k += count) {
-        count = dimensions[0] - k < BLOCK ? dimensions[0] - k : BLOCK;
-        char *to = args[2] + k * steps[2];
-        void *numbers = gather(read, args[0] + k * steps[0], steps[0], (size_t)count);
-        void *found = steps[2] == sizeof *written && apart(numbers, to, (size_t)count) ? (void *)to : written;
-        if ({symbol}(numbers, (size_t)count, AT(const {type}, 1), found, (size_t)count) != CELLARCOVE_ANSWER) {
+    const bool is_one = step1 == 0 && (data == NULL || step3 == 1);
+    const bool whole = step0 == sizeof *read && step2 == sizeof *written && apart(at0, at2, (size_t)count);
+    for (npy_intp most = whole ? count : BLOCK, size; is_one && k < count; k += size) {
+        size = count - k < most ? count - k : most;
+        void *numbers = gather(read, &AT(char, 0), step0, (size_t)size);
+        void *found = step2 == sizeof *written && apart(numbers, &AT(char, 2), (size_t)size) ? (void *)&AT(char, 2) : written;
+        if ({symbol}(numbers, (size_t)size, AT(const {type}, 1), found, (size_t)size) != CELLARCOVE_ANSWER) {
             break;
         }
         if (found == written) {
-            scatter(written, to, steps[2], (size_t)count);
+            scatter(written, &AT(char, 2), step2, (size_t)size);
         }
-        clear(args[3] + k * steps[3], steps[3], (size_t)count);
+        memset(&AT(char, 3), CELLARCOVE_ANSWER, data == NULL ? 0 : (size_t)size);
     }

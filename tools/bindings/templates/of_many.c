@@ -1,4 +1,4 @@
 
     if (count != 2) {
-        return of_any_count(py_{name}_of, "{name}", args, count, names);
+        return of_any_count(&call_{name}, py_{name}_of, args, count, names);
     }

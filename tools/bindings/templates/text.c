@@ -6,6 +6,6 @@ static PyObject *py_{name}(PyObject *module, PyObject *object) {
         return NULL;
     }
     {kind} r = {symbol}(bytes, (size_t)count);
-    return r.status == CELLARCOVE_ANSWER ? {result} : refused_text(r.status);
+    return r.status == CELLARCOVE_ANSWER ? {result} : raised(PyObject_CallFunction(refusal_of_text, "I", (unsigned)r.status));
 }
 

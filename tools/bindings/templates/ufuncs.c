@@ -13,6 +13,6 @@ static int execute(PyObject *module) { return add_ufuncs(module, ufuncs, sizeof 
 
 static PyModuleDef_Slot slots[] = {{Py_mod_exec, (void *)execute}, {0, NULL}};
 
-static struct PyModuleDef definition = {.m_base = PyModuleDef_HEAD_INIT, .m_name = "cellarcove._ufuncs", .m_slots = slots};
+static struct PyModuleDef definition = {.m_base = PyModuleDef_HEAD_INIT, .m_name = "cellarcove._ufuncs", .m_methods = methods, .m_slots = slots};
 
 PyMODINIT_FUNC PyInit__ufuncs(void) { return PyModuleDef_Init(&definition); }

@@ -7,14 +7,14 @@ static PyObject *py_{name}(PyObject *module, PyObject *args) {
     if (!{asked}) {
         return refused(CELLARCOVE_OUTSIDE, false);
     }
-    cell *room = room_for(numbers[{last}].u);
+    uint64_t *room = room_for((uint64_t)numbers[{last}]);
     if (room == NULL) {
         return NULL;
     }
     uint32_t status;
     Py_BEGIN_ALLOW_THREADS
-    status = {symbol}({passed}, &room->u, (size_t)numbers[{last}].u);
+    status = {symbol}({passed}, room, (size_t)numbers[{last}]);
     Py_END_ALLOW_THREADS
-    return written(room, numbers[{last}].u, status, false);
+    return written(room, (uint64_t)numbers[{last}], status, false);
 }
 

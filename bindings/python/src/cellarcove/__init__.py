@@ -423,6 +423,10 @@ def _refusal(
     return kind(status, index, count, of_text and status in Refused._reasons_of_text)
 
 
+def _refusal_of_text(status: int) -> Refused:
+    return _refusal(status, False, of_text=True)
+
+
 def _out_of_range(number: SupportsIndex, kind: str, place: int | None = None) -> OverflowError:
     number = operator.index(number)
     shown = str(number) if abs(number) < _SHOWN else f'a number of {number.bit_length()} bits'
@@ -436,6 +440,8 @@ _columns.classes = {
     'c': Congruence, 's': Schedule,
 }
 _calls._install(
-    _refusal, _out_of_range, _columns.call_of_others, _columns.items, _add, _subtract, Fraction,
-    Decimal, _Tuple, Date, ExtendedGcd, Solutions, IsoWeek, Weekday, Congruence, Schedule,
+    _refusal, _refusal_of_text, _out_of_range, _columns.call_of_others, _columns.items, _add,
+    _subtract, Fraction, Decimal, _Tuple,
+    ('numerator', 'denominator', 'year', 'month', 'day', 'value'), Date, ExtendedGcd, Solutions,
+    IsoWeek, Weekday, Congruence, Schedule,
 )

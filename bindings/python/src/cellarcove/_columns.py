@@ -29,9 +29,11 @@ RANGES = {
     '?': (0, 1),
 }
 NAMED = ('out', 'where', 'errors')
+OF_ANY_COUNT = ('gcd', 'lcm')  # which take any count of numbers
 ERRORS = ('raise', 'mask', 'status')
 NO_DAY = -(2**63)  # the number of `NaT`
 NOT_FITTING = 2  # the status
+COUNTED = '_counted'  # the end of the name of a ufunc that counts failures, and returns no statuses
 PER_DAY = {'s': 86400, 'ms': 86400 * 10**3, 'us': 86400 * 10**6, 'ns': 86400 * 10**9}
 WITH_MISSING = (
     ": with missing values, pass pandas' Int64 by `.astype('Int64')`, which raises for a number "
@@ -216,6 +218,8 @@ def call_of_others(name: str, given: Sequence[Any], names: Sequence[str] | None)
         found = quick(name, given)
         return run(name, given, {}) if found is None else found
     count = len(given) - len(names or ())
+    if name in OF_ANY_COUNT and count != 2:
+        return of_any_count(name, given, names)
     named, given = dict(zip(names or (), given[count:])), given[:count]
     options = {key: named.pop(key) for key in NAMED if key in named}
     if call.numbers:
@@ -226,6 +230,15 @@ def call_of_others(name: str, given: Sequence[Any], names: Sequence[str] | None)
     else:
         bound = bind(name, call.names, given, named)
     return run(name, bound, options) if options else getattr(_calls, name)(*bound)
+
+
+def of_any_count(name: str, given: Sequence[Any], names: Sequence[str] | None) -> Any:
+    """A call of two numbers with another count of them: that of a list."""
+    if names is not None:
+        raise TypeError(f'{name}() takes two arrays with names')
+    if any(hasattr(value, '__getitem__') for value in given):
+        raise TypeError(f'{name}() takes arrays two at a time, and not {len(given)}')
+    return getattr(_calls, f'{name}_of')(given)
 
 
 def run(name: str, given: Sequence[Any], named: dict[str, Any]) -> Any:
@@ -307,7 +320,7 @@ def shares_of_list(name: str, amount: int, weights: list[int]) -> Any:
 def flat(value: Any, width: int) -> list[int]:
     """The integers of an iterable, or, if each of its items has several, of those."""
     if width == 1:
-        return [operator.index(number) for number in value]
+        return list(map(operator.index, value))
     numbers: list[int] = []
     value = list(value)
     if not all(isinstance(item, classes['c']) for item in value):
@@ -321,9 +334,9 @@ def flat(value: Any, width: int) -> list[int]:
     return numbers
 
 
-def items(name: str, value: Any, width: int, has_signed: bool) -> Any:
-    """The numbers of a list: an iterable, or an array of one dimension, of which it makes its bytes
-    and whether they are signed."""
+def items(name: str, value: Any, width: int, has_signed: bool) -> list[int] | tuple[bytes, str]:
+    """The numbers of an iterable, or the bytes of an array of one dimension, with the letter of
+    their type."""
     if width > 1 or not is_column(value):
         return flat(value, width)
     numpy, _ = modules(name)
@@ -332,9 +345,9 @@ def items(name: str, value: Any, width: int, has_signed: bool) -> Any:
         raise ValueError(f'{name}(): an item of the array is missing')
     if data.ndim != 1:
         raise ValueError(f'{name}(): the array has {data.ndim} dimensions, and not one')
-    signed = has_signed and not (data.dtype.kind == 'u' and data.dtype.itemsize == 8)
-    made = as_kind(numpy, name, Leaf(data, 'the list'), None, 'q' if signed else 'Q')
-    return numpy.ascontiguousarray(made, 'int64' if signed else 'uint64').tobytes(), signed
+    kind = 'Q' if not has_signed or data.dtype.kind == 'u' and data.dtype.itemsize == 8 else 'q'
+    made = as_kind(numpy, name, Leaf(data, 'the list'), None, kind)
+    return numpy.ascontiguousarray(made, 'int64' if kind == 'q' else 'uint64').tobytes(), kind
 
 
 # ---- columns
@@ -484,7 +497,7 @@ def days_of(numpy: Any, name: str, leaf: Leaf, data: Any) -> Any:
     if count == 1 and unit in PER_DAY:
         # numpy's own cast wraps for the first day of a unit
         return data.astype('int64') // PER_DAY[unit]
-    return data.astype('M8[D]').view('int64')
+    return data.astype('M8[D]', copy=False).view('int64')
 
 
 def cells_of(numpy: Any, ufuncs: Any, name: str, leaves: Sequence[Leaf]) -> tuple[list[Leaf], Any]:
@@ -496,7 +509,8 @@ def cells_of(numpy: Any, ufuncs: Any, name: str, leaves: Sequence[Leaf]) -> tupl
             found.append(leaf)
             continue
         data, mask = plain(numpy, name, leaf)
-        if mask is not None and mask.any():
+        mask = mask if mask is not None and mask.any() else None
+        if mask is not None:
             missing = mask if missing is None else missing | mask
         if leaf.is_dates:
             days = days_of(numpy, name, leaf, data)
@@ -549,7 +563,11 @@ def of_numpy(
     dated = call.result == 'Date' and any(leaf.is_dates for leaf in leaves)
     if out is not None and (dated or missing is not None or task.errors == 'mask'):
         raise TypeError(f'{task.name}() takes no out for dates or for what may be missing')
-    outputs, status = ran(numpy, task.name, given, taken, returned, call, out, where)
+    outputs, status = None, None
+    if task.errors == 'raise' and out is None and where is True and missing is None:
+        outputs = without_failure(numpy, task.name, given, taken, returned, call)
+    if outputs is None:
+        outputs, status = ran(numpy, task.name, given, taken, returned, call, out, where)
     if where is not True:
         missing = ~numpy.asarray(where) if missing is None else missing | ~numpy.asarray(where)
     if dated:
@@ -610,25 +628,42 @@ def ran(
             *named.get('out', (None,) * count)[:count],
             *(numpy.zeros(shape, 'u1'),) * call.has_status,
         )
-    signature = signature_of(numpy, taken, returned, call.has_status)
+    signature = signature_of(numpy, taken, returned + 'B' * call.has_status)
     found = ufunc(*given, signature=signature, casting='unsafe', **named)
     found = found if isinstance(found, tuple) else (found,)
     return found[:count], numpy.asarray(found[count]) if call.has_status else None
 
 
-def signature_of(numpy: Any, taken: str, returned: str, has_status: bool) -> str:
+def without_failure(
+    numpy: Any, name: str, given: Sequence[Any], taken: str, returned: str, call: Call
+) -> Any:
+    """What a ufunc returns, or `None` if an element has no result."""
+    _, ufuncs = modules(name)
+    ufunc, before = getattr(ufuncs, name + COUNTED * call.has_status), ufuncs.failures()
+    found = ufunc(*given, signature=signature_of(numpy, taken, returned), casting='unsafe')
+    if ufuncs.failures() != before:
+        return None
+    return found if isinstance(found, tuple) else (found,)
+
+
+def signature_of(numpy: Any, taken: str, returned: str) -> str:
     """The types of a loop of a ufunc, as numpy writes them."""
 
     def letters(kinds: str) -> str:
         return ''.join(numpy.dtype({'q': 'i8', 'Q': 'u8'}.get(kind, kind)).char for kind in kinds)
 
-    return f'{letters(taken)}->{letters(returned + "B" * has_status)}'
+    return f'{letters(taken)}->{letters(returned)}'
 
 
 def as_dates(
     numpy: Any, ufuncs: Any, outputs: Any, status: Any, last_day: int
 ) -> tuple[Any, Any]:
     """A column of dates in the place of three, and the statuses. No day is that of `NaT`."""
+    if status is None:
+        before, days = ufuncs.failures(), ufuncs.day_from_date_counted(*outputs)
+        low, high = days.min(initial=0), days.max(initial=0)
+        if ufuncs.failures() == before and -last_day <= low and high <= last_day:
+            return (numpy.asarray(days).view('M8[D]'),), None
     days, failed = ufuncs.day_from_date(*outputs)
     failed = numpy.where((days < -last_day) | (days > last_day), NOT_FITTING, failed)
     status = failed if status is None else numpy.where(status != 0, status, failed)
@@ -663,9 +698,9 @@ class Plan(NamedTuple):
     """How a call of arrays of numpy runs whose types are those of a form, or smaller."""
 
     ufunc: Any
+    failures: Callable[[], int]
     signature: str
     results: int
-    has_status: bool
     numbers: tuple[
         tuple[int, int, int, Any], ...
     ]  # the places of numbers with their ranges and their types
@@ -691,10 +726,10 @@ def plan_of(name: str, kinds: tuple[Any, ...]) -> Plan | None:
         (k, *RANGES[taken[k]], numpy.dtype(taken[k])) for k, kind in enumerate(kinds) if kind is int
     )
     return Plan(
-        getattr(ufuncs, name),
-        signature_of(numpy, taken, returned, call.has_status),
+        getattr(ufuncs, name + COUNTED * call.has_status),
+        ufuncs.failures,
+        signature_of(numpy, taken, returned),
         len(returned),
-        call.has_status,
         numbers,
         classes.get(call.result),
     )
@@ -722,18 +757,11 @@ def quick(name: str, given: Sequence[Any]) -> Any:
             if not low <= given[place] <= high:
                 return None
             given[place] = numpy.array(given[place], kind)
+    before = plan.failures()
     found = plan.ufunc(*given, signature=plan.signature)
-    if not plan.has_status:
-        return found if plan.results == 1 else found if plan.result is None else plan.result(*found)
-    if found[-1].max(initial=0):
+    if plan.failures() != before:
         return None
-    return (
-        found[0]
-        if plan.results == 1
-        else found[:-1]
-        if plan.result is None
-        else plan.result(*found[:-1])
-    )
+    return found if plan.results == 1 or plan.result is None else plan.result(*found)
 
 
 # ---- shares
