@@ -1,17 +1,17 @@
 -- Quotients rounded down, of numbers and of lists.
-use Rattle.std.proofs.Common.{◌≡◌, ◌+◌, ◌-◌, ◌/◌, ◌%◌, ◌<◌, ◌≤◌, ℕ, ℤ, List, arith, inr, int_eq, refl, sym, length, of_z, pos, negsuc, map, get_or, set, slice_index, slice_set, ◌∙◌, ap, FitsSigned, to_z, w64}
-use Rattle.std.proofs.lemmas.Int.{ints, to_z_pos}
+use Rattle.std.proofs.Common.{◌≡◌, ◌+◌, ◌-◌, ◌/◌, ◌%◌, ◌<◌, ◌≤◌, ℕ, ℤ, List, arith, inl, inr, int_eq, refl, sym, length, of_z, pos, negsuc, map, get_or, set, slice_index, slice_set, ◌∙◌, ap, FitsSigned, to_z, w64}
+use Rattle.std.proofs.lemmas.Int.{ints, to_z-of_z, to_z_pos}
 use Rattle.std.proofs.lemmas.List.{get_or-map, get_or-set_other, get_or-set_same, length-map, length-set, map-set}
 use Rattle.std.proofs.lemmas.Nat.{mod_below}
-use mir.Val.{bool_byte}
-use Rattle.std.proofs.Math.Nat.{div-mul-le_self, mul-le-mul_left}
-use Rattle.std.proofs.lemmas.Bool.{false≢true}
+use Rattle.std.proofs.Math.Facts.{to_z-neg}
+use Rattle.std.proofs.lemmas.Bool.{cases_lt, false≢true}
 use Rattle.std.proofs.lemmas.Bool.Decides.{Decides-int_eq}
 use Rattle.std.specs.List.{All, IsAnyAnswer}
-use Rattle.std.specs.Prelude.{Bool, Decides, int_lt, false, true, suc, zero, ◌≢◌, ◌↔◌, ◌^◌, ◌≤ℤ◌, ◌<ℤ◌, ◌+ℤ◌, ◌-ℤ◌, ◌*ℤ◌, neg_ℤ, unsigned_abs}
+use Rattle.std.specs.Prelude.{Bool, Decides, false, true, suc, zero, ◌≢◌, ◌↔◌, ◌^◌, ◌≤ℤ◌, ◌<ℤ◌, ◌+ℤ◌, ◌-ℤ◌, ◌*ℤ◌, neg_ℤ, unsigned_abs}
 use Rattle.num_integer.proofs.ForCallers.{floored_by_range, linear, mul_neg, other_quotient_fits, products, sizes}
 use Rattle.num_integer.specs.Division.{IsFloored, IsQuotient}
 use Rattle.num_integer.specs.Range.{EachFits, IsRange}
+use Rattle.cellarcove_c.proofs.Complements.{complement_of_bits}
 use Rattle.cellarcove_c.specs.Quotients.{AreFloored, QuotientsFit}
 
 pub natural_quotient : (n d : ℕ) → 0 < d → IsQuotient IsFloored (pos n) (pos d) (pos (n / d))
@@ -58,39 +58,57 @@ complement_quotient (negsuc a) m r q d up fits q_is _ m_down _ r_down =
     let r_is : r ≡ negsuc (a / d) = omega (arith, ints, complement, q_is) in
     rw r_is (negative_quotient a d up)
 
--- ---- by minus d, of the magnitude of a number, or of 1 less if it is positive
+-- ---- by minus d, of the negation of a number
 
-pub quotient_by_two : (n d q : ℕ) → 1 < d → n ≤ 2 ^ 63 → q ≡ n / d → q < 2 ^ 63
-quotient_by_two n d q large small is = omega (arith, is, small, div-mul-le_self n d, mul-le-mul_left {m = 2} {n = d} (n / d) large)
+from_not_below : {a b : ℤ} → ¬ (a <ℤ b) → b ≤ℤ a
+from_not_below h = grind (arith, linear)
 
-is_positive : (n : ℕ) → int_lt (pos 0) (pos (suc n)) ≡ true
-is_positive n = by (int_lt (pos 0) (pos (suc n))) refl
-  where
-    by : (t : Bool) → int_lt (pos 0) (pos (suc n)) ≡ t → int_lt (pos 0) (pos (suc n)) ≡ true
-    by true e = e
-    by false e = absurd (omega (arith, ints, e))
+-- the number less 1, modulo 2^64
+abbrev before : ℤ → ℤ
+before x = to_z w64 ((of_z w64 x + (2 ^ 64 - 1)) % 2 ^ 64)
 
-pub negation_quotient : (x r s : ℤ) (q d b : ℕ) → 0 < d → q < 2 ^ 63 → q ≡ (unsigned_abs x - b) / d → b ≡ bool_byte (int_lt (pos 0) x) → s ≡ pos (bool_byte (int_lt (pos 0) x))
-    → (pos 0 ≤ℤ to_z w64 (of_z w64 (pos 0 -ℤ to_z w64 (of_z w64 s))) → r ≡ to_z w64 q) → (to_z w64 (of_z w64 (pos 0 -ℤ to_z w64 (of_z w64 s))) <ℤ pos 0 → r ≡ pos 0 -ℤ to_z w64 q -ℤ pos 1)
-    → IsQuotient IsFloored x (neg_ℤ (pos d)) r
-negation_quotient (pos zero) r s q d b up small q_is b_is s_is kept _ =
-    let size : unsigned_abs (pos 0) - b ≡ 0 = omega (arith, b_is) in
-    let is : r ≡ to_z w64 q = (rw s_is at kept) (omega (arith, ints)) in
-    let r_is : r ≡ pos (0 / d) = is ∙ to_z_pos w64 q small ∙ ap pos (q_is ∙ ap (λ (v : ℕ). v / d) size) in
-    rw r_is (quotient_to_zero 0 d up)
-negation_quotient (pos (suc n)) r s q d b up small q_is b_is s_is _ complement =
-    let b_is : b ≡ 1 = b_is ∙ ap bool_byte (is_positive n) in
-    let size : unsigned_abs (pos (suc n)) - b ≡ n = omega (arith, b_is) in
-    let s_is : s ≡ pos 1 = s_is ∙ ap (λ (t : Bool). pos (bool_byte t)) (is_positive n) in
-    let is : r ≡ pos 0 -ℤ to_z w64 q -ℤ pos 1 = (rw s_is at complement) (omega (arith, ints)) in
+negated : (n : ℕ) → pos 0 -ℤ negsuc (suc n) -ℤ pos 1 ≡ pos (suc n)
+negated n = omega (arith, ints)
+
+-- a quotient that is complemented twice
+kept : (r : ℤ) (q n d : ℕ) → FitsSigned w64 r → q < 2 ^ 63 → q ≡ n / d → r ≡ pos 0 -ℤ to_z w64 q -ℤ pos 1 → to_z w64 (2 ^ 64 - 1 - of_z w64 r) ≡ pos (n / d)
+kept r q n d fits small q_is is =
     let is : r ≡ pos 0 -ℤ pos q -ℤ pos 1 = rw (to_z_pos w64 q small) at is in
-    let r_is : r ≡ negsuc (n / d) = omega (arith, ints, is, q_is ∙ ap (λ (v : ℕ). v / d) size) in
-    rw r_is (quotient_of_positive n d up)
-negation_quotient (negsuc n) r s q d b up small q_is b_is s_is kept _ =
-    let size : unsigned_abs (negsuc n) - b ≡ suc n = omega (arith, b_is) in
-    let is : r ≡ to_z w64 q = (rw s_is at kept) (omega (arith, ints)) in
-    let r_is : r ≡ pos (suc n / d) = is ∙ to_z_pos w64 q small ∙ ap pos (q_is ∙ ap (λ (v : ℕ). v / d) size) in
-    rw r_is (quotient_to_zero (suc n) d up)
+    complement_of_bits r fits ∙ omega (arith, ints, is, q_is)
+
+-- the bits of the negation, which is 2^63 for -2^63
+negation_bits : (n : ℕ) (m : ℤ) → n < 2 ^ 63 → m ≡ pos 0 -ℤ before (negsuc n) -ℤ pos 1 → of_z w64 m ≡ suc n
+negation_bits n m small is = elim (cases_lt (suc n) (2 ^ 63)) [
+  | inl above ↦
+      let bits : (2 ^ 64 - suc n + (2 ^ 64 - 1)) % 2 ^ 64 ≡ 2 ^ 64 - suc (suc n) = omega (arith, above) in
+      let is : m ≡ pos 0 -ℤ negsuc (suc n) -ℤ pos 1 = rw (bits, to_z-neg w64 (suc n) above) at is in
+      ap (of_z w64) (is ∙ negated n)
+  | inr beyond ↦
+      let least : n ≡ 2 ^ 63 - 1 = omega (arith, small, beyond) in
+      let is : m ≡ negsuc (2 ^ 63 - 1) = rw least at is in
+      rw (is, least) refl
+]
+
+pub negation_quotient : (x s m r : ℤ) (n q d : ℕ) → 0 < d → FitsSigned w64 x → FitsSigned w64 r → q < 2 ^ 63 → (s <ℤ pos 0) ↔ (x ≤ℤ pos 0)
+    → (pos 0 ≤ℤ s → m ≡ before x) → (s <ℤ pos 0 → m ≡ pos 0 -ℤ before x -ℤ pos 1) → n ≡ of_z w64 m → q ≡ n / d
+    → (pos 0 ≤ℤ s → r ≡ to_z w64 q) → (s <ℤ pos 0 → r ≡ pos 0 -ℤ to_z w64 q -ℤ pos 1)
+    → IsQuotient IsFloored x (neg_ℤ (pos d)) (to_z w64 (2 ^ 64 - 1 - of_z w64 r))
+negation_quotient (pos zero) s m r n q d up x_fits r_fits small sign _ m_down n_is q_is _ r_down =
+    let below = sign.1 (omega (arith, ints)) in
+    let none : n ≡ 0 = n_is ∙ ap (of_z w64) (m_down below) in
+    rw (kept r q 0 d r_fits small (q_is ∙ ap (λ (v : ℕ). v / d) none) (r_down below)) (quotient_to_zero 0 d up)
+negation_quotient (pos (suc k)) s m r n q d up x_fits r_fits small sign m_up _ n_is q_is r_up _ =
+    let from_zero : pos 0 ≤ℤ s = from_not_below (λ below. omega (arith, ints, sign.0 below)) in
+    let bits : (suc k + (2 ^ 64 - 1)) % 2 ^ 64 ≡ k = omega (arith, x_fits.sfits) in
+    let m_is : m ≡ pos k = rw (bits, to_z_pos w64 k (omega (arith, x_fits.sfits))) at (m_up from_zero) in
+    let q_is : q ≡ k / d = q_is ∙ ap (λ (v : ℕ). v / d) (n_is ∙ ap (of_z w64) m_is) in
+    let r_is : r ≡ pos q = r_up from_zero ∙ to_z_pos w64 q small in
+    let is : to_z w64 (2 ^ 64 - 1 - of_z w64 r) ≡ negsuc (k / d) = complement_of_bits r r_fits ∙ omega (arith, ints, r_is, q_is) in
+    rw is (quotient_of_positive k d up)
+negation_quotient (negsuc k) s m r n q d up x_fits r_fits small sign _ m_down n_is q_is _ r_down =
+    let below = sign.1 (omega (arith, ints)) in
+    let size : n ≡ suc k = n_is ∙ negation_bits k m x_fits.sfits (m_down below) in
+    rw (kept r q (suc k) d r_fits small (q_is ∙ ap (λ (v : ℕ). v / d) size) (r_down below)) (quotient_to_zero (suc k) d up)
 
 -- ---- what fits
 
@@ -101,8 +119,12 @@ i64_between (negsuc n) = (λ f. (omega (arith, ints, f.sfits), omega (arith, int
 i64_range : IsRange (FitsSigned w64) (negsuc (2 ^ 63 - 1)) (pos (2 ^ 63 - 1))
 i64_range = record { between = i64_between; low_end = inr (inr (omega (arith, ints))); positive = omega (arith, ints); bounded = omega (arith, ints); bounded_below = inr (omega (arith, ints)) }
 
-pub fits_by_other : {x d z : ℤ} → FitsSigned w64 x → FitsSigned w64 d → d ≢ negsuc 0 → IsQuotient IsFloored x d z → FitsSigned w64 z
+fits_by_other : {x d z : ℤ} → FitsSigned w64 x → FitsSigned w64 d → d ≢ negsuc 0 → IsQuotient IsFloored x d z → FitsSigned w64 z
 fits_by_other x_fits d_fits other h = other_quotient_fits i64_range x_fits d_fits other h.division.division
+
+-- those of a list
+pub fit_by_other : (numbers : List ℤ) {d : ℤ} → All (FitsSigned w64) numbers → FitsSigned w64 d → d ≢ negsuc 0 → QuotientsFit d numbers
+fit_by_other numbers each d_fits other k within z h = fits_by_other (each k (pos 0) within) d_fits other h
 
 fits_by_minus_one : {x z : ℤ} → FitsSigned w64 x → x ≢ negsuc (2 ^ 63 - 1) → IsQuotient IsFloored x (negsuc 0) z → FitsSigned w64 z
 fits_by_minus_one {x} {z} x_fits other h =
@@ -159,6 +181,13 @@ one_more_floored {d} {i} {numbers} {quotients} q within is h =
       one_each = length-set quotients i q ∙ h.one_each;
       each = λ k upto. grind (arith, get_or-set_other quotients i k q (pos 0), get_or-set_same quotients i q (pos 0) (omega (arith, within, h.one_each)), h.each k, is);
     }
+
+-- the same of numbers and a quotient as the type holds them
+pub one_more_signed : {d : ℤ} {i : ℕ} {numbers quotients : List ℤ} (q : ℤ) → FitsSigned w64 (get_or numbers i (pos 0)) → FitsSigned w64 q → i < length numbers
+    → IsQuotient IsFloored (to_z w64 (of_z w64 (get_or numbers i (pos 0)))) d q → AreFlooredTo d i numbers quotients
+    → AreFlooredTo d (i + 1) numbers (set quotients i (to_z w64 (of_z w64 q)))
+one_more_signed {d} {i} {numbers} q number_fits q_fits within is h =
+    rw (to_z-of_z w64 q q_fits) (one_more_floored q within (rw (to_z-of_z w64 (get_or numbers i (pos 0)) number_fits) at is) h)
 
 pub all_floored : {d : ℤ} {i : ℕ} {numbers quotients : List ℤ} → length numbers ≤ i → AreFlooredTo d i numbers quotients → AreFloored d numbers quotients
 all_floored end h = record { one_each = h.one_each; each = λ k within. h.each k (omega (arith, within, end)) }

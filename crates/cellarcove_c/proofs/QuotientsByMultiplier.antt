@@ -1,16 +1,16 @@
 -- Quotients by a multiplier in place of a divisor.
-use Rattle.std.proofs.Common.{◌≡◌, ◌+◌, ◌-◌, ◌*◌, ◌/◌, ◌%◌, ◌^◌, ◌<◌, ◌≤◌, ℕ, ap, arith, mul-le-mul_right, refl, sym, ◌∙◌}
-use Rattle.std.proofs.Math.Nat.{lt_of_not-le, mod-eq_of_lt, mul-le-mul_left}
+use Rattle.std.proofs.Common.{◌≡◌, ◌+◌, ◌-◌, ◌*◌, ◌/◌, ◌%◌, ◌^◌, ◌<◌, ◌≤◌, ℕ, ap, arith, inl, inr, mul-le-mul_right, refl, sym, ◌∙◌}
+use Rattle.std.proofs.Math.Nat.{lt_of_not-le, mod-eq_of_lt, mul-le-mul_left, pow-le-pow_right}
 use Rattle.std.proofs.lemmas.Nat.{div-mul-add, div_below, le-div, leading_length, mod_below, one_shl, pow-add, shr-shr}
 use Rattle.std.specs.Prelude.{suc, zero}
 use Rattle.std.specs.Int.Count.{count_leading_zeros}
 
--- the bounds of the quotient q of n by d, where k is that of p by d
-below_product : (n d p k q : ℕ) → p ≤ (k + 1) * d → q * d ≤ n → q * p ≤ (k + 1) * n
-below_product n d p k q over least = omega (arith, mul-le-mul_left {m = p} {n = (k + 1) * d} q over, mul-le-mul_left {m = q * d} {n = n} (k + 1) least)
+-- the bounds of the quotient q of n by d, and of n * f by p, where f * d exceeds p by e
+below_product : (n d p f q : ℕ) → p ≤ f * d → q * d ≤ n → q * p ≤ f * n
+below_product n d p f q over least = omega (arith, mul-le-mul_left {m = p} {n = f * d} q over, mul-le-mul_left {m = q * d} {n = n} f least)
 
-above_product : (n d p k q : ℕ) → n * d < p → k * d ≤ p → n + 1 ≤ (q + 1) * d → (k + 1) * n * d < (q + 1) * p * d
-above_product n d p k q small under most = omega (arith, mul-le-mul_right {m = k * d} {n = p} n under, mul-le-mul_left {m = n + 1} {n = (q + 1) * d} p most)
+above_product : (n d p f e q : ℕ) → f * d ≡ p + e → n * e < p → n + 1 ≤ (q + 1) * d → f * n * d < (q + 1) * p * d
+above_product n d p f e q over small most = omega (arith, ap (λ (v : ℕ). v * n) over, small, mul-le-mul_left {m = n + 1} {n = (q + 1) * d} p most)
 
 at_most : (n d : ℕ) → n / d * d ≤ n
 at_most n d = omega arith
@@ -18,14 +18,19 @@ at_most n d = omega arith
 next : (n d : ℕ) → 0 < d → n + 1 ≤ (n / d + 1) * d
 next n d up = omega (arith, mod_below n d up)
 
--- the product with 1 more than p / d, divided by p
+-- the product with a number f that is slightly above p / d, divided by p
+by_excess : (n d p f e : ℕ) → 0 < d → f * d ≡ p + e → n * e < p → f * n / p ≡ n / d
+by_excess n d p f e up over small =
+    let from = below_product n d p f (n / d) (omega (arith, over)) (at_most n d) in
+    let below : f * n < (n / d + 1) * p =
+    lt_of_not-le (λ h. omega (arith, mul-le-mul_right {m = (n / d + 1) * p} {n = f * n} d h, above_product n d p f e (n / d) over small (next n d up))) in
+    let p_up : 0 < p = omega (arith, small) in
+    omega (arith, le-div (n / d) (f * n) p p_up from, div_below (f * n) p (n / d + 1) p_up below)
+
 pub by_multiplier : (n d p : ℕ) → 0 < d → n * d < p → (p / d + 1) * n / p ≡ n / d
 by_multiplier n d p up small =
-    let from = below_product n d p (p / d) (n / d) (omega (arith, next p d up)) (at_most n d) in
-    let below : (p / d + 1) * n < (n / d + 1) * p =
-    lt_of_not-le (λ h. omega (arith, mul-le-mul_right {m = (n / d + 1) * p} {n = (p / d + 1) * n} d h, above_product n d p (p / d) (n / d) small (at_most p d) (next n d up))) in
-    let p_up : 0 < p = omega (arith, small) in
-    omega (arith, le-div (n / d) ((p / d + 1) * n) p p_up from, div_below ((p / d + 1) * n) p (n / d + 1) p_up below)
+    let over : (p / d + 1) * d ≡ p + (d - p % d) = omega (arith, mod_below p d up) in
+    by_excess n d p (p / d + 1) (d - p % d) up over (omega (arith, mul-le-mul_left {m = d - p % d} {n = d} n (omega arith), small))
 
 -- the high word of a product with 2^64 more
 high_word : (f n : ℕ) → (f + 2 ^ 64) * n / 2 ^ 64 ≡ f * n / 2 ^ 64 + n
@@ -54,6 +59,46 @@ quotient_by_multiplier f n d (suc zero) j up f_fits n_fits _ _ above rounded =
     ∙ ap (λ (v : ℕ). v / 2 ^ (1 + j)) (sym (high_word f n)) ∙ shifted
     ∙ ap (λ (v : ℕ). v * n / (2 ^ 64 * 2 ^ (1 + j))) rounded ∙ by_multiplier n d (2 ^ 64 * 2 ^ (1 + j)) up small
 quotient_by_multiplier f n d (suc (suc i)) j _ _ _ few _ _ _ = omega (arith, few)
+
+-- ---- numbers up to 2^63, and a divisor of at most 2^s
+
+by_magnitude : (f n d s : ℕ) → 0 < d → n ≤ 2 ^ 63 → d ≤ 2 ^ s → f ≡ (2 ^ 63 * 2 ^ s - 1) / d + 1 → f * n / (2 ^ 63 * 2 ^ s) ≡ n / d
+by_magnitude f n d s up small above rounded =
+    let rest = (2 ^ 63 * 2 ^ s - 1) % d in
+    let over : f * d ≡ 2 ^ 63 * 2 ^ s + (d - 1 - rest) = omega (arith, up, above, ap (λ (v : ℕ). v * d) rounded, mod_below (2 ^ 63 * 2 ^ s - 1) d up) in
+    let most : n * (d - 1 - rest) ≤ 2 ^ 63 * (d - 1 - rest) = mul-le-mul_right (d - 1 - rest) small in
+    by_excess n d (2 ^ 63 * 2 ^ s) f (d - 1 - rest) up over (omega (arith, most, up, above))
+
+pub quotient_of_double : (f n d s : ℕ) → 0 < d → n < 2 ^ 63 → d ≤ 2 ^ s → f ≡ (2 ^ 63 * 2 ^ s - 1) / d + 1 → f * (n * 2 ^ 1 % 2 ^ 64) / 2 ^ 64 / 2 ^ s ≡ n / d
+quotient_of_double f n d s up small above rounded =
+    let double : n * 2 ^ 1 % 2 ^ 64 ≡ n * 2 ^ 1 = mod-eq_of_lt (omega (arith, small)) in
+    let halves : f * (n * 2 ^ 1) / 2 ^ 64 ≡ f * n / 2 ^ 63 = omega arith in
+    let small : n ≤ 2 ^ 63 = omega (arith, small) in
+    rw (double, halves) (rw (pow-add 2 63 s) at (shr-shr (f * n) 63 s) ∙ by_magnitude f n d s up small above rounded)
+
+pub quotient_up_to_half : (f n d s : ℕ) → 1 < d → n ≤ 2 ^ 63 → d ≤ 2 ^ s → f ≡ (2 ^ 63 * 2 ^ s - 1) / d + 1 → f * n / 2 ^ 64 / 2 ^ (s - 1) ≡ n / d
+quotient_up_to_half _ _ _ zero many _ above _ = omega (arith, many, above)
+quotient_up_to_half f n d (suc s) many small above rounded =
+    let less : suc s - 1 ≡ s = omega arith in
+    let twice : 2 ^ 64 * 2 ^ s ≡ 2 ^ 63 * 2 ^ suc s = omega arith in
+    let shifted : f * n / 2 ^ 64 / 2 ^ s ≡ f * n / (2 ^ 63 * 2 ^ suc s) = rw (pow-add 2 64 s, twice) at (shr-shr (f * n) 64 s) in
+    rw less (shifted ∙ by_magnitude f n d (suc s) (omega (arith, many)) small above rounded)
+
+pub positive_shift : (d s : ℕ) → 1 < d → d ≤ 2 ^ s → 1 ≤ s
+positive_shift _ zero many above = omega (arith, many, above)
+positive_shift _ (suc s) _ _ = omega arith
+
+pub small_quotient : (n d : ℕ) → 1 < d → n ≤ 2 ^ 63 → n / d < 2 ^ 63
+small_quotient n d many small = div_below n d (2 ^ 63) (omega (arith, many)) (omega (arith, many, small))
+
+pub small_shift : (d s : ℕ) → d ≤ 2 ^ 63 → 2 ^ s < 2 * d → s < 64
+small_shift d s most least = lt_of_not-le (λ beyond. let many : 2 ^ 64 ≤ 2 ^ s = pow-le-pow_right (omega arith) beyond in omega (arith, many, most, least))
+
+pub magnitude_multiplier_is : (d s u : ℕ) → u ≡ d → 0 < d → d ≤ 2 ^ 63 → s < 64 → 2 ^ s < 2 * d
+    → ((1 * 2 ^ (63 + s) % 2 ^ 128 - 1) / u ≡ (2 ^ 63 * 2 ^ s - 1) / d) × ((2 ^ 63 * 2 ^ s - 1) / d + 1 < 2 ^ 64)
+magnitude_multiplier_is d s u u_is up most within least =
+    let power : 1 * 2 ^ (63 + s) % 2 ^ 128 ≡ 2 ^ (63 + s) = one_shl (63 + s) 128 (omega (arith, within)) in
+    rw (power, pow-add 2 63 s, u_is) (refl, omega (arith, div_below (2 ^ 63 * 2 ^ s - 1) d (2 ^ 64 - 1) up (omega (arith, up, most, least))))
 
 -- a multiple of the divisor more
 quotient_more : (x d c : ℕ) → 0 < d → (x + c * d) / d ≡ x / d + c

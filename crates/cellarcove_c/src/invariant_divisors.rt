@@ -1,7 +1,7 @@
 //! Many numbers divided by one.
 
-ghost use Rattle.std.specs.Prelude.{◌≡◌, ◌≢◌, ◌⊎◌, ◌+◌, ◌*◌, ◌/◌, ◌^◌, ◌<◌, ◌≤◌, ◌≤ℤ◌, ◌<ℤ◌, ◌-ℤ◌, ℕ, ℤ, List, pos, negsuc, neg_ℤ, length, map, FitsSigned};
-ghost use Rattle.std.specs.Int.{w64};
+ghost use Rattle.std.specs.Prelude.{◌≡◌, ◌↔◌, ◌≢◌, ◌⊎◌, ◌+◌, ◌*◌, ◌/◌, ◌^◌, ◌<◌, ◌≤◌, ◌≤ℤ◌, ◌<ℤ◌, ◌-ℤ◌, ℕ, ℤ, List, pos, negsuc, neg_ℤ, length, map, FitsSigned};
+ghost use Rattle.std.specs.Int.{cast_unsigned, w64};
 ghost use Rattle.std.specs.List.{All};
 ghost use Rattle.num_integer.specs.Division.{IsFloored, IsQuotient};
 ghost use Rattle.cellarcove_c.specs.Answers.{Answers};
@@ -37,12 +37,7 @@ pub extern "C" fn cellarcove_div_floor_each_i64(
     if divisor == -1 {
         return write_by_minus_one(numbers, quotients);
     }
-    let magnitude = InvariantDivisor::new(divisor.unsigned_abs());
-    if divisor < 0 {
-        write_by_negative(&magnitude, numbers, quotients);
-    } else {
-        write_by_positive(&magnitude, numbers, quotients);
-    }
+    write_by_other(divisor, numbers, quotients);
     ANSWER
 }
 
@@ -108,6 +103,53 @@ impl InvariantDivisor {
         let high = high_product(self.multiplier, n);
         (high + ((n - high) >> self.first_shift)) >> self.second_shift
     }
+}
+
+/// The magnitude of a divisor, with a multiplier and a shift that divide numbers up to 2^63 by it: a quotient is twice
+/// the product with the multiplier without its low 64 bits, shifted.
+#[derive(Clone, Copy)]
+struct MagnitudeDivisor {
+    divisor: u64,
+    multiplier: u64,
+    shift: u32,
+    ghost positive: { 0 < divisor },
+    ghost within: { shift < 64 },
+    ghost above: { divisor ≤ 2 ^ shift },
+    ghost rounded: { multiplier ≡ (2 ^ 63 * 2 ^ shift - 1) / divisor + 1 },
+}
+
+impl MagnitudeDivisor {
+    /// Returns a divisor with its multiplier and its shift.
+    fn new(divisor: u64) -> Self
+        requires positive { 0 < divisor }
+        requires most { divisor ≤ 2 ^ 63 }
+        ensures { result.divisor ≡ divisor }
+    {
+        let shift = ceil_log2(divisor);
+        Self {
+            divisor,
+            multiplier: magnitude_multiplier(divisor, shift),
+            shift,
+        }
+    }
+
+    /// Returns the quotient of a number below 2^63, rounded down.
+    fn quotient(&self, n: u64) -> u64
+        requires { n < 2 ^ 63 }
+        ensures { result ≡ n / self.now.divisor }
+    {
+        high_product(self.multiplier, n << 1) >> self.shift
+    }
+
+    /// Returns the quotient of a number up to 2^63 by a divisor other than 1, rounded down. Twice the number need not
+    /// fit, so the shift is 1 less.
+    fn quotient_up_to_half(&self, n: u64) -> u64
+        requires most { n ≤ 2 ^ 63 }
+        requires other { 1 < self.now.divisor }
+        ensures { result ≡ n / self.now.divisor }
+    {
+        high_product(self.multiplier, n) >> (self.shift - 1)
+    }
 
     /// Returns the quotient of a signed number, rounded down: if it is negative, the complement of that of its
     /// complement.
@@ -117,15 +159,15 @@ impl InvariantDivisor {
         complement_if_negative(self.quotient(complement_if_negative(x, x) as u64) as i64, x)
     }
 
-    /// Returns the quotient of a signed number by minus the divisor, rounded down: that of the negation, so if the
+    /// Returns the quotient of a signed number by minus the divisor, rounded down: that of the negation, or, if the
     /// number is positive, the complement of the quotient of 1 less.
     fn div_floor_by_negation(&self, x: i64) -> i64
         requires { 1 < self.now.divisor }
         ensures { IsQuotient IsFloored x (neg_ℤ (pos self.now.divisor)) result }
     {
-        let positive = x > 0;
-        let quotient = self.quotient(x.unsigned_abs() - u64::from(positive));
-        complement_if_negative(quotient as i64, -i64::from(positive))
+        let sign = negative_unless_positive(x);
+        let quotient = self.quotient_up_to_half(bits_of(complement_if_negative(x.wrapping_sub(1), sign)));
+        !complement_if_negative(quotient as i64, sign)
     }
 }
 
@@ -155,9 +197,24 @@ fn write_negations(numbers: &[i64], quotients: &mut [i64])
     }
 }
 
+/// Writes the quotients of signed numbers by a divisor other than 0 and -1.
+fn write_by_other(divisor: i64, numbers: &[i64], quotients: &mut [i64])
+    requires nonzero { divisor ≢ pos 0 }
+    requires other { divisor ≢ negsuc 0 }
+    requires same { length quotients.old ≡ length numbers.now }
+    ensures { AreFloored divisor numbers.now quotients.new }
+{
+    let magnitude = MagnitudeDivisor::new(divisor.unsigned_abs());
+    if divisor < 0 {
+        write_by_negative(&magnitude, numbers, quotients);
+    } else {
+        write_by_positive(&magnitude, numbers, quotients);
+    }
+}
+
 /// Writes the quotients of signed numbers by the divisor.
 #[tactic(auto, using(crate::proofs::FlooredQuotients::none_floored, crate::proofs::FlooredQuotients::all_floored))]
-fn write_by_positive(divisor: &InvariantDivisor, numbers: &[i64], quotients: &mut [i64])
+fn write_by_positive(divisor: &MagnitudeDivisor, numbers: &[i64], quotients: &mut [i64])
     requires { length quotients.old ≡ length numbers.now }
     ensures { AreFloored (pos divisor.now.divisor) numbers.now quotients.new }
 {
@@ -168,9 +225,9 @@ fn write_by_positive(divisor: &InvariantDivisor, numbers: &[i64], quotients: &mu
 
 /// Writes the quotients of signed numbers by minus the divisor.
 #[tactic(auto, using(crate::proofs::FlooredQuotients::none_floored, crate::proofs::FlooredQuotients::all_floored))]
-fn write_by_negative(divisor: &InvariantDivisor, numbers: &[i64], quotients: &mut [i64])
+fn write_by_negative(divisor: &MagnitudeDivisor, numbers: &[i64], quotients: &mut [i64])
+    requires other { 1 < divisor.now.divisor }
     requires same { length quotients.old ≡ length numbers.now }
-    requires fit { 1 < divisor.now.divisor }
     ensures { AreFloored (neg_ℤ (pos divisor.now.divisor)) numbers.now quotients.new }
 {
     for (i, number) in numbers.iter().enumerate() {
@@ -226,4 +283,29 @@ fn complement_if_negative(number: i64, sign: i64) -> i64
     ensures below { sign <ℤ pos 0 → result ≡ pos 0 -ℤ number -ℤ pos 1 }
 {
     number ^ (sign >> 63)
+}
+
+/// Returns the multiplier of the magnitude of a divisor with this shift.
+fn magnitude_multiplier(divisor: u64, shift: u32) -> u64
+    requires positive { 0 < divisor }
+    requires most { divisor ≤ 2 ^ 63 }
+    requires within { shift < 64 }
+    requires least { 2 ^ shift < 2 * divisor }
+    ensures { result ≡ (2 ^ 63 * 2 ^ shift - 1) / divisor + 1 }
+{
+    (((1u128 << (63 + shift)) - 1) / u128::from(divisor)) as u64 + 1
+}
+
+/// Returns a negative number, or, if `x` is positive, one that is not negative. It has no branch.
+fn negative_unless_positive(x: i64) -> i64
+    ensures { (result <ℤ pos 0) ↔ (x ≤ℤ pos 0) }
+{
+    x.wrapping_sub(1) | x
+}
+
+/// Returns the number modulo 2^64, which has the same bits. That of -1 is 2^64 - 1.
+fn bits_of(x: i64) -> u64
+    ensures { result ≡ cast_unsigned w64 x }
+{
+    x.abs_diff(i64::MIN).wrapping_add(1 << 63)
 }

@@ -39,12 +39,7 @@ pub extern "C" fn cellarcove_div_floor_each_i64(
     if divisor == -1 {
         return write_by_minus_one(numbers, quotients);
     }
-    let magnitude = InvariantDivisor::new(divisor.unsigned_abs());
-    if divisor < 0 {
-        write_by_negative(&magnitude, numbers, quotients);
-    } else {
-        write_by_positive(&magnitude, numbers, quotients);
-    }
+    write_by_other(divisor, numbers, quotients);
     ANSWER
 }
 
@@ -110,6 +105,38 @@ impl InvariantDivisor {
         let high = high_product(self.multiplier, n);
         (high + ((n - high) >> self.first_shift)) >> self.second_shift
     }
+}
+
+/// The magnitude of a divisor, with a multiplier and a shift that divide numbers up to 2^63 by it:
+/// a quotient is twice the product with the multiplier without its low 64 bits, shifted.
+#[derive(Clone, Copy)]
+struct MagnitudeDivisor {
+    divisor: u64,
+    multiplier: u64,
+    shift: u32,
+}
+
+impl MagnitudeDivisor {
+    /// Returns a divisor with its multiplier and its shift.
+    fn new(divisor: u64) -> Self {
+        let shift = ceil_log2(divisor);
+        Self {
+            divisor,
+            multiplier: magnitude_multiplier(divisor, shift),
+            shift,
+        }
+    }
+
+    /// Returns the quotient of a number below 2^63, rounded down.
+    fn quotient(&self, n: u64) -> u64 {
+        high_product(self.multiplier, n << 1) >> self.shift
+    }
+
+    /// Returns the quotient of a number up to 2^63 by a divisor other than 1, rounded down. Twice
+    /// the number need not fit, so the shift is 1 less.
+    fn quotient_up_to_half(&self, n: u64) -> u64 {
+        high_product(self.multiplier, n) >> (self.shift - 1)
+    }
 
     /// Returns the quotient of a signed number, rounded down: if it is negative, the complement of
     /// that of its complement.
@@ -118,11 +145,12 @@ impl InvariantDivisor {
     }
 
     /// Returns the quotient of a signed number by minus the divisor, rounded down: that of the
-    /// negation, so if the number is positive, the complement of the quotient of 1 less.
+    /// negation, or, if the number is positive, the complement of the quotient of 1 less.
     fn div_floor_by_negation(&self, x: i64) -> i64 {
-        let positive = x > 0;
-        let quotient = self.quotient(x.unsigned_abs() - u64::from(positive));
-        complement_if_negative(quotient as i64, -i64::from(positive))
+        let sign = negative_unless_positive(x);
+        let quotient =
+            self.quotient_up_to_half(bits_of(complement_if_negative(x.wrapping_sub(1), sign)));
+        !complement_if_negative(quotient as i64, sign)
     }
 }
 
@@ -143,15 +171,25 @@ fn write_negations(numbers: &[i64], quotients: &mut [i64]) {
     }
 }
 
+/// Writes the quotients of signed numbers by a divisor other than 0 and -1.
+fn write_by_other(divisor: i64, numbers: &[i64], quotients: &mut [i64]) {
+    let magnitude = MagnitudeDivisor::new(divisor.unsigned_abs());
+    if divisor < 0 {
+        write_by_negative(&magnitude, numbers, quotients);
+    } else {
+        write_by_positive(&magnitude, numbers, quotients);
+    }
+}
+
 /// Writes the quotients of signed numbers by the divisor.
-fn write_by_positive(divisor: &InvariantDivisor, numbers: &[i64], quotients: &mut [i64]) {
+fn write_by_positive(divisor: &MagnitudeDivisor, numbers: &[i64], quotients: &mut [i64]) {
     for (i, number) in numbers.iter().enumerate() {
         quotients[i] = divisor.div_floor(*number);
     }
 }
 
 /// Writes the quotients of signed numbers by minus the divisor.
-fn write_by_negative(divisor: &InvariantDivisor, numbers: &[i64], quotients: &mut [i64]) {
+fn write_by_negative(divisor: &MagnitudeDivisor, numbers: &[i64], quotients: &mut [i64]) {
     for (i, number) in numbers.iter().enumerate() {
         quotients[i] = divisor.div_floor_by_negation(*number);
     }
@@ -188,4 +226,19 @@ fn multiplier_for(divisor: u64, log2: u32) -> u64 {
 /// no branch.
 fn complement_if_negative(number: i64, sign: i64) -> i64 {
     number ^ (sign >> 63)
+}
+
+/// Returns the multiplier of the magnitude of a divisor with this shift.
+fn magnitude_multiplier(divisor: u64, shift: u32) -> u64 {
+    (((1u128 << (63 + shift)) - 1) / u128::from(divisor)) as u64 + 1
+}
+
+/// Returns a negative number, or, if `x` is positive, one that is not negative. It has no branch.
+fn negative_unless_positive(x: i64) -> i64 {
+    x.wrapping_sub(1) | x
+}
+
+/// Returns the number modulo 2^64, which has the same bits. That of -1 is 2^64 - 1.
+fn bits_of(x: i64) -> u64 {
+    x.abs_diff(i64::MIN).wrapping_add(1 << 63)
 }

@@ -1,7 +1,7 @@
 use Rattle.std.proofs.Common.{w64}
 use Rattle.std.proofs.lemmas.Int.{to_z-of_z}
 use Rattle.cellarcove_c.proofs.FlooredQuotients.{complement_quotient}
-use Rattle.cellarcove_c.proofs.invariant_divisors.InvariantDivisor.div_floor.Goals as goal
+use Rattle.cellarcove_c.proofs.invariant_divisors.MagnitudeDivisor.div_floor.Goals as goal
 
 pub returns : goal.returns
 returns c =
