@@ -1,44 +1,27 @@
--- The names of the libraries and of the specs that the proofs cite, passed on from one place. Declares nothing.
+-- The names of the libraries and of the specs that the proofs cite, passed on from one place, and sets of lemmas.
 pub use Rattle.std.proofs.Common.{add-one, ap, append_assoc, arith, inl, inr, int_rem, le_refl, of_z, refl, rules, subst, sym, to_z, ◌∙◌}
-pub use Rattle.std.proofs.Math.Logic.{∥∥₁_elim, ∥∥₁_prop}
-pub use Rattle.std.proofs.Math.Nat.{div-add-mod}
-pub use Rattle.std.proofs.Math.Seq.{drop-append_seam, take-append_seam}
 pub use Rattle.std.proofs.Props.{props}
 pub use Rattle.std.proofs.lemmas.Bool.{cases_lt, iff_false}
 pub use Rattle.std.proofs.lemmas.Bool.Decides.{nat_tests}
-pub use Rattle.std.proofs.lemmas.Fmt.{decimal-digits_value, decimal_digit, decimal_is_IsNumeral, decimal_step, first_decimal, length-decimal-le, length-decimal-le_succ}
-pub use Rattle.std.proofs.lemmas.Grind.{merely}
-pub use Rattle.std.proofs.lemmas.Int.{by_lt_z, clamps, ints, to_z-of_z, to_z_pos}
+pub use Rattle.std.proofs.lemmas.Int.{by_lt_z, clamps, to_z-of_z, to_z_pos}
+use Rattle.std.proofs.lemmas.Int.{ints as ints_alone}
 pub use Rattle.std.proofs.lemmas.List.{append-nil, get_or-drop, length-append, length-replicate, length_push, take-append-drop, take-take}
 pub use Rattle.std.proofs.lemmas.List.Elements.{All-get_or}
-pub use Rattle.std.proofs.lemmas.List.FromFn.{get_or-range_with_len}
-pub use Rattle.std.proofs.lemmas.List.Sums.{sum_by-take-le, sum_by_more}
-pub use Rattle.std.proofs.lemmas.Nat.{mod_below}
-pub use Rattle.std.proofs.lemmas.Slice.Eq.{text_from_reads}
-pub use Rattle.std.proofs.lemmas.Str.{digit_value_digit}
-pub use Rattle.std.proofs.lemmas.Str.Parse.{IsNumeralModel, digit_at, digit_from_value, digits_value_short, numerals_by_value, parse_gives, tells_digits}
-pub use Rattle.std.proofs.lemmas.Str.Pattern.{strip_prefix_char}
-pub use Rattle.std.specs.Char.{digit_value}
-pub use Rattle.std.specs.Fmt.{WritesInCalls, decimal, format_spec, styled_signed_decimal}
+pub use Rattle.std.specs.Fmt.{WritesInCalls, decimal}
 pub use Rattle.std.specs.Int.{int_div_euclid, int_max, int_rem_euclid, w128, w64}
-pub use Rattle.std.specs.List.{range_with_len}
 pub use Rattle.std.specs.Option.{SomeIff}
 pub use Rattle.std.specs.Prelude.{Bool, Err, FitsSigned, IfSome, IsOk, IsSome, IsTrue, List, MatchOption, None, Ok, OnOk, Option, Result, Some, [], cond, drop, false, get_or, length, min, neg_ℤ, negsuc, not, pos, replicate, slice_index, suc, sum, take, true, unsigned_abs, zero, ℕ, ℤ, ◌%◌, ◌*ℤ◌, ◌*◌, ◌++◌, ◌+ℤ◌, ◌+◌, ◌-ℤ◌, ◌-◌, ◌/◌, ◌<ℤ◌, ◌<◌, ◌^◌, ◌↔◌, ◌∷◌, ◌≡◌, ◌≢◌, ◌≤ℤ◌, ◌≤◌, ◌⊎◌}
-pub use Rattle.std.specs.Result.{OkIff, result_ok}
-pub use Rattle.std.specs.Str.{IsCharBoundary}
 pub use Rattle.std.specs.Str.Parse.{AllDigits, ParsesUnsigned, digits_value, digits_value_after}
 pub use Rattle.integer_core.proofs.FlooredByPositive.{floored_by_range, floored_remainder_range}
-pub use Rattle.integer_core.proofs.Least.{greatest_is_only, least_is_only}
 pub use Rattle.integer_core.proofs.NaturalDivision.{divides_by_magnitude, floored_quotient_range}
 pub use Rattle.integer_core.proofs.Quotients.{floored_exists, only_floored}
-pub use Rattle.integer_core.proofs.Whole.{from_not_less, linear, products, sizes}
+pub use Rattle.integer_core.proofs.Whole.{from_not_less}
+use Rattle.integer_core.proofs.Whole.{linear as linear_alone, products as products_alone, sizes as sizes_alone}
 pub use Rattle.integer_core.proofs.WrittenTexts.{same_written, then_written}
 pub use Rattle.integer_core.specs.Division.{IsFloored, IsQuotient, IsRemainder}
-pub use Rattle.calendar.specs.Dates.{HasFifthWeekday, HasParts, IsEarlier, IsLastOfMonth, IsLastWeekdayOfMonth, IsMonthsAfter, IsMonthsBetween, IsNextLastWeekday, IsNthWeekday, IsYearsBetween, day_numbers, number_of}
-pub use Rattle.calendar.specs.Easter.{IsEaster, IsEpact, IsLunarCorrection, IsPaschalFullMoon, IsSolarCorrection, days_to_full_moon}
+pub use Rattle.calendar.specs.Dates.{HasFifthWeekday, HasParts, IsEarlier, IsLastOfMonth, IsLastWeekdayOfMonth, IsMonthsAfter, IsMonthsBetween, IsNextLastWeekday, IsNthWeekday, IsYearsBetween, number_of}
 pub use Rattle.calendar.specs.IsoWeeks.{HasIsoWeek, HasIsoWeeks, IsDayOfIsoWeek, IsInIsoWeek, IsThursdayOfWeek, IsWeeksAfter}
-pub use Rattle.calendar.specs.Laws.{DateExists, DateIsOnly, DateOfPartsIsOnly, DateOfYearDayIsOnly, EarlierFullMoons, EasterIsOnly, EpactOfTheFirstYear, EpactOfTheNextYear, FirstDay, FirstWeekdayExists, FirstWeekdayIsOnly, FullMoonsDiffer, IsoDayExists, IsoDayIsOnly, IsoNumberIsOnly, IsoWeekExists, IsoWeekIsOnly, IsoWeekOfNumbersIsOnly, IsoWeeksAreOnly, LastOfMonthIsOnly, LastWeekdayExists, LastWeekdayIsOnly, LastWeekdayOfMonthIsOnly, LeapYearsByDivisors, LengthsOfYears, LunarCorrectionOfTwentyFiveCenturies, LunarCorrectionsFrom1800, MonthsAfterExists, MonthsAfterIsOnly, MonthsBetweenIsOnly, NextLastWeekdayExists, NextLastWeekdayIsOnly, NthWeekdayIsOnly, OrderOfDates, OrderOfIsoWeeks, SolarCorrectionOfTheNextCentury, TextIsOnly, WeekdayAfterIsOnly, WeekdayIsOnly, WeekdaysFollow, WeeksAfterExists, WeeksAfterIsOnly, WeeksBetweenAreOnly, WeeksOfAYear, YearOfDayExists, YearOfDayIsOnly, YearsBetweenIsOnly, YearsFollow}
-pub use Rattle.calendar.specs.LeapYears.{is_leap_year}
+pub use Rattle.calendar.specs.Laws.{LastWeekdayOfMonthIsOnly, NextLastWeekdayExists, NextLastWeekdayIsOnly, NthWeekdayIsOnly, TextIsOnly, YearsFollow}
 pub use Rattle.calendar.specs.Months.{IsDate, days_before_month, days_in_month, month_lengths, month_number, months_of}
 pub use Rattle.calendar.specs.Text.{IsShortest, padded, text_of, week_text, with_number, year_text}
 pub use Rattle.calendar.specs.Weekday.{weekday_number}
@@ -49,3 +32,12 @@ pub use Rattle.calendar.specs.declared.iso_weeks.IsoWeek.{IsoWeek}
 pub use Rattle.calendar.specs.declared.weekday.Weekday.{Weekday}
 pub use Rattle.calendar.specs.declared.weekday.Weekday.TheVariants.{Monday, Sunday, Thursday}
 pub use mathlib.Core.HLevel.{is_prop→PathP}
+
+-- for `omega` and `grind`: sets of the libraries, each with `arith`
+pub ruleset ints = (arith, ints_alone)
+
+pub ruleset linear = (arith, linear_alone)
+
+pub ruleset sizes = (arith, sizes_alone)
+
+pub ruleset products = (arith, products_alone)

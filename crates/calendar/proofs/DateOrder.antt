@@ -1,7 +1,9 @@
 -- Dates in their order, and their days.
-use Rattle.calendar.proofs.Common.{◌≡◌, ◌⊎◌, ◌+◌, ◌-◌, ◌<◌, ◌≤◌, ◌<ℤ◌, ◌+ℤ◌, ℕ, ℤ, pos, List, length, take, sum, slice_index, ◌∙◌, ap, arith, inl, inr, sym, ints, to_z-of_z, take-take, linear, props, sum_by-take-le, sum_by_more, is_prop→PathP, Date, HasParts, IsEarlier, IsLastOfMonth, LastOfMonthIsOnly, number_of, DateIsOnly, DateOfPartsIsOnly, DateOfYearDayIsOnly, OrderOfDates, IsDate, days_before_month, days_in_month, months_of, day_number, first_day}
+use Rattle.std.proofs.lemmas.List.Sums.{sum_by-take-le, sum_by_more}
+use Rattle.calendar.proofs.Common.{◌≡◌, ◌⊎◌, ◌+◌, ◌-◌, ◌<◌, ◌≤◌, ◌<ℤ◌, ◌+ℤ◌, ℕ, ℤ, pos, List, length, take, sum, slice_index, ◌∙◌, ap, arith, inl, inr, sym, ints, to_z-of_z, take-take, linear, props, is_prop→PathP, Date, HasParts, IsEarlier, IsLastOfMonth, number_of, IsDate, days_before_month, days_in_month, months_of, day_number, first_day}
 use Rattle.calendar.specs.Years.{days_in_year}
 use Rattle.calendar.proofs.YearLengths.{later_year, next_first_day}
+use Rattle.calendar.specs.Laws as law
 
 -- ---- months
 
@@ -12,23 +14,25 @@ month_end ms i j before within =
     omega (arith, sum_by_more {X = ℕ} (λ x. x) ms i 0 (omega arith), part)
 
 -- The day of a date in its year is from 1 to the length of the year.
-pub year_day_range : {year : ℤ} {month day : ℕ} → IsDate year month day → (1 ≤ days_before_month year month + day) × (days_before_month year month + day ≤ days_in_year year)
+pub year_day_range : {year : ℤ} {month day : ℕ} → IsDate year month day
+    → (1 ≤ days_before_month year month + day) × (days_before_month year month + day ≤ days_in_year year)
 unfolding days_in_year
 year_day_range {year} {month} {day} h = grind arith
 
 -- the first day of the next month, and that of the next year, come after the last day of a month
-pub next_month : (year : ℤ) (month : ℕ) → 1 ≤ month → month < 12 → day_number year (month + 1) 1 ≡ day_number year month (days_in_month year month) +ℤ pos 1
+pub next_month : (year : ℤ) (month : ℕ) → 1 ≤ month → month < 12
+    → day_number year (month + 1) 1 ≡ day_number year month (days_in_month year month) +ℤ pos 1
 next_month year month from below =
     let next : month - 1 + 1 ≡ month + 1 - 1 = omega arith in
     let part = rw next at (sum_by_more {X = ℕ} (λ x. x) (months_of year) (month - 1) 0 (omega arith)) in
-    omega (arith, ints)
+    omega ints
 
 -- what a function's goals about the end of a month need
 pub ruleset month_ends = (ints, to_z-of_z, next_month)
 
 pub next_year : (year : ℤ) → day_number (year +ℤ pos 1) 1 1 ≡ day_number year 12 31 +ℤ pos 1
 unfolding days_in_year
-next_year year = omega (arith, ints, next_first_day year, sum_by_more {X = ℕ} (λ x. x) (months_of year) 11 0 (omega arith))
+next_year year = omega (ints, next_first_day year, sum_by_more {X = ℕ} (λ x. x) (months_of year) 11 0 (omega arith))
 
 -- the last day of a year is 31 December
 pub last_of_year : {year : ℤ} {month day : ℕ} → IsDate year month day → 12 ≤ month → days_in_month year month ≤ day → (month ≡ 12) × (day ≡ 31)
@@ -39,11 +43,11 @@ last_of_year {year} {month} h from last = grind arith
 -- an earlier date has a lesser number
 earlier_is_less : (a b : Date) → IsEarlier a b → number_of a <ℤ number_of b
 earlier_is_less a b (inl years) =
-    omega (arith, ints, year_day_range a.valid, year_day_range b.valid, next_first_day a.year, later_year a.year b.year years)
+    omega (ints, year_day_range a.valid, year_day_range b.valid, next_first_day a.year, later_year a.year b.year years)
 earlier_is_less a b (inr (same, inl months)) =
     let end = month_end (months_of a.year) (a.month - 1) (b.month - 1) (omega (arith, a.valid.month_from_one)) (omega (arith, b.valid.month_to_twelve)) in
-    rw (sym same) (omega (arith, ints, a.valid.day_to_last, b.valid.day_from_one))
-earlier_is_less a b (inr (same, inr (month, days))) = rw (same, month) (omega (arith, ints))
+    rw (sym same) (omega (ints, a.valid.day_to_last, b.valid.day_from_one))
+earlier_is_less a b (inr (same, inr (month, days))) = rw (same, month) (omega ints)
 
 -- dates of the same parts are the same
 pub of_parts : (a b : Date) → a.year ≡ b.year → a.month ≡ b.month → a.day_of_month ≡ b.day_of_month → a ≡ b
@@ -56,22 +60,22 @@ of_parts a b year month day = λ i. record {
 
 -- of two dates one is earlier, if they are not the same
 compared : (a b : Date) → IsEarlier a b ⊎ IsEarlier b a ⊎ (a ≡ b)
-compared a b = grind (arith, linear, of_parts a b)
+compared a b = grind (linear, of_parts a b)
 
-pub only_of_parts : DateOfPartsIsOnly
+pub only_of_parts : law.DateOfPartsIsOnly
 only_of_parts year month day a b h k = of_parts a b (h.year_is ∙ sym k.year_is) (h.month_is ∙ sym k.month_is) (h.day_is ∙ sym k.day_is)
 
 -- and so are dates of one number
-pub only_date : DateIsOnly
-only_date a b equal = grind (arith, linear, compared a b, earlier_is_less a b, earlier_is_less b a)
+pub only_date : law.DateIsOnly
+only_date a b equal = grind (linear, compared a b, earlier_is_less a b, earlier_is_less b a)
 
 -- and dates of one day of a year
-pub only_of_year_day : DateOfYearDayIsOnly
-only_of_year_day a b year day = only_date a b (omega (arith, linear, ap first_day year, ap pos day))
+pub only_of_year_day : law.DateOfYearDayIsOnly
+only_of_year_day a b year day = only_date a b (omega (linear, ap first_day year, ap pos day))
 
 -- the order of dates is that of their numbers
-pub order : OrderOfDates
-order a b = (earlier_is_less a b, λ less. grind (arith, linear, compared a b, earlier_is_less b a))
+pub order : law.OrderOfDates
+order a b = (earlier_is_less a b, λ less. grind (linear, compared a b, earlier_is_less b a))
 
 -- ---- the last date of a month
 
@@ -81,9 +85,9 @@ last_of_month date h = record {
   month_is = h.month_is;
   last = λ other years months.
       let to = rw (years, months) at other.valid.day_to_last in
-      rw (years, months, h.year_is, h.month_is, h.day_is) (omega (arith, ints, to));
+      rw (years, months, h.year_is, h.month_is, h.day_is) (omega (ints, to));
 }
 
 -- of which there is only one
-pub only_last_of_month : LastOfMonthIsOnly
-only_last_of_month year month a b h k = only_date a b (omega (arith, ints, h.last b k.year_is k.month_is, k.last a h.year_is h.month_is))
+pub only_last_of_month : law.LastOfMonthIsOnly
+only_last_of_month year month a b h k = only_date a b (omega (ints, h.last b k.year_is k.month_is, k.last a h.year_is h.month_is))

@@ -1,6 +1,8 @@
 -- Dates as they are written, and as they are read.
-use Rattle.calendar.proofs.Common.{cond, ◌≡◌, ◌≢◌, ◌↔◌, ◌⊎◌, ◌+◌, ◌-◌, ◌*◌, ◌/◌, ◌%◌, ◌<◌, ◌≤◌, ◌++◌, ◌≤ℤ◌, ◌<ℤ◌, ℕ, ℤ, pos, negsuc, List, [], ◌∷◌, drop, take, length, get_or, Bool, false, Option, Some, None, MatchOption, arith, ap, append_assoc, refl, sym, ◌∙◌, ints, append-nil, get_or-drop, length-append, take-append-drop, decimal, format_spec, styled_signed_decimal, IsCharBoundary, drop-append_seam, take-append_seam, HasParts, TextIsOnly, IsDate, Date, IsoWeek, padded, text_of, week_text, with_number, year_text}
-use Rattle.std.specs.Fmt.{char_count, padded_integral}
+use Rattle.std.specs.Str.{IsCharBoundary}
+use Rattle.std.proofs.Math.Seq.{drop-append_seam, take-append_seam}
+use Rattle.calendar.proofs.Common.{cond, ◌≡◌, ◌≢◌, ◌↔◌, ◌⊎◌, ◌+◌, ◌-◌, ◌*◌, ◌/◌, ◌%◌, ◌<◌, ◌≤◌, ◌++◌, ◌≤ℤ◌, ◌<ℤ◌, ℕ, ℤ, pos, negsuc, List, [], ◌∷◌, drop, take, length, get_or, Bool, false, Option, Some, None, MatchOption, arith, ap, append_assoc, refl, sym, ◌∙◌, ints, append-nil, get_or-drop, length-append, take-append-drop, decimal, HasParts, TextIsOnly, IsDate, Date, IsoWeek, padded, text_of, week_text, with_number, year_text}
+use Rattle.std.specs.Fmt.{char_count, padded_integral, format_spec, styled_signed_decimal}
 use Rattle.calendar.proofs.DateOrder.{of_parts}
 use Rattle.calendar.proofs.PaddedNumbers.{two_places}
 use Rattle.calendar.proofs.YearTexts.{only_year, year_texts}
@@ -40,7 +42,8 @@ only_number text a b m n m_small n_small e f =
     let ones = ap (λ (x : List ℕ). get_or x 2 0) same in
     (sym g.front_is ∙ h.front_is, omega arith)
 
-pub number_text : (text : List ℕ) (k tens ones : ℕ) → (48 ≤ tens) × (tens ≤ 57) → (48 ≤ ones) × (ones ≤ 57) → drop k text ≡ 45 ∷ tens ∷ ones ∷ [] → text ≡ with_number (take k text) (10 * (tens - 48) + (ones - 48))
+pub number_text : (text : List ℕ) (k tens ones : ℕ) → (48 ≤ tens) × (tens ≤ 57) → (48 ≤ ones) × (ones ≤ 57) → drop k text ≡ 45 ∷ tens ∷ ones ∷ []
+    → text ≡ with_number (take k text) (10 * (tens - 48) + (ones - 48))
 number_text text k tens ones t o e =
     let first : 48 + (10 * (tens - 48) + (ones - 48)) / 10 ≡ tens = omega arith in
     let second : 48 + (10 * (tens - 48) + (ones - 48)) % 10 ≡ ones = omega arith in
@@ -52,7 +55,8 @@ pub small_parts : (date : Date) → (date.month < 100) × (date.day_of_month < 1
 small_parts date = grind arith
 
 -- the parts of a date's text, which ends in two numbers
-pub parts_told : {text front year : List ℕ} {month day : ℕ} (date : Date) → (day < 100) × (text ≡ with_number front day) → (month < 100) × (front ≡ with_number year month) → text ≡ text_of date
+pub parts_told : {text front year : List ℕ} {month day : ℕ} (date : Date) → (day < 100) × (text ≡ with_number front day)
+    → (month < 100) × (front ≡ with_number year month) → text ≡ text_of date
     → (year ≡ year_text date.year) × (month ≡ date.month) × (day ≡ date.day_of_month)
 parts_told date last middle e =
     let (front, day) = only_number _ _ _ _ _ last.0 (small_parts date).1 last.1 e in
@@ -67,7 +71,9 @@ only_text a b a_fits b_fits e =
 
 -- ---- what `Date::new` returns
 
-pub made_date : (o : Option Date) (date : Date) {year : ℤ} {month day : ℕ} → MatchOption o (¬ (IsDate year month day)) (λ made. HasParts made year month day) → year ≡ date.year → month ≡ date.month → day ≡ date.day_of_month → o ≡ Some date
+pub made_date : (o : Option Date) (date : Date) {year : ℤ} {month day : ℕ}
+    → MatchOption o (¬ (IsDate year month day)) (λ made. HasParts made year month day) → year ≡ date.year → month ≡ date.month
+    → day ≡ date.day_of_month → o ≡ Some date
 made_date None date h year month day = absurd (h (rw (year, month, day) date.valid))
 made_date (Some x) date h year month day = ap (λ (d : Date). Some d) (of_parts x date (h.year_is ∙ year) (h.month_is ∙ month) (h.day_is ∙ day))
 
@@ -81,17 +87,20 @@ pub zero_padded : (places n : ℕ) → padded_integral (format_spec 32 0 4 place
 unfolding padded_integral char_count
 zero_padded places n = grind (arith, append-nil)
 
-sign_padded : (negative : Bool) (n : ℕ) → padded_integral (format_spec 32 0 5 5 18446744073709551615) negative [] (decimal n) ≡ cond negative 45 43 ∷ padded 4 n
+sign_padded : (negative : Bool) (n : ℕ)
+    → padded_integral (format_spec 32 0 5 5 18446744073709551615) negative [] (decimal n) ≡ cond negative 45 43 ∷ padded 4 n
 unfolding padded_integral char_count
 sign_padded negative n = grind (arith, append-nil)
 
-pub plain_year : (year : ℤ) → pos 0 ≤ℤ year → year ≤ℤ pos 9999 → styled_signed_decimal (format_spec 32 0 4 4 18446744073709551615) year ≡ year_text year
-plain_year (pos n) low high = grind (arith, ints, zero_padded, year_texts (pos n))
-plain_year (negsuc n) low high = absurd (omega (arith, ints))
+pub plain_year : (year : ℤ) → pos 0 ≤ℤ year → year ≤ℤ pos 9999
+    → styled_signed_decimal (format_spec 32 0 4 4 18446744073709551615) year ≡ year_text year
+plain_year (pos n) low high = grind (ints, zero_padded, year_texts (pos n))
+plain_year (negsuc n) low high = absurd (omega ints)
 
-pub signed_year : (year : ℤ) → (year <ℤ pos 0) ⊎ (pos 9999 <ℤ year) → styled_signed_decimal (format_spec 32 0 5 5 18446744073709551615) year ≡ year_text year
-signed_year (pos n) outside = grind (arith, ints, sign_padded, year_texts (pos n))
-signed_year (negsuc n) outside = grind (arith, ints, sign_padded, year_texts (negsuc n))
+pub signed_year : (year : ℤ) → (year <ℤ pos 0) ⊎ (pos 9999 <ℤ year)
+    → styled_signed_decimal (format_spec 32 0 5 5 18446744073709551615) year ≡ year_text year
+signed_year (pos n) outside = grind (ints, sign_padded, year_texts (pos n))
+signed_year (negsuc n) outside = grind (ints, sign_padded, year_texts (negsuc n))
 
 pub joined : (date : Date) (month day : List ℕ) → month ≡ padded 2 date.month → day ≡ padded 2 date.day_of_month
     → year_text date.year ++ (45 ∷ (month ++ (45 ∷ day))) ≡ text_of date

@@ -1,70 +1,77 @@
 -- The weeks of ISO 8601.
-use Rattle.calendar.proofs.Common.{◌≡◌, ◌+◌, ◌-◌, ◌*◌, ◌/◌, ◌%◌, ◌<◌, ◌≤◌, ◌≤ℤ◌, ◌<ℤ◌, ◌+ℤ◌, ◌-ℤ◌, ◌*ℤ◌, ℕ, ℤ, pos, FitsSigned, MatchOption, Option, Some, None, w64, ap, arith, inl, inr, refl, subst, sym, cases_lt, ints, floored_by_range, floored_quotient_range, linear, IsFloored, IsQuotient, IsRemainder, ∥∥₁_elim, ∥∥₁_prop, props, is_prop→PathP, Date, number_of, HasIsoWeek, HasIsoWeeks, IsDayOfIsoWeek, IsInIsoWeek, IsThursdayOfWeek, IsWeeksAfter, IsoWeek, WeeksAfterIsOnly, WeeksBetweenAreOnly, IsoDayExists, IsoDayIsOnly, IsoWeekIsOnly, IsoWeekOfNumbersIsOnly, IsoWeeksAreOnly, OrderOfIsoWeeks, WeeksOfAYear, YearOfDayIsOnly, HasDay, days_in_year, first_day, weekday_number, HasWeekday, Weekday, Monday, Thursday}
+use Rattle.std.proofs.Math.Logic.{∥∥₁_elim, ∥∥₁_prop}
+use Rattle.calendar.proofs.Common.{◌≡◌, ◌+◌, ◌-◌, ◌*◌, ◌/◌, ◌%◌, ◌<◌, ◌≤◌, ◌≤ℤ◌, ◌<ℤ◌, ◌+ℤ◌, ◌-ℤ◌, ◌*ℤ◌, ℕ, ℤ, pos, FitsSigned, MatchOption, Option, Some, None, w64, ap, arith, inl, inr, refl, subst, sym, cases_lt, ints, floored_by_range, floored_quotient_range, linear, IsFloored, IsQuotient, IsRemainder, props, is_prop→PathP, Date, number_of, HasIsoWeek, HasIsoWeeks, IsDayOfIsoWeek, IsInIsoWeek, IsThursdayOfWeek, IsWeeksAfter, IsoWeek, HasDay, days_in_year, first_day, weekday_number, HasWeekday, Weekday, Monday, Thursday}
 use Rattle.calendar.proofs.DateOrder.{year_day_range}
 use Rattle.calendar.proofs.WeekdayPlaces.{below_seven, days_earlier, days_later, on_weekday, same_day, weekday_within, weeks_apart}
 use Rattle.calendar.proofs.YearLengths.{later_year, length_range, next_first_day}
+use Rattle.calendar.specs.Laws as law
 
 -- ---- Thursdays
 
 pub same_thursday : {day a b : ℤ} → IsThursdayOfWeek day a → IsThursdayOfWeek day b → a ≡ b
-same_thursday h k = same_day Thursday h.has_weekday k.has_weekday (omega (arith, linear, h.to, k.from)) (omega (arith, linear, h.from, k.to))
+same_thursday h k = same_day Thursday h.has_weekday k.has_weekday (omega (linear, h.to, k.from)) (omega (linear, h.from, k.to))
 
 -- the days from 1 January to the Thursday of the week, by the days of an era
-pub days_to_thursday : (date : Date) (era days : ℤ) (n january : ℕ) → number_of date ≡ pos 146097 *ℤ era +ℤ pos n -ℤ pos 865566 → first_day date.year ≡ pos 146097 *ℤ era +ℤ pos january -ℤ pos 865565
-    → days ≡ pos (n + 2 - (n + 1) % 7) -ℤ pos january → IsThursdayOfWeek (number_of date) (first_day date.year +ℤ days) × (pos 0 ≤ℤ (days +ℤ pos 6)) × (days <ℤ pos 372)
+pub days_to_thursday : (date : Date) (era days : ℤ) (n january : ℕ) → number_of date ≡ pos 146097 *ℤ era +ℤ pos n -ℤ pos 865566
+    → first_day date.year ≡ pos 146097 *ℤ era +ℤ pos january -ℤ pos 865565
+    → days ≡ pos (n + 2 - (n + 1) % 7) -ℤ pos january
+    → IsThursdayOfWeek (number_of date) (first_day date.year +ℤ days) × (pos 0 ≤ℤ (days +ℤ pos 6)) × (days <ℤ pos 372)
 days_to_thursday date era days n january place first is =
     let (from, to) = year_day_range date.valid in
     let length = length_range date.year in
     let weeks : ℤ = pos 20871 *ℤ era -ℤ pos 123652 +ℤ pos ((n + 1) / 7) in
-    let thursday : HasWeekday (first_day date.year +ℤ days) Thursday = on_weekday Thursday weeks (omega (arith, ints, first, is)) in (
-      record { has_weekday = thursday; from = omega (arith, ints, place, first, is); to = omega (arith, ints, place, first, is) },
-      omega (arith, ints, place, first, is, from),
-      omega (arith, ints, place, first, is, to, length.1),
+    let thursday : HasWeekday (first_day date.year +ℤ days) Thursday = on_weekday Thursday weeks (omega (ints, first, is)) in (
+      record { has_weekday = thursday; from = omega (ints, place, first, is); to = omega (ints, place, first, is) },
+      omega (ints, place, first, is, from),
+      omega (ints, place, first, is, to, length.1),
     )
 
-pub to_thursday : {first : ℤ} (era : ℤ) (n : ℕ) → first ≡ pos 146097 *ℤ era +ℤ pos n -ℤ pos 865565 → IsRemainder IsFloored (pos 0 -ℤ first) (pos 7) (pos (6 - (n + 5) % 7))
-to_thursday era n place = record { quotient = pos 123652 -ℤ pos 20871 *ℤ era -ℤ pos ((n + 5) / 7); division = floored_by_range (omega (arith, ints)) (omega (arith, ints)) (omega (arith, ints)) }
+pub to_thursday : {first : ℤ} (era : ℤ) (n : ℕ) → first ≡ pos 146097 *ℤ era +ℤ pos n -ℤ pos 865565
+    → IsRemainder IsFloored (pos 0 -ℤ first) (pos 7) (pos (6 - (n + 5) % 7))
+to_thursday era n place =
+    record { quotient = pos 123652 -ℤ pos 20871 *ℤ era -ℤ pos ((n + 5) / 7); division = floored_by_range (omega ints) (omega ints) (omega ints) }
 
 -- ---- years
 
 ordered : (x y : ℤ) → x ≤ℤ y → first_day x ≤ℤ first_day y
-ordered x y up = grind (arith, linear, later_year x y, next_first_day x)
+ordered x y up = grind (linear, later_year x y, next_first_day x)
 
 -- a day before the first of a year is in an earlier year
 pub earlier : {x year day : ℤ} → HasDay x day → day <ℤ first_day year → x <ℤ year
-earlier {x} {year} h before = grind (arith, linear, ordered year x)
+earlier {x} {year} h before = grind (linear, ordered year x)
 
 -- and a day after the last in a later one
 pub later : {x year day : ℤ} → HasDay x day → first_day (year +ℤ pos 1) ≤ℤ day → year <ℤ x
-later {x} {year} h from = grind (arith, linear, ordered (x +ℤ pos 1) (year +ℤ pos 1))
+later {x} {year} h from = grind (linear, ordered (x +ℤ pos 1) (year +ℤ pos 1))
 
 -- a day is in one year only
-pub one_year : YearOfDayIsOnly
-one_year day y z h k = grind (arith, linear, later_year y z, later_year z y)
+pub one_year : law.YearOfDayIsOnly
+one_year day y z h k = grind (linear, later_year y z, later_year z y)
 
 -- ---- weeks
 
 -- the number of the week that has this Thursday
-pub week_of : {day year thursday : ℤ} {days week : ℕ} → IsThursdayOfWeek day thursday → days < days_in_year year → first_day year +ℤ pos days ≡ thursday → week ≡ days / 7 + 1 → IsInIsoWeek day year week
-week_of {year = year} {thursday = thursday} h within place number = grind (arith, ints, next_first_day)
+pub week_of : {day year thursday : ℤ} {days week : ℕ} → IsThursdayOfWeek day thursday → days < days_in_year year
+    → first_day year +ℤ pos days ≡ thursday → week ≡ days / 7 + 1 → IsInIsoWeek day year week
+week_of {year = year} {thursday = thursday} h within place number = grind (ints, next_first_day)
 
 -- of which there is only one
-pub one_week : IsoWeekIsOnly
+pub one_week : law.IsoWeekIsOnly
 one_week day y z v w h k =
     let thursday = same_thursday h.of_week k.of_week in
     let year = one_year _ y z h.of_year (rw (sym thursday) at k.of_year) in
-    (year, omega (arith, ints, h.from, h.before, k.from, k.before, thursday, ap first_day year))
+    (year, omega (ints, h.from, h.before, k.from, k.before, thursday, ap first_day year))
 
 -- a week is one of 53
-pub week_range : WeeksOfAYear
+pub week_range : law.WeeksOfAYear
 week_range day year week h =
-    (omega (arith, ints, h.of_year.from, h.from, h.before), omega (arith, ints, h.of_year.before, h.from, length_range year, next_first_day year))
+    (omega (ints, h.of_year.from, h.from, h.before), omega (ints, h.of_year.before, h.from, length_range year, next_first_day year))
 
 pub number_range : {year : ℤ} {week : ℕ} → ∥ HasIsoWeek year week ∥₁ → (1 ≤ week) × (week ≤ 53)
 number_range {year} {week} h = ∥∥₁_elim h (hlevel props) (λ k. week_range k.day year week k.in_week)
 
 -- weeks of the same year and number are the same
-pub of_numbers : IsoWeekOfNumbersIsOnly
+pub of_numbers : law.IsoWeekOfNumbersIsOnly
 of_numbers a b years weeks = λ i. record {
   year = years i;
   week = weeks i;
@@ -72,20 +79,21 @@ of_numbers a b years weeks = λ i. record {
 }
 
 -- the days of an earlier week are before those of a later one
-pub ordered_weeks : OrderOfIsoWeeks
+pub ordered_weeks : law.OrderOfIsoWeeks
 ordered_weeks a b y z v w h k less =
     let thursdays : h.thursday <ℤ k.thursday = elim less [
-      | inl years ↦ omega (arith, linear, h.of_year.before, k.of_year.from, later_year y z years)
-      | inr weeks ↦ omega (arith, ints, h.before, k.from, ap first_day weeks.0, weeks.1)
+      | inl years ↦ omega (linear, h.of_year.before, k.of_year.from, later_year y z years)
+      | inr weeks ↦ omega (ints, h.before, k.from, ap first_day weeks.0, weeks.1)
     ] in
-    grind (arith, linear, h.of_week.from, k.of_week.to, same_day Thursday h.of_week.has_weekday k.of_week.has_weekday)
+    grind (linear, h.of_week.from, k.of_week.to, same_day Thursday h.of_week.has_weekday k.of_week.has_weekday)
 
 -- each day of the week of another day
-pub day_of_week : {day year : ℤ} {week : ℕ} (weekday : Weekday) (h : IsInIsoWeek day year week) → IsDayOfIsoWeek (h.thursday -ℤ pos 3 +ℤ pos ((weekday_number weekday + 6) % 7)) year week weekday
+pub day_of_week : {day year : ℤ} {week : ℕ} (weekday : Weekday) (h : IsInIsoWeek day year week)
+    → IsDayOfIsoWeek (h.thursday -ℤ pos 3 +ℤ pos ((weekday_number weekday + 6) % 7)) year week weekday
 day_of_week weekday h = record {
   in_week = record {
     thursday = h.thursday;
-    of_week = record { has_weekday = h.of_week.has_weekday; from = omega (arith, ints); to = omega (arith, ints) };
+    of_week = record { has_weekday = h.of_week.has_weekday; from = omega ints; to = omega ints };
     of_year = h.of_year;
     from = h.from;
     before = h.before;
@@ -93,44 +101,51 @@ day_of_week weekday h = record {
   has_weekday = days_later ((weekday_number weekday + 6) % 7) refl (days_earlier {b = Monday} 3 refl h.of_week.has_weekday refl) (omega (arith, below_seven weekday));
 }
 
-pub iso_day_exists : IsoDayExists
+pub iso_day_exists : law.IsoDayExists
 iso_day_exists year week weekday h = (_, day_of_week weekday h.in_week)
 
 -- of which there is only one
-pub one_day : IsoDayIsOnly
+pub one_day : law.IsoDayIsOnly
 one_day a b year week weekday h k =
     let first = h.in_week.of_week in
     let second = k.in_week.of_week in
-    same_day weekday h.has_weekday k.has_weekday (omega (arith, ints, first.to, second.from)) (omega (arith, ints, first.from, second.to))
+    same_day weekday h.has_weekday k.has_weekday (omega (ints, first.to, second.from)) (omega (ints, first.from, second.to))
 
 -- a day of the week by the days to the Thursday, and its date
 by_thursday : {year day : ℤ} {week : ℕ} (place : ℕ) (weekday : Weekday) → IsDayOfIsoWeek (first_day year +ℤ pos place) year week Thursday
     → day ≡ first_day year +ℤ pos place -ℤ pos 3 +ℤ pos ((weekday_number weekday + 6) % 7) → IsDayOfIsoWeek day year week weekday
 by_thursday {day = day} place weekday h is =
-    let thursday = same_day Thursday h.in_week.of_week.has_weekday h.has_weekday (omega (arith, ints, h.in_week.of_week.to)) (omega (arith, ints, h.in_week.of_week.from)) in
-    let same : h.in_week.thursday -ℤ pos 3 +ℤ pos ((weekday_number weekday + 6) % 7) ≡ day = omega (arith, ints, thursday) in
+    let thursday = same_day Thursday h.in_week.of_week.has_weekday h.has_weekday (omega (ints, h.in_week.of_week.to)) (omega (ints, h.in_week.of_week.from)) in
+    let same : h.in_week.thursday -ℤ pos 3 +ℤ pos ((weekday_number weekday + 6) % 7) ≡ day = omega (ints, thursday) in
     rw same at (day_of_week weekday h.in_week)
 
-pub day_or_none : (o : Option Date) {year given day : ℤ} {week : ℕ} (place : ℕ) (weekday : Weekday) → given ≡ year → IsDayOfIsoWeek (first_day given +ℤ pos place) given week Thursday
-    → day ≡ first_day given +ℤ pos place -ℤ pos 3 +ℤ pos ((weekday_number weekday + 6) % 7) → MatchOption o ((y : ℤ) → HasDay y day → ¬ (FitsSigned w64 y)) (λ date. number_of date ≡ day)
+pub day_or_none : (o : Option Date) {year given day : ℤ} {week : ℕ} (place : ℕ) (weekday : Weekday) → given ≡ year
+    → IsDayOfIsoWeek (first_day given +ℤ pos place) given week Thursday
+    → day ≡ first_day given +ℤ pos place -ℤ pos 3 +ℤ pos ((weekday_number weekday + 6) % 7)
+    → MatchOption o ((y : ℤ) → HasDay y day → ¬ (FitsSigned w64 y)) (λ date. number_of date ≡ day)
     → MatchOption o ((d y : ℤ) → IsDayOfIsoWeek d year week weekday → HasDay y d → ¬ (FitsSigned w64 y)) (λ date. IsDayOfIsoWeek (number_of date) year week weekday)
-day_or_none None place weekday same h is beyond = rw (sym same) (λ d y k l fits. beyond y (subst (HasDay y) (one_day _ _ _ _ weekday k (by_thursday place weekday h is)) l) fits)
+day_or_none None place weekday same h is beyond =
+    rw (sym same) (λ d y k l fits. beyond y (subst (HasDay y) (one_day _ _ _ _ weekday k (by_thursday place weekday h is)) l) fits)
 day_or_none (Some date) place weekday same h is near = rw (sym same, near) (by_thursday place weekday h is)
 
 -- the Thursdays of a year, from the first on
-pub later_thursday : (year : ℤ) {first : ℕ} (weeks : ℕ) → IsRemainder IsFloored (pos 0 -ℤ first_day year) (pos 7) (pos first) → HasWeekday (first_day year +ℤ pos (first + 7 * weeks)) Thursday
-later_thursday year weeks h = on_weekday Thursday (pos weeks -ℤ h.quotient) (omega (arith, ints, h.division.division.equation))
+pub later_thursday : (year : ℤ) {first : ℕ} (weeks : ℕ) → IsRemainder IsFloored (pos 0 -ℤ first_day year) (pos 7) (pos first)
+    → HasWeekday (first_day year +ℤ pos (first + 7 * weeks)) Thursday
+later_thursday year weeks h = on_weekday Thursday (pos weeks -ℤ h.quotient) (omega (ints, h.division.division.equation))
 
 -- the Thursday of a week, if it is in the year
-pub thursday_in_year : {year : ℤ} {week : ℕ} (place : ℕ) → HasWeekday (first_day year +ℤ pos place) Thursday → 7 * week ≤ place + 7 → place < 7 * week → place < days_in_year year → IsDayOfIsoWeek (first_day year +ℤ pos place) year week Thursday
-thursday_in_year {year} place h from before inside = grind (arith, ints, next_first_day)
+pub thursday_in_year : {year : ℤ} {week : ℕ} (place : ℕ) → HasWeekday (first_day year +ℤ pos place) Thursday → 7 * week ≤ place + 7 → place < 7 * week
+    → place < days_in_year year → IsDayOfIsoWeek (first_day year +ℤ pos place) year week Thursday
+thursday_in_year {year} place h from before inside = grind (ints, next_first_day)
 
 -- and if some day is in the week, it is
-pub within_year : {day year : ℤ} {week : ℕ} (place : ℕ) → HasWeekday (first_day year +ℤ pos place) Thursday → 7 * week ≤ place + 7 → place < 7 * week → IsInIsoWeek day year week → place < days_in_year year
-within_year {year = year} place own from before h = omega (arith, ints, next_first_day year)
+pub within_year : {day year : ℤ} {week : ℕ} (place : ℕ) → HasWeekday (first_day year +ℤ pos place) Thursday → 7 * week ≤ place + 7 → place < 7 * week
+    → IsInIsoWeek day year week → place < days_in_year year
+within_year {year = year} place own from before h = omega (ints, next_first_day year)
 
 -- of a week that the year has
-pub thursday_of_week : {year : ℤ} {week : ℕ} (place : ℕ) → ∥ HasIsoWeek year week ∥₁ → HasWeekday (first_day year +ℤ pos place) Thursday → 7 * week ≤ place + 7 → place < 7 * week
+pub thursday_of_week : {year : ℤ} {week : ℕ} (place : ℕ) → ∥ HasIsoWeek year week ∥₁ → HasWeekday (first_day year +ℤ pos place) Thursday
+    → 7 * week ≤ place + 7 → place < 7 * week
     → (place < days_in_year year) × IsDayOfIsoWeek (first_day year +ℤ pos place) year week Thursday
 thursday_of_week {year} {week} place h own from before =
     let inside : place < days_in_year year = ∥∥₁_elim h (hlevel props) (λ k. within_year place own from before k.in_week) in
@@ -145,7 +160,7 @@ has_53_weeks {year} h = record { day = h.day; in_last = h.in_week; no_later = λ
 pub has_52_weeks : {year : ℤ} → ¬ (HasIsoWeek year 53) → HasIsoWeeks year 52
 has_52_weeks {year} none =
     let (days, small, h) = weekday_within (first_day year +ℤ pos 357) Thursday in
-    let place : first_day year +ℤ pos 357 +ℤ pos days ≡ first_day year +ℤ pos (357 + days) = omega (arith, ints) in
+    let place : first_day year +ℤ pos 357 +ℤ pos days ≡ first_day year +ℤ pos (357 + days) = omega ints in
     record {
       day = _;
       in_last = (thursday_in_year {week = 52} (357 + days) (rw place at h) (omega arith) (omega arith) (omega (arith, length_range year))).in_week;
@@ -157,53 +172,57 @@ has_52_weeks {year} none =
     }
 
 -- of which there is only one
-pub one_number : IsoWeeksAreOnly
+pub one_number : law.IsoWeeksAreOnly
 one_number year m n h k = omega (arith, h.no_later k.day n k.in_last, k.no_later h.day m h.in_last)
 
 -- ---- weeks some weeks apart
 
 -- all days of a week have one Thursday
 one_thursday : {a b year : ℤ} {week : ℕ} (h : IsInIsoWeek a year week) (k : IsInIsoWeek b year week) → h.thursday ≡ k.thursday
-one_thursday h k = same_day Thursday h.of_week.has_weekday k.of_week.has_weekday (omega (arith, ints, h.before, k.from)) (omega (arith, ints, h.from, k.before))
+one_thursday h k = same_day Thursday h.of_week.has_weekday k.of_week.has_weekday (omega (ints, h.before, k.from)) (omega (ints, h.from, k.before))
 
 -- the Thursdays of two weeks are as many weeks apart
 thursdays_apart : {day year other : ℤ} {week number : ℕ} (weeks : ℤ) (h : IsInIsoWeek day year week) (k : IsInIsoWeek (day +ℤ pos 7 *ℤ weeks) other number) → k.thursday ≡ h.thursday +ℤ pos 7 *ℤ weeks
 thursdays_apart weeks h k = same_day Thursday k.of_week.has_weekday (weeks_apart weeks refl h.of_week.has_weekday)
-    (omega (arith, ints, h.of_week.from, h.of_week.to, k.of_week.from, k.of_week.to)) (omega (arith, ints, h.of_week.from, h.of_week.to, k.of_week.from, k.of_week.to))
+    (omega (ints, h.of_week.from, h.of_week.to, k.of_week.from, k.of_week.to)) (omega (ints, h.of_week.from, h.of_week.to, k.of_week.from, k.of_week.to))
 
 -- and so are any two of their days that have one day of the week
-pub later_week : {day year weeks y : ℤ} {week w : ℕ} → IsInIsoWeek day year week → IsWeeksAfter year week weeks y w → IsInIsoWeek (day +ℤ pos 7 *ℤ weeks) y w
+pub later_week : {day year weeks y : ℤ} {week w : ℕ} → IsInIsoWeek day year week → IsWeeksAfter year week weeks y w
+    → IsInIsoWeek (day +ℤ pos 7 *ℤ weeks) y w
 later_week {weeks = weeks} h k =
     let apart = thursdays_apart weeks k.in_week k.in_later in
     let same = one_thursday h k.in_week in
     record {
       thursday = k.in_later.thursday;
-      of_week = record { has_weekday = k.in_later.of_week.has_weekday; from = omega (arith, ints, apart, same, h.of_week.from); to = omega (arith, ints, apart, same, h.of_week.to) };
+      of_week = record { has_weekday = k.in_later.of_week.has_weekday; from = omega (ints, apart, same, h.of_week.from); to = omega (ints, apart, same, h.of_week.to) };
       of_year = k.in_later.of_year;
       from = k.in_later.from;
       before = k.in_later.before;
     }
 
 -- one week is so many weeks later
-pub only_weeks_after : WeeksAfterIsOnly
+pub only_weeks_after : law.WeeksAfterIsOnly
 only_weeks_after year week weeks y z v w h k = one_week _ y z v w h.in_later (later_week h.in_week k)
 
 -- and it is so many weeks later alone
-pub only_weeks_between : WeeksBetweenAreOnly
+pub only_weeks_between : law.WeeksBetweenAreOnly
 only_weeks_between year week a b y w h k =
-    omega (arith, ints, thursdays_apart a h.in_week h.in_later, thursdays_apart b k.in_week k.in_later, one_thursday h.in_week k.in_week, one_thursday h.in_later k.in_later)
+    omega (ints, thursdays_apart a h.in_week h.in_later, thursdays_apart b k.in_week k.in_later, one_thursday h.in_week k.in_week, one_thursday h.in_later k.in_later)
 
 -- the week of a day so many weeks later, if its year fits
 pub week_or_none : (o : Option IsoWeek) {day later year : ℤ} {week : ℕ} (weeks : ℤ) → IsInIsoWeek day year week → later ≡ day +ℤ pos 7 *ℤ weeks
     → MatchOption o ((y : ℤ) (w : ℕ) → IsInIsoWeek later y w → ¬ (FitsSigned w64 y)) (λ found. IsInIsoWeek later found.year found.week)
     → MatchOption o ((y : ℤ) (w : ℕ) → IsWeeksAfter year week weeks y w → ¬ (FitsSigned w64 y)) (λ found. IsWeeksAfter year week weeks found.year found.week)
 week_or_none None weeks h place beyond = λ y w k. beyond y w (subst (λ (d : ℤ). IsInIsoWeek d y w) (sym place) (later_week h k))
-week_or_none (Some found) weeks h place near = record { day = _; in_week = h; in_later = subst (λ (d : ℤ). IsInIsoWeek d found.year found.week) place near }
+week_or_none (Some found) weeks h place near =
+    record { day = _; in_week = h; in_later = subst (λ (d : ℤ). IsInIsoWeek d found.year found.week) place near }
 
 -- as many weeks as there are between the Thursdays
-pub weeks_of_days : {a b year y days given weeks quotient : ℤ} {week w : ℕ} → IsDayOfIsoWeek a year week Thursday → IsDayOfIsoWeek b y w Thursday → days ≡ b -ℤ a → given ≡ days → weeks ≡ quotient
+pub weeks_of_days : {a b year y days given weeks quotient : ℤ} {week w : ℕ} → IsDayOfIsoWeek a year week Thursday → IsDayOfIsoWeek b y w Thursday
+    → days ≡ b -ℤ a → given ≡ days → weeks ≡ quotient
     → IsQuotient IsFloored given (pos 7) quotient → IsWeeksAfter year week weeks y w
 weeks_of_days {a} {b} {weeks = weeks} {w = w} h k apart same whole quotient =
     let (low, high) = floored_quotient_range quotient in
-    let place : b ≡ a +ℤ pos 7 *ℤ weeks = omega (arith, ints, low, high, h.has_weekday.remainder.division.division.equation, k.has_weekday.remainder.division.division.equation) in
+    let place : b ≡ a +ℤ pos 7 *ℤ weeks =
+    omega (ints, low, high, h.has_weekday.remainder.division.division.equation, k.has_weekday.remainder.division.division.equation) in
     record { day = a; in_week = h.in_week; in_later = rw place at k.in_week }

@@ -1,5 +1,5 @@
 -- The laws of specs/Laws.antt, a lemma each.
-use Rattle.calendar.proofs.Common.{arith, nat_tests, ints, divides_by_magnitude, FirstDay, LeapYearsByDivisors, LengthsOfYears}
+use Rattle.calendar.proofs.Common.{arith, nat_tests, ints, divides_by_magnitude}
 use Rattle.calendar.specs.LeapYears.{is_leap_year, is_multiple}
 use Rattle.calendar.specs.Years.{days_in_year}
 use Rattle.calendar.proofs.YearLengths.{length_of}
@@ -28,10 +28,11 @@ pub use Rattle.calendar.proofs.IsoWeeks.{iso_day_exists, of_numbers as iso_week_
 pub use Rattle.calendar.proofs.EasterSundays.{different_moons as full_moons_differ, earlier_moons as earlier_full_moons, only_easter as easter_is_only}
 pub use Rattle.calendar.proofs.EasterSundays.{first_epact as epact_of_the_first_year, next_epact as epact_of_the_next_year}
 pub use Rattle.calendar.proofs.EasterSundays.{later_lunar as lunar_correction_of_twenty_five_centuries, lunar_from_1800 as lunar_corrections_from_1800, next_solar as solar_correction_of_the_next_century}
+use Rattle.calendar.specs.Laws as law
 
 -- ---- those that are proved here
 
-pub leap_years_by_divisors : LeapYearsByDivisors
+pub leap_years_by_divisors : law.LeapYearsByDivisors
 unfolding is_leap_year is_multiple
 leap_years_by_divisors = λ year.
     let four = divides_by_magnitude year 4 (omega arith) in
@@ -39,9 +40,9 @@ leap_years_by_divisors = λ year.
     let four_hundred = divides_by_magnitude year 400 (omega arith) in
     grind (arith, nat_tests)
 
-pub lengths_of_years : LengthsOfYears
+pub lengths_of_years : law.LengthsOfYears
 unfolding days_in_year
 lengths_of_years = λ year. length_of (is_leap_year year)
 
-pub first_day : FirstDay
-first_day = omega (arith, ints)
+pub first_day : law.FirstDay
+first_day = omega ints

@@ -1,5 +1,8 @@
 -- The months, and years that begin on 1 March.
-use Rattle.calendar.proofs.Common.{FitsSigned, w64, to_z, of_z, ◌≡◌, ◌+◌, ◌-◌, ◌*◌, ◌/◌, ◌%◌, ◌<◌, ◌≤◌, ◌+ℤ◌, ◌-ℤ◌, ◌*ℤ◌, ℕ, ℤ, pos, Bool, sum, take, arith, inl, inr, rules, cases_lt, ints, to_z-of_z, range_with_len, All-get_or, get_or-range_with_len, is_leap_year, days_before_month, month_lengths, day_number}
+use Rattle.calendar.specs.LeapYears.{is_leap_year}
+use Rattle.std.specs.List.{range_with_len}
+use Rattle.std.proofs.lemmas.List.FromFn.{get_or-range_with_len}
+use Rattle.calendar.proofs.Common.{FitsSigned, w64, to_z, of_z, ◌≡◌, ◌+◌, ◌-◌, ◌*◌, ◌/◌, ◌%◌, ◌<◌, ◌≤◌, ◌+ℤ◌, ◌-ℤ◌, ◌*ℤ◌, ℕ, ℤ, pos, Bool, sum, take, arith, inl, inr, rules, cases_lt, ints, to_z-of_z, All-get_or, days_before_month, month_lengths, day_number}
 use Rattle.calendar.specs.Years.{days_in_year}
 use Rattle.calendar.proofs.YearLengths.{in_era, length_range, march_days, next_first_day}
 
@@ -39,8 +42,8 @@ pub ruleset march_parts = (ints, to_z-of_z, length_range, third_month, next_firs
 -- the 1 March so many years after that of an era
 pub march_first : (era : ℤ) (n : ℕ) → day_number (pos 400 *ℤ era +ℤ pos n) 3 1 ≡ pos 146097 *ℤ era +ℤ pos (march_days n) -ℤ pos 719468
 march_first era n =
-    let next = in_era era n (pos 400 *ℤ era +ℤ pos n +ℤ pos 1) (omega (arith, ints)) in
-    omega (arith, ints, third_month (pos 400 *ℤ era +ℤ pos n), next_first_day (pos 400 *ℤ era +ℤ pos n))
+    let next = in_era era n (pos 400 *ℤ era +ℤ pos n +ℤ pos 1) (omega ints) in
+    omega (ints, third_month (pos 400 *ℤ era +ℤ pos n), next_first_day (pos 400 *ℤ era +ℤ pos n))
 
 -- what a function's goals about a 1 March need
 pub ruleset march_steps = (ints, march_first)
@@ -53,23 +56,25 @@ module _ (month after months : ℕ) (before : month ≤ 2 → after ≡ 0) (same
   days_before year = search (rules, third_month)
 
   -- the first of the month, by the days to 1 March
-  pub month_of_march : (era : ℤ) (year years : ℕ) → ((e : ℤ) → day_number (pos 400 *ℤ e +ℤ pos (year + 399 + after)) 3 1 ≡ pos 146097 *ℤ e +ℤ pos years -ℤ pos 719468)
+  pub month_of_march : (era : ℤ) (year years : ℕ)
+      → ((e : ℤ) → day_number (pos 400 *ℤ e +ℤ pos (year + 399 + after)) 3 1 ≡ pos 146097 *ℤ e +ℤ pos years -ℤ pos 719468)
       → day_number (pos 400 *ℤ era +ℤ pos year) month 1 ≡ pos 146097 *ℤ era +ℤ pos (years + months) -ℤ pos 865565
   month_of_march era year years first =
       let march = first (era -ℤ pos 1) in
       elim (cases_lt 2 month) [
         | inl later ↦
-            let place : pos 400 *ℤ (era -ℤ pos 1) +ℤ pos (year + 399 + after) ≡ pos 400 *ℤ era +ℤ pos year = omega (arith, ints, same later) in
-            omega (arith, ints, rw place at march, late later (pos 400 *ℤ era +ℤ pos year))
+            let place : pos 400 *ℤ (era -ℤ pos 1) +ℤ pos (year + 399 + after) ≡ pos 400 *ℤ era +ℤ pos year = omega (ints, same later) in
+            omega (ints, rw place at march, late later (pos 400 *ℤ era +ℤ pos year))
         | inr sooner ↦
             let last : ℤ = pos 400 *ℤ (era -ℤ pos 1) +ℤ pos (year + 399 + after) in
-            let place : pos 400 *ℤ era +ℤ pos year ≡ last +ℤ pos 1 = omega (arith, ints, before sooner) in
-            rw place (omega (arith, ints, march, third_month last, next_first_day last, early sooner (last +ℤ pos 1)))
+            let place : pos 400 *ℤ era +ℤ pos year ≡ last +ℤ pos 1 = omega (ints, before sooner) in
+            rw place (omega (ints, march, third_month last, next_first_day last, early sooner (last +ℤ pos 1)))
       ]
 
 -- so in a year by its era, as they are passed to a function
 pub month_at : {year : ℤ} (era : ℤ × ℕ) (month days : ℕ) → FitsSigned w64 year → to_z w64 (of_z w64 year) ≡ pos 400 *ℤ era.0 +ℤ pos era.1
-    → ((e : ℤ) → day_number (pos 400 *ℤ e +ℤ pos era.1) month 1 ≡ pos 146097 *ℤ e +ℤ pos days -ℤ pos 865565) → day_number year month 1 ≡ pos 146097 *ℤ era.0 +ℤ pos days -ℤ pos 865565
+    → ((e : ℤ) → day_number (pos 400 *ℤ e +ℤ pos era.1) month 1 ≡ pos 146097 *ℤ e +ℤ pos days -ℤ pos 865565)
+    → day_number year month 1 ≡ pos 146097 *ℤ era.0 +ℤ pos days -ℤ pos 865565
 month_at era month days fits place day = rw (simp to_z-of_z at place) (day era.0)
 
 -- whole years in some days, and the days that are left
@@ -83,8 +88,9 @@ pub whole_years : (days : ℕ) → days < 300000 → (days ≡ march_days (years
 whole_years days small = (omega arith, omega arith)
 
 -- so the days that are left are those of less than a year
-pub part_of_year : (era : ℤ) (n rest days : ℕ) → (days ≡ march_days n + rest) × (days < march_days (n + 1)) → rest < days_in_year (pos 400 *ℤ era +ℤ pos n +ℤ pos 1)
+pub part_of_year : (era : ℤ) (n rest days : ℕ) → (days ≡ march_days n + rest) × (days < march_days (n + 1))
+    → rest < days_in_year (pos 400 *ℤ era +ℤ pos n +ℤ pos 1)
 part_of_year era n rest days within =
-    let first = in_era era n (pos 400 *ℤ era +ℤ pos n +ℤ pos 1) (omega (arith, ints)) in
-    let second = in_era era (n + 1) (pos 400 *ℤ era +ℤ pos n +ℤ pos 1 +ℤ pos 1) (omega (arith, ints)) in
-    omega (arith, ints, next_first_day (pos 400 *ℤ era +ℤ pos n +ℤ pos 1))
+    let first = in_era era n (pos 400 *ℤ era +ℤ pos n +ℤ pos 1) (omega ints) in
+    let second = in_era era (n + 1) (pos 400 *ℤ era +ℤ pos n +ℤ pos 1 +ℤ pos 1) (omega ints) in
+    omega (ints, next_first_day (pos 400 *ℤ era +ℤ pos n +ℤ pos 1))

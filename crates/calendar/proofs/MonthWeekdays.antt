@@ -6,83 +6,97 @@ use Rattle.calendar.proofs.MonthLengths.{date_of, month_length_range}
 use Rattle.calendar.proofs.WeekdayPlaces.{same_day, weekday_within, weeks_apart}
 
 -- the dates of a month follow each other
-in_month : (a b : Date) {year : ℤ} {month d e : ℕ} → HasParts a year month d → HasParts b year month e → number_of a +ℤ pos e ≡ number_of b +ℤ pos d
-in_month a b h k = rw (h.year_is, h.month_is, h.day_is, k.year_is, k.month_is, k.day_is) (omega (arith, ints))
+in_month : (a b : Date) {year : ℤ} {month : ℕ} → (a.year ≡ year) × (a.month ≡ month) → (b.year ≡ year) × (b.month ≡ month)
+    → number_of a +ℤ pos b.day_of_month ≡ number_of b +ℤ pos a.day_of_month
+in_month a b h k = rw (h.0, h.1, k.0, k.1) (omega ints)
 
 -- the n-th such day of a month, by the first
-pub nth_weekday : (o : Option Date) {year : ℤ} {month : ℕ} {weekday : Weekday} {n days day : ℕ} (first : Date) → HasParts first year month 1 → HasWeekday (number_of first +ℤ pos days) weekday → days < 7
+pub nth_weekday : (o : Option Date) {year : ℤ} {month : ℕ} {weekday : Weekday} {n days day : ℕ} (first : Date) → HasParts first year month 1
+    → HasWeekday (number_of first +ℤ pos days) weekday → days < 7
     → 1 ≤ n → day ≡ 7 * (n - 1) + days + 1 → MatchOption o (¬ (IsDate year month day)) (λ date. HasParts date year month day)
     → MatchOption o ((date : Date) → ¬ (IsNthWeekday year month weekday n date)) (λ date. IsNthWeekday year month weekday n date)
 nth_weekday None {weekday = weekday} {n = n} {day = day} first parts h small from place none = λ date k.
-    let apart = in_month date first (record { year_is = k.year_is; month_is = k.month_is; day_is = refl }) parts in
-    let same : date.day_of_month ≡ day = omega (arith, ints) in
+    let apart = in_month date first (k.year_is, k.month_is) (parts.year_is, parts.month_is) in
+    let same : date.day_of_month ≡ day = omega ints in
     none (rw (k.year_is, k.month_is, same) at date.valid)
 nth_weekday (Some date) {n = n} first parts h small from place found =
-    let apart = in_month date first found parts in
-    record { year_is = found.year_is; month_is = found.month_is; has_weekday = weeks_apart (pos (n - 1)) (omega (arith, ints)) h; after_weeks = omega arith; within_weeks = omega arith }
+    let apart = in_month date first (found.year_is, found.month_is) (parts.year_is, parts.month_is) in
+    record { year_is = found.year_is; month_is = found.month_is; has_weekday = weeks_apart (pos (n - 1)) (omega ints) h; after_weeks = omega arith; within_weeks = omega arith }
 
 -- there is at most one
 pub only_nth_weekday : NthWeekdayIsOnly
 only_nth_weekday year month weekday n a b h k =
-    let apart = in_month a b (record { year_is = h.year_is; month_is = h.month_is; day_is = refl }) (record { year_is = k.year_is; month_is = k.month_is; day_is = refl }) in
-    only_date a b (same_day weekday h.has_weekday k.has_weekday (omega (arith, ints, h.within_weeks, k.after_weeks)) (omega (arith, ints, k.within_weeks, h.after_weeks)))
+    let apart = in_month a b (h.year_is, h.month_is) (k.year_is, k.month_is) in
+    only_date a b (same_day weekday h.has_weekday k.has_weekday (omega (ints, h.within_weeks, k.after_weeks)) (omega (ints, k.within_weeks, h.after_weeks)))
 
 -- each month has a first day
 pub first_of_month : (year : ℤ) (month : ℕ) → 1 ≤ month → month ≤ 12 → IsDate year month 1
 first_of_month year month from to = record { month_from_one = from; month_to_twelve = to; day_from_one = omega arith; day_to_last = omega (arith, (month_length_range year month from to).0) }
 
 -- Each month has a first, a second, a third and a fourth of each day of the week.
-pub nth_weekday_exists : (year : ℤ) (month : ℕ) (weekday : Weekday) (n : ℕ) → 1 ≤ month → month ≤ 12 → 1 ≤ n → n ≤ 4 → (date : Date) × IsNthWeekday year month weekday n date
+pub nth_weekday_exists : (year : ℤ) (month : ℕ) (weekday : Weekday) (n : ℕ) → 1 ≤ month → month ≤ 12 → 1 ≤ n → n ≤ 4
+    → (date : Date) × IsNthWeekday year month weekday n date
 nth_weekday_exists year month weekday n from to n_from n_to =
     let (length, most) = month_length_range year month from to in
     let (days, small, has_weekday) = weekday_within (day_number year month 1) weekday in
     let date : Date = date_of year month (7 * (n - 1) + days + 1) from to (omega arith) (omega arith) in
-    (date, record { year_is = refl; month_is = refl; has_weekday = weeks_apart (pos (n - 1)) (omega (arith, ints)) has_weekday; after_weeks = omega arith; within_weeks = omega arith })
+    (date, record { year_is = refl; month_is = refl; has_weekday = weeks_apart (pos (n - 1)) (omega ints) has_weekday; after_weeks = omega arith; within_weeks = omega arith })
 
 -- a fifth is 28 days after such a day
-fifth_weekday : {year : ℤ} {month : ℕ} {weekday : Weekday} → 1 ≤ month → month ≤ 12 → HasFifthWeekday year month weekday → (date : Date) × IsNthWeekday year month weekday 5 date
+fifth_weekday : {year : ℤ} {month : ℕ} {weekday : Weekday} → 1 ≤ month → month ≤ 12 → HasFifthWeekday year month weekday
+    → (date : Date) × IsNthWeekday year month weekday 5 date
 fifth_weekday {year} {month} from to h =
     let (least, most) = month_length_range year month from to in
     let date : Date = date_of year month (h.day + 28) from to (omega arith) h.before_four_weeks in
-    (date, record { year_is = refl; month_is = refl; has_weekday = weeks_apart (pos 4) (omega (arith, ints)) h.has_weekday; after_weeks = omega (arith, h.from_one); within_weeks = omega (arith, most, h.before_four_weeks) })
+    (date, record { year_is = refl; month_is = refl; has_weekday = weeks_apart (pos 4) (omega ints) h.has_weekday; after_weeks = omega (arith, h.from_one); within_weeks = omega (arith, most, h.before_four_weeks) })
 
 has_fifth : (date : Date) {year : ℤ} {month : ℕ} {weekday : Weekday} → IsNthWeekday year month weekday 5 date → HasFifthWeekday year month weekday
 has_fifth date {year} {month} k =
-    let before : day_number year month (date.day_of_month - 28) ≡ number_of date +ℤ pos 7 *ℤ negsuc 3 = rw (k.year_is, k.month_is) (omega (arith, ints, k.after_weeks)) in
+    let before : day_number year month (date.day_of_month - 28) ≡ number_of date +ℤ pos 7 *ℤ negsuc 3 =
+    rw (k.year_is, k.month_is) (omega (ints, k.after_weeks)) in
     record { day = date.day_of_month - 28; from_one = omega (arith, k.after_weeks); before_four_weeks = omega (arith, k.after_weeks, rw (k.year_is, k.month_is) at date.valid.day_to_last); has_weekday = weeks_apart (negsuc 3) before k.has_weekday }
 
-pub fifth_is_found : (year : ℤ) (month : ℕ) (weekday : Weekday) (o : Option Date) → MatchOption o ((date : Date) → ¬ (IsNthWeekday year month weekday 5 date)) (λ date. IsNthWeekday year month weekday 5 date)
+pub fifth_is_found : (year : ℤ) (month : ℕ) (weekday : Weekday) (o : Option Date)
+    → MatchOption o ((date : Date) → ¬ (IsNthWeekday year month weekday 5 date)) (λ date. IsNthWeekday year month weekday 5 date)
     → 1 ≤ month → month ≤ 12 → IsSome o ↔ HasFifthWeekday year month weekday
-fifth_is_found year month weekday None none from to = (λ some. absurd (cc), λ h. is_found (IsNthWeekday year month weekday 5) None (fifth_weekday from to h) none)
+fifth_is_found year month weekday None none from to =
+    (λ some. absurd (cc), λ h. is_found (IsNthWeekday year month weekday 5) None (fifth_weekday from to h) none)
 fifth_is_found year month weekday (Some date) found from to = (λ some. has_fifth date found, λ h. refl)
 
 -- ---- the last of them
 
 -- such a day less than a week before the end of the month is the last
-pub in_last_week : {year : ℤ} {month : ℕ} {weekday : Weekday} (date : Date) (length n : ℕ) → HasParts date year month (length - n) → length ≡ days_in_month year month
+pub in_last_week : {year : ℤ} {month : ℕ} {weekday : Weekday} (date : Date) (length n : ℕ) → HasParts date year month (length - n)
+    → length ≡ days_in_month year month
     → HasWeekday (day_number year month length -ℤ pos n) weekday → n < 7 → IsLastWeekdayOfMonth year month weekday date
 in_last_week {year} {month} {weekday} date length n parts is h small =
-    let same : day_number year month length -ℤ pos n ≡ number_of date = rw (parts.year_is, parts.month_is, parts.day_is) (omega (arith, ints, date.valid.day_from_one, parts.day_is)) in
+    let same : day_number year month length -ℤ pos n ≡ number_of date =
+    rw (parts.year_is, parts.month_is, parts.day_is) (omega (ints, date.valid.day_from_one, parts.day_is)) in
     let has_weekday = rw same at h in
     record {
       of_month = record { year_is = parts.year_is; month_is = parts.month_is; has_weekday = has_weekday };
       last = λ other k.
-          let apart = in_month other date (record { year_is = k.year_is; month_is = k.month_is; day_is = refl }) parts in
+          let apart = in_month other date (k.year_is, k.month_is) (parts.year_is, parts.month_is) in
           let to = rw (k.year_is, k.month_is) at other.valid.day_to_last in
           by_lt_z (number_of date) (number_of other)
-          (λ more. absurd (omega (arith, ints, same_day weekday has_weekday k.has_weekday (omega (arith, ints)) (omega (arith, ints)))))
+          (λ more. absurd (omega (ints, same_day weekday has_weekday k.has_weekday (omega ints) (omega ints))))
           (λ fine. fine);
     }
 
 -- Each month has a last of each day of the week.
-pub last_weekday_exists : (year : ℤ) (month : ℕ) (weekday : Weekday) → 1 ≤ month → month ≤ 12 → (date : Date) × IsLastWeekdayOfMonth year month weekday date
+pub last_weekday_exists : (year : ℤ) (month : ℕ) (weekday : Weekday) → 1 ≤ month → month ≤ 12
+    → (date : Date) × IsLastWeekdayOfMonth year month weekday date
 last_weekday_exists year month weekday from to =
     let (least, most) = month_length_range year month from to in
     let length : ℕ = days_in_month year month in
     let (days, small, has_weekday) = weekday_within (day_number year month length -ℤ pos 6) weekday in
     let date : Date = date_of year month (length - (6 - days)) from to (omega arith) (omega arith) in
-    let place : day_number year month length -ℤ pos 6 +ℤ pos days ≡ day_number year month length -ℤ pos (6 - days) = omega (arith, ints) in
+    let place : day_number year month length -ℤ pos 6 +ℤ pos days ≡ day_number year month length -ℤ pos (6 - days) = omega ints in
     (date, in_last_week {year = year} {month = month} date length (6 - days) (record { year_is = refl; month_is = refl; day_is = refl }) refl (rw place at has_weekday) (omega arith))
 
+-- that of the month of a date
+pub last_in_month : (date : Date) (weekday : Weekday) → (last : Date) × IsLastWeekdayOfMonth date.year date.month weekday last
+last_in_month date weekday = last_weekday_exists date.year date.month weekday date.valid.month_from_one date.valid.month_to_twelve
+
 pub only_last_of_month : LastWeekdayOfMonthIsOnly
-only_last_of_month year month weekday a b h k = only_date a b (omega (arith, ints, h.last b k.of_month, k.last a h.of_month))
+only_last_of_month year month weekday a b h k = only_date a b (omega (ints, h.last b k.of_month, k.last a h.of_month))

@@ -2,19 +2,21 @@
 use Rattle.calendar.proofs.Common.{ap, inl, ◌∙◌, refl, cases_lt, ◌≡◌, ◌<◌, ◌≤◌, ◌≤ℤ◌, ◌+ℤ◌, ℕ, ℤ, pos, FitsSigned, w64, arith, inr, subst, sym, by_lt_z, ints, linear, IsLastWeekdayOfMonth, IsMonthsAfter, IsNextLastWeekday, number_of, NextLastWeekdayExists, NextLastWeekdayIsOnly, month_number, Date, Weekday}
 use Rattle.calendar.proofs.DateOrder.{only_date, order}
 use Rattle.calendar.proofs.MonthSteps.{later_month, months_after_exists, same_month}
-use Rattle.calendar.proofs.MonthWeekdays.{last_weekday_exists}
+use Rattle.calendar.proofs.MonthWeekdays.{last_in_month}
 
 -- ---- those of two months
 
 -- The last of a day of the week in a month is not before that of the same month or of an earlier one.
-pub last_weekdays_in_order : {a b : Date} {weekday : Weekday} → IsLastWeekdayOfMonth a.year a.month weekday a → IsLastWeekdayOfMonth b.year b.month weekday b
+pub last_weekdays_in_order : {a b : Date} {weekday : Weekday} → IsLastWeekdayOfMonth a.year a.month weekday a
+    → IsLastWeekdayOfMonth b.year b.month weekday b
     → month_number a.year a.month ≤ℤ month_number b.year b.month → number_of a ≤ℤ number_of b
 last_weekdays_in_order {a} {b} h k months = by_lt_z (month_number a.year a.month) (month_number b.year b.month)
-    (λ earlier. omega (arith, linear, later_month a b earlier))
-    (λ rest. let same = same_month a b (omega (arith, linear)) in k.last a (record { year_is = same.0; month_is = same.1; has_weekday = h.of_month.has_weekday }))
+    (λ earlier. omega (linear, later_month a b earlier))
+    (λ rest. let same = same_month a b (omega linear) in k.last a (record { year_is = same.0; month_is = same.1; has_weekday = h.of_month.has_weekday }))
 
 -- the last of its month is the last of its own month
-own_month : {year : ℤ} {month : ℕ} {weekday : Weekday} {date : Date} → IsLastWeekdayOfMonth year month weekday date → IsLastWeekdayOfMonth date.year date.month weekday date
+own_month : {year : ℤ} {month : ℕ} {weekday : Weekday} {date : Date} → IsLastWeekdayOfMonth year month weekday date
+    → IsLastWeekdayOfMonth date.year date.month weekday date
 own_month {year} {month} {weekday} {date} h = grind arith
 
 -- ---- the next one
@@ -26,42 +28,46 @@ module _ (after this : Date) {year : ℤ} {weekday : Weekday} (same : year ≡ a
   of_this_month later = record {
     later = (order after this).0 (inr (sym (h.of_month.year_is ∙ same), inr (sym h.of_month.month_is, later)));
     last = own_month h;
-    first = λ other beyond k. last_weekdays_in_order (own_month h) k (by_lt_z (month_number other.year other.month) (month_number this.year this.month)
-        (λ sooner. absurd (omega (arith, linear, later_month other after (omega (arith, ints, h.of_month)))))
+    first =
+        λ other beyond k. last_weekdays_in_order (own_month h) k (by_lt_z (month_number other.year other.month) (month_number this.year this.month)
+        (λ sooner. absurd (omega (linear, later_month other after (omega (ints, h.of_month)))))
         (λ fine. fine));
   }
 
   -- and else that of the next month is
-  pub of_next_month : (next : Date) {y : ℤ} {month : ℕ} → this.day_of_month ≤ after.day_of_month → IsLastWeekdayOfMonth y month weekday next → month_number y month ≡ month_number after.year after.month +ℤ pos 1 → IsNextLastWeekday after weekday next
+  pub of_next_month : (next : Date) {y : ℤ} {month : ℕ} → this.day_of_month ≤ after.day_of_month → IsLastWeekdayOfMonth y month weekday next
+      → month_number y month ≡ month_number after.year after.month +ℤ pos 1 → IsNextLastWeekday after weekday next
   of_next_month next early k is =
-      let past : number_of this ≤ℤ number_of after = rw (h.of_month.year_is, same, h.of_month.month_is) (omega (arith, ints)) in
+      let past : number_of this ≤ℤ number_of after = rw (h.of_month.year_is, same, h.of_month.month_is) (omega ints) in
       record {
-        later = later_month after next (omega (arith, ints, k.of_month));
+        later = later_month after next (omega (ints, k.of_month));
         last = own_month k;
         first = λ other beyond l. last_weekdays_in_order (own_month k) l (by_lt_z (month_number after.year after.month) (month_number other.year other.month)
-            (λ fine. omega (arith, ints, k.of_month))
-            (λ rest. absurd (omega (arith, linear, last_weekdays_in_order l (own_month h) (omega (arith, ints, h.of_month))))));
+            (λ fine. omega (ints, k.of_month))
+            (λ rest. absurd (omega (linear, last_weekdays_in_order l (own_month h) (omega (ints, h.of_month))))));
       }
 
 -- After each date comes a date that is the last of a day of the week in its month.
 pub next_last_weekday_exists : NextLastWeekdayExists
 next_last_weekday_exists after weekday =
-    let (this, h) = last_weekday_exists after.year after.month weekday after.valid.month_from_one after.valid.month_to_twelve in
+    let (this, h) = last_in_month after weekday in
     let (later, is_after) = months_after_exists after (pos 1) in
-    let (next, k) = last_weekday_exists later.year later.month weekday later.valid.month_from_one later.valid.month_to_twelve in
+    let (next, k) = last_in_month later weekday in
     elim (cases_lt after.day_of_month this.day_of_month) [
       | inl less ↦ (this, of_this_month after this refl h less)
       | inr past ↦ (next, of_next_month after this refl h next past k is_after.month_is)
     ]
 
 pub only_next_last : NextLastWeekdayIsOnly
-only_next_last after weekday a b h k = only_date a b (omega (arith, linear, h.first b k.later k.last, k.first a h.later h.last))
+only_next_last after weekday a b h k = only_date a b (omega (linear, h.first b k.later k.last, k.first a h.later h.last))
 
 -- if the year of no date of the next month fits, that of the next one does not
-pub beyond_fits : (after this : Date) {year : ℤ} {weekday : Weekday} → year ≡ after.year → IsLastWeekdayOfMonth year after.month weekday this → this.day_of_month ≤ after.day_of_month
-    → ((date : Date) → IsMonthsAfter after (pos 1) date → ¬ (FitsSigned w64 date.year)) → (date : Date) → IsNextLastWeekday after weekday date → ¬ (FitsSigned w64 date.year)
+pub beyond_fits : (after this : Date) {year : ℤ} {weekday : Weekday} → year ≡ after.year → IsLastWeekdayOfMonth year after.month weekday this
+    → this.day_of_month ≤ after.day_of_month
+    → ((date : Date) → IsMonthsAfter after (pos 1) date → ¬ (FitsSigned w64 date.year)) → (date : Date) → IsNextLastWeekday after weekday date
+    → ¬ (FitsSigned w64 date.year)
 beyond_fits after this {weekday = weekday} same h past none date is fits =
     let (later, is_after) = months_after_exists after (pos 1) in
-    let (next, k) = last_weekday_exists later.year later.month weekday later.valid.month_from_one later.valid.month_to_twelve in
+    let (next, k) = last_in_month later weekday in
     let found = only_next_last after weekday date next is (of_next_month after this same h next past k is_after.month_is) in
     none later is_after (subst (FitsSigned w64) (ap (λ (d : Date). d.year) found ∙ k.of_month.year_is) fits)

@@ -1,5 +1,9 @@
 -- Numbers with zeros in front.
-use Rattle.calendar.proofs.Common.{◌≡◌, ◌≢◌, ◌↔◌, ◌≤◌, ◌+◌, ◌-◌, ◌*◌, ◌/◌, ◌%◌, ◌^◌, ◌<◌, ◌++◌, ℕ, zero, suc, List, [], ◌∷◌, length, replicate, get_or, Option, Some, None, Result, Ok, arith, ap, inl, inr, refl, subst, sym, ◌∙◌, cases_lt, length-append, length-replicate, decimal, digit_value, AllDigits, ParsesUnsigned, digits_value, digits_value_after, decimal-digits_value, decimal_digit, decimal_is_IsNumeral, decimal_step, first_decimal, length-decimal-le, length-decimal-le_succ, digit_value_digit, IsNumeralModel, digit_at, digit_from_value, digits_value_short, numerals_by_value, parse_gives, tells_digits, IsShortest, padded}
+use Rattle.std.specs.Char.{digit_value}
+use Rattle.std.proofs.lemmas.Str.Parse.{IsNumeralModel, digit_at, digit_from_value, digits_value_short, numerals_by_value, parse_gives, tells_digits}
+use Rattle.std.proofs.lemmas.Str.{digit_value_digit}
+use Rattle.std.proofs.lemmas.Fmt.{decimal-digits_value, decimal_digit, decimal_is_IsNumeral, decimal_step, first_decimal, length-decimal-le, length-decimal-le_succ}
+use Rattle.calendar.proofs.Common.{◌≡◌, ◌≢◌, ◌↔◌, ◌≤◌, ◌+◌, ◌-◌, ◌*◌, ◌/◌, ◌%◌, ◌^◌, ◌<◌, ◌++◌, ℕ, zero, suc, List, [], ◌∷◌, length, replicate, get_or, Option, Some, None, Result, Ok, arith, ap, inl, inr, refl, subst, sym, ◌∙◌, cases_lt, length-append, length-replicate, decimal, AllDigits, ParsesUnsigned, digits_value, digits_value_after, IsShortest, padded}
 
 pub decimal_numerals : IsNumeralModel (AllDigits 10) (digits_value 10)
 decimal_numerals = numerals_by_value (AllDigits 10) tells_digits
@@ -16,7 +20,8 @@ pub padded_digits : (places n : ℕ) → n < 2 ^ 64 → AllDigits 10 (padded pla
 padded_digits places n small = (zeros (places - length (decimal n)) (decimal n) (decimal_is_IsNumeral n small).0.1).0
 
 pub padded_value : (places n : ℕ) → n < 2 ^ 64 → digits_value 10 (padded places n) ≡ n
-padded_value places n small = (zeros (places - length (decimal n)) (decimal n) (decimal_is_IsNumeral n small).0.1).1 ∙ (decimal_is_IsNumeral n small).1
+padded_value places n small =
+    (zeros (places - length (decimal n)) (decimal n) (decimal_is_IsNumeral n small).0.1).1 ∙ (decimal_is_IsNumeral n small).1
 
 -- numbers of two digits
 pub two_places : (n : ℕ) → n < 100 → padded 2 n ≡ (48 + n / 10) ∷ (48 + n % 10) ∷ []
@@ -31,7 +36,8 @@ pub padded_shortest : (n : ℕ) → n < 2 ^ 64 → IsShortest (padded 4 n)
 padded_shortest n small = grind (arith, length_padded, digit_at, padded_digits, first_decimal, length-decimal-le_succ)
 
 -- digits of one length and one value are the same
-same_digits : (a b : ℕ) (ds es : List ℕ) → AllDigits 10 ds → AllDigits 10 es → length ds ≡ length es → digits_value_after 10 a ds ≡ digits_value_after 10 b es → (a ≡ b) × (ds ≡ es)
+same_digits : (a b : ℕ) (ds es : List ℕ) → AllDigits 10 ds → AllDigits 10 es → length ds ≡ length es
+    → digits_value_after 10 a ds ≡ digits_value_after 10 b es → (a ≡ b) × (ds ≡ es)
 same_digits a b [] [] d f l e = (e, refl)
 same_digits a b (x ∷ xs) (y ∷ ys) d f l e =
     let rest = same_digits (a * 10 + digit_value x) (b * 10 + digit_value y) xs ys d.1 f.1 (omega arith) e in
@@ -64,13 +70,16 @@ Reads o least most ds = (n : ℕ) → (o ≡ Some n) ↔ ((least ≤ n) × (n �
 pub unpadded_read : {least most : ℕ} {ds : List ℕ} → most < 2 ^ 64 → ¬ (IsShortest ds) → Reads None least most ds
 unpadded_read small unpadded n = (λ e. absurd cc, λ h. absurd (unpadded (subst IsShortest (sym h.2) (padded_shortest n (omega arith)))))
 
-pub no_number_read : {E : Type 0} {least most : ℕ} {ds : List ℕ} (r : Result ℕ E) → most < 2 ^ 64 → ParsesUnsigned 64 10 ds r → ((n : ℕ) → r ≢ Ok n) → Reads None least most ds
+pub no_number_read : {E : Type 0} {least most : ℕ} {ds : List ℕ} (r : Result ℕ E) → most < 2 ^ 64 → ParsesUnsigned 64 10 ds r → ((n : ℕ) → r ≢ Ok n)
+    → Reads None least most ds
 no_number_read {ds = ds} r small h none n = (λ e. absurd cc, λ k. absurd (none n (number_read n ds r (omega arith) k.2 h)))
 
-pub outside_read : {E : Type 0} {least most : ℕ} {ds : List ℕ} (m : ℕ) (r : Result ℕ E) → most < 2 ^ 64 → ParsesUnsigned 64 10 ds r → r ≡ Ok m → ¬ ((least ≤ m) × (m ≤ most)) → Reads None least most ds
+pub outside_read : {E : Type 0} {least most : ℕ} {ds : List ℕ} (m : ℕ) (r : Result ℕ E) → most < 2 ^ 64 → ParsesUnsigned 64 10 ds r → r ≡ Ok m
+    → ¬ ((least ≤ m) × (m ≤ most)) → Reads None least most ds
 outside_read {least = least} {most = most} {ds = ds} m r small h is outside n = grind (arith, number_read)
 
-pub number_inside_read : {E : Type 0} {least most : ℕ} {ds : List ℕ} (m : ℕ) (r : Result ℕ E) → most < 2 ^ 64 → ParsesUnsigned 64 10 ds r → r ≡ Ok m → IsShortest ds → (least ≤ m) × (m ≤ most) → Reads (Some m) least most ds
+pub number_inside_read : {E : Type 0} {least most : ℕ} {ds : List ℕ} (m : ℕ) (r : Result ℕ E) → most < 2 ^ 64 → ParsesUnsigned 64 10 ds r → r ≡ Ok m
+    → IsShortest ds → (least ≤ m) × (m ≤ most) → Reads (Some m) least most ds
 number_inside_read {least = least} {most = most} {ds = ds} m r small h is so within n = (
   λ e. let same : m ≡ n = cc in subst (λ (t : ℕ). (least ≤ t) × (t ≤ most) × (ds ≡ padded 4 t)) same (within.0, within.1, grind (arith, padded_is)),
   λ k. let read = number_read n ds r (omega arith) k.2 h in cc,

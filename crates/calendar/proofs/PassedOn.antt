@@ -7,7 +7,8 @@ module _ (year : ℤ) (week : ℕ) (weeks : ℤ) (fits : FitsSigned w64 weeks) w
   pub week_found : {y : ℤ} {w : ℕ} → IsWeeksAfter year week (to_z w64 (of_z w64 weeks)) y w → IsWeeksAfter year week weeks y w
   week_found is = rw (to_z-of_z w64 weeks fits) at is
 
-  pub week_beyond : (Q : IsoWeek → Type 0) (r : Option IsoWeek) → r ≡ None → ((y : ℤ) (w : ℕ) → IsWeeksAfter year week (to_z w64 (of_z w64 weeks)) y w → ¬ (FitsSigned w64 y))
+  pub week_beyond : (Q : IsoWeek → Type 0) (r : Option IsoWeek) → r ≡ None
+      → ((y : ℤ) (w : ℕ) → IsWeeksAfter year week (to_z w64 (of_z w64 weeks)) y w → ¬ (FitsSigned w64 y))
       → MatchOption r ((y : ℤ) (w : ℕ) → IsWeeksAfter year week weeks y w → ¬ (FitsSigned w64 y)) Q
   week_beyond Q r is beyond = rw is (rw (to_z-of_z w64 weeks fits) at beyond)
 

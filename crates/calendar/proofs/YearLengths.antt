@@ -49,30 +49,32 @@ epoch = omega (arith, years_after 1969, years_before 1969)
 -- the next year begins after the days of the year
 pub next_first_day : YearsFollow
 unfolding days_after days_before
-next_first_day (pos n) = rw (add-one n) (omega (arith, ints))
-next_first_day (negsuc zero) = omega (arith, ints)
+next_first_day (pos n) = rw (add-one n) (omega ints)
+next_first_day (negsuc zero) = omega ints
 next_first_day (negsuc (suc n)) =
-    let next : negsuc (suc n) +ℤ pos 1 ≡ negsuc n = omega (arith, ints) in
-    rw next (omega (arith, ints))
+    let next : negsuc (suc n) +ℤ pos 1 ≡ negsuc n = omega ints in
+    rw next (omega ints)
 
 -- the days of the first n years that begin on 1 March, from that of year 0 on
 abbrev pub march_days : ℕ → ℕ
 march_days n = 365 * n + n / 4 - n / 100 + n / 400
 
 -- the first day after them, by eras of 400 years
-pub in_era : (era : ℤ) (n : ℕ) (year : ℤ) → year ≡ pos 400 *ℤ era +ℤ pos n +ℤ pos 1 → first_day year ≡ pos 146097 *ℤ era +ℤ pos (march_days n) -ℤ pos 719162
-in_era era n (pos zero) e = omega (arith, ints, epoch, none_after)
-in_era era n (pos (suc m)) e = omega (arith, ints, epoch, years_after m, years_before m)
-in_era era n (negsuc m) e = omega (arith, ints, epoch, years_before (suc m))
+pub in_era : (era : ℤ) (n : ℕ) (year : ℤ) → year ≡ pos 400 *ℤ era +ℤ pos n +ℤ pos 1
+    → first_day year ≡ pos 146097 *ℤ era +ℤ pos (march_days n) -ℤ pos 719162
+in_era era n (pos zero) e = omega (ints, epoch, none_after)
+in_era era n (pos (suc m)) e = omega (ints, epoch, years_after m, years_before m)
+in_era era n (negsuc m) e = omega (ints, epoch, years_before (suc m))
 
 -- years are 146097/400 days long, but for a day or two
-pub mean_length : (year : ℤ) → ((pos 146097 *ℤ (year -ℤ pos 1970)) ≤ℤ (pos 400 *ℤ first_day year +ℤ pos 506)) × ((pos 400 *ℤ first_day year) ≤ℤ (pos 146097 *ℤ (year -ℤ pos 1970) +ℤ pos 589))
-mean_length (pos zero) = omega (arith, ints, epoch, none_after)
-mean_length (pos (suc n)) = omega (arith, ints, epoch, years_after n, years_before n)
-mean_length (negsuc n) = omega (arith, ints, epoch, years_before (suc n))
+pub mean_length : (year : ℤ)
+    → ((pos 146097 *ℤ (year -ℤ pos 1970)) ≤ℤ (pos 400 *ℤ first_day year +ℤ pos 506)) × ((pos 400 *ℤ first_day year) ≤ℤ (pos 146097 *ℤ (year -ℤ pos 1970) +ℤ pos 589))
+mean_length (pos zero) = omega (ints, epoch, none_after)
+mean_length (pos (suc n)) = omega (ints, epoch, years_after n, years_before n)
+mean_length (negsuc n) = omega (ints, epoch, years_before (suc n))
 
 -- a later year begins after the end of the year
 pub later_year : (x y : ℤ) → x <ℤ y → first_day (x +ℤ pos 1) ≤ℤ first_day y
 later_year x y less = by_lt_z (x +ℤ pos 1) y
-    (λ apart. let long = mean_length (x +ℤ pos 1) in let short = mean_length y in omega (arith, ints))
-    (λ next. let same : y ≡ x +ℤ pos 1 = omega (arith, ints) in rw same (omega (arith, ints)))
+    (λ apart. let long = mean_length (x +ℤ pos 1) in let short = mean_length y in omega ints)
+    (λ next. let same : y ≡ x +ℤ pos 1 = omega ints in rw same (omega ints))

@@ -3,7 +3,7 @@ use Rattle.ratio64.proofs.Common.{◌≡◌, ◌≢◌, ◌-◌, ◌^◌, ◌<�
 use Rattle.ratio64.proofs.DecimalOrder.{quintillion}
 use Rattle.ratio64.proofs.DecimalTexts.{ten_up}
 use Rattle.ratio64.proofs.ReadDecimals.{only_kept}
-use Rattle.ratio64.proofs.ReadTexts.{same_number}
+use Rattle.ratio64.proofs.ReadTexts.{same_number, same_result}
 use Rattle.ratio64.proofs.SpelledDecimals.{decimal_spelled}
 use Rattle.ratio64.specs.Decimal.{SpellsDecimal, quintillionths_of}
 use Rattle.ratio64.specs.DecimalText.{AnswersDecimal, AreKept, ReadsDecimal}
@@ -34,7 +34,7 @@ decimal_of_parts_is_only x y p q = λ i. record {
 -- ---- the order is that of fractions
 
 product_up : (m n : ℕ) → 0 < m → 0 < n → pos 0 <ℤ (pos m *ℤ pos n)
-product_up m n m_up n_up = let up = mul-pos m_up n_up in omega (arith, products)
+product_up m n m_up n_up = let up = mul-pos m_up n_up in omega products
 
 pub decimals_compare_as_fractions : DecimalsCompareAsFractions
 decimals_compare_as_fractions x y =
@@ -51,7 +51,7 @@ decimals_compare_as_fractions x y =
     let left : (p *ℤ q) *ℤ (units_of x *ℤ s) ≡ k *ℤ (units_of x *ℤ q) = rw (← p_all) (simp expand) in
     let right : (p *ℤ q) *ℤ (units_of y *ℤ t) ≡ k *ℤ (units_of y *ℤ p) = rw (← q_all) (simp expand) in
     let both = int_cmp_times (p *ℤ q) (quintillionths_of x) (quintillionths_of y) (product_up (10 ^ places_of x) (10 ^ places_of y) p_up q_up) in
-    let cross = int_cmp_times k (units_of x *ℤ q) (units_of y *ℤ p) (omega (arith, linear)) in
+    let cross = int_cmp_times k (units_of x *ℤ q) (units_of y *ℤ p) (omega linear) in
     both ∙ ap (λ (z : ℤ). int_cmp z ((p *ℤ q) *ℤ (units_of y *ℤ t))) left ∙ ap (λ (z : ℤ). int_cmp (k *ℤ (units_of x *ℤ q)) z) right ∙ sym cross
 
 -- ---- the numbers that a string spells have one result
@@ -68,7 +68,8 @@ too_large x own other big =
     let same = ap unsigned_abs (only_kept other own) in
     absurd (omega (arith, same))
 
-only_number : {u : ℤ} {p : ℕ} (r s : Result Decimal ParseDecimalError) → AnswersDecimal u p r → AnswersDecimal u p s → r ≢ Err NotADecimal → s ≢ Err NotADecimal → r ≡ s
+only_number : {u : ℤ} {p : ℕ} (r s : Result Decimal ParseDecimalError) → AnswersDecimal u p r → AnswersDecimal u p s → r ≢ Err NotADecimal
+    → s ≢ Err NotADecimal → r ≡ s
 only_number (Err NotADecimal) s h k m n = absurd (m refl)
 only_number r (Err NotADecimal) h k m n = absurd (n refl)
 only_number (Ok x) (Ok y) h k m n = ap Ok (decimal_of_parts_is_only x y (only_kept h.number.0 k.number.0) (h.number.1 ∙ sym k.number.1))
@@ -92,20 +93,19 @@ same_error TooManyPlaces TooManyPlaces h = refl
 same_error NotFitting NotFitting h = refl
 same_error _ _ h = absurd (h (λ e. absurd cc))
 
-same_read : (r s : Result Decimal ParseDecimalError) → ¬ (¬ (r ≡ s)) → r ≡ s
-same_read (Ok x) (Ok y) h = ap Ok (decimal_of_parts_is_only x y
-    (same_number (units_of x) (units_of y) (λ other. h (λ e. let same : x ≡ y = cc in other (ap units_of same))))
-    (same_places (places_of x) (places_of y) (λ other. h (λ e. let same : x ≡ y = cc in other (ap places_of same)))))
-same_read (Err e) (Err f) h = ap Err (same_error e f (λ other. h (λ same. let one : e ≡ f = cc in other one)))
-same_read _ _ h = absurd (h (λ same. absurd cc))
+same_decimal : (x y : Decimal) → ¬ (¬ (x ≡ y)) → x ≡ y
+same_decimal x y h =
+    decimal_of_parts_is_only x y (same_number _ _ (λ other. h (λ e. other (ap units_of e)))) (same_places _ _ (λ other. h (λ e. other (ap places_of e))))
 
 -- a string that spells a number is not rejected
-spelled_read : {text : List ℕ} {u : ℤ} {p : ℕ} {r : Result Decimal ParseDecimalError} → ReadsDecimal text r → SpellsDecimal text u p → r ≢ Err NotADecimal
+spelled_read : {text : List ℕ} {u : ℤ} {p : ℕ} {r : Result Decimal ParseDecimalError} → ReadsDecimal text r → SpellsDecimal text u p
+    → r ≢ Err NotADecimal
 spelled_read {u = u} {p = p} h s e = h.not_a_decimal.0 e u p s
 
 pub read_decimal_is_only : ReadDecimalIsOnly
-read_decimal_is_only text r s h k = same_read r s (λ other.
-    let none : (u : ℤ) (p : ℕ) → ¬ (SpellsDecimal text u p) = λ u p spelled. other (only_number r s (h.answer u p spelled) (k.answer u p spelled) (spelled_read h spelled) (spelled_read k spelled)) in
+read_decimal_is_only text r s h k = same_result same_decimal same_error r s (λ other.
+    let none : (u : ℤ) (p : ℕ) → ¬ (SpellsDecimal text u p) =
+    λ u p spelled. other (only_number r s (h.answer u p spelled) (k.answer u p spelled) (spelled_read h spelled) (spelled_read k spelled)) in
     other (h.not_a_decimal.1 none ∙ sym (k.not_a_decimal.1 none)))
 
 -- ---- what is printed is read back

@@ -1,6 +1,6 @@
 -- The strings of decimal numbers: their digits as they are written.
-use Rattle.ratio64.proofs.Common.{◌≡◌, ◌≤◌, ◌+◌, ◌-◌, ◌*◌, ◌/◌, ◌%◌, ◌^◌, ◌<◌, ◌++◌, ℕ, zero, suc, ℤ, List, [], ◌∷◌, false, length, pos, replicate, unsigned_abs, FitsSigned, OnOk, Result, WritesInCalls, decimal, format_spec, sign_text, styled_decimal, is_negative, w64, append_assoc, arith, ap, inl, inr, refl, subst, sym, ◌∙◌, cases_lt, ints, decimal_digit, decimal_step, append-nil, length-append, pow-succ', decimal_text, last_digits, pow-le-pow_right, mod-add-div, replicate_more, one-le-pow}
-use Rattle.std.specs.Fmt.{char_count, padded_integral}
+use Rattle.ratio64.proofs.Common.{◌≡◌, ◌≤◌, ◌+◌, ◌-◌, ◌*◌, ◌/◌, ◌%◌, ◌^◌, ◌<◌, ◌++◌, ℕ, zero, suc, ℤ, List, [], ◌∷◌, false, length, pos, replicate, unsigned_abs, FitsSigned, OnOk, Result, WritesInCalls, decimal, sign_text, is_negative, w64, append_assoc, arith, ap, inl, inr, refl, subst, sym, ◌∙◌, cases_lt, ints, decimal_digit, decimal_step, append-nil, length-append, pow-succ', decimal_text, last_digits, pow-le-pow_right, mod-add-div, replicate_more, one-le-pow}
+use Rattle.std.specs.Fmt.{char_count, padded_integral, format_spec, styled_decimal}
 
 -- ---- powers of ten
 
@@ -49,7 +49,8 @@ last_of_rest k n = sym (last_of_sum k (n % 10 ^ k) (n / 10 ^ k)) ∙ ap (last_di
 
 -- ---- what is written
 
-zero_padded : (k n : ℕ) → padded_integral (format_spec 32 0 4 k 18446744073709551615) false [] (decimal n) ≡ replicate (k - length (decimal n)) 48 ++ decimal n
+zero_padded : (k n : ℕ)
+    → padded_integral (format_spec 32 0 4 k 18446744073709551615) false [] (decimal n) ≡ replicate (k - length (decimal n)) 48 ++ decimal n
 unfolding padded_integral char_count
 zero_padded k n = grind (arith, append-nil)
 
@@ -57,7 +58,8 @@ pub some_padded : (k n : ℕ) → 0 < k → n < 10 ^ k → n < 2 ^ 64 → styled
 some_padded zero n some small fits = absurd (omega arith)
 some_padded (suc k) n some small fits = grind (arith, zero_padded, filled_is)
 
-pub integer_text : (units : ℤ) (places : ℕ) → places ≡ 0 → sign_text (is_negative units) ++ decimal (unsigned_abs units / 10 ^ places) ≡ decimal_text units places
+pub integer_text : (units : ℤ) (places : ℕ) → places ≡ 0
+    → sign_text (is_negative units) ++ decimal (unsigned_abs units / 10 ^ places) ≡ decimal_text units places
 unfolding last_digits
 integer_text units places none = grind (arith, append-nil)
 
@@ -66,17 +68,18 @@ pub places_text : (units : ℤ) (places : ℕ) → 0 < places → places ≤ 18
 places_text units places some few = grind (arith, ten_up, ten_grows, some_padded, last_of_rest, append_assoc)
 
 -- the same text in another form
-pub same_written : {W A E : Type 0} (took : W → List ℕ → W → Type 0) (r : Result A E) (w : W) (a b : List ℕ) (v : W) → a ≡ b → OnOk r (WritesInCalls took w a v) → OnOk r (WritesInCalls took w b v)
+pub same_written : {W A E : Type 0} (took : W → List ℕ → W → Type 0) (r : Result A E) (w : W) (a b : List ℕ) (v : W) → a ≡ b
+    → OnOk r (WritesInCalls took w a v) → OnOk r (WritesInCalls took w b v)
 same_written took r w a b v e = subst (λ (t : List ℕ). OnOk r (WritesInCalls took w t v)) e
 
 -- ---- which powers of ten fit
 
 pub fitting_scale : (places : ℕ) → places ≤ 18 → FitsSigned w64 (pos (10 ^ places))
-fitting_scale places few = let most = ten_grows places 18 few in record { sfits = omega (arith, ints) }
+fitting_scale places few = let most = ten_grows places 18 few in record { sfits = omega ints }
 
 pub few_places : (places : ℕ) → FitsSigned w64 (pos (10 ^ places)) → places ≤ 18
 few_places places fits = elim (cases_lt 18 places) [
-  | inl more ↦ let least = ten_grows 19 places (omega arith) in let low = fits.sfits in absurd (omega (arith, ints))
+  | inl more ↦ let least = ten_grows 19 places (omega arith) in let low = fits.sfits in absurd (omega ints)
   | inr few ↦ few
 ]
 

@@ -20,7 +20,7 @@ module _ {a b n d : ℤ} (b_up : pos 0 <ℤ b) (exact : IsExact a b n d) where
   scale_up : 0 < unsigned_abs scale
   scale_up =
       let up : pos 0 <ℤ scale = factor_positive b_up exact.reduced.positive (common_factor exact).2 in
-      omega (arith, ints)
+      omega ints
 
   -- a gap from a/b is s times that from n/d
   gap_grown : (u v : ℤ) → gap a b u v ≡ gap n d u v * unsigned_abs scale

@@ -1,5 +1,5 @@
 -- Fractions that are decimal numbers with so many places.
-use Rattle.ratio64.proofs.Common.{◌≡◌, ◌<ℤ◌, ◌+ℤ◌, ◌*ℤ◌, ℤ, pos, arith, ap, comm, coprime_divides, expand, linear, sym, ◌∙◌, Divides, IsFloored, IsReduced, IsQuotient}
+use Rattle.ratio64.proofs.Common.{◌≡◌, ◌<ℤ◌, ◌+ℤ◌, ◌*ℤ◌, ℤ, pos, ap, comm, coprime_divides, expand, linear, sym, ◌∙◌, Divides, IsFloored, IsReduced, IsQuotient}
 use Rattle.num_integer.proofs.ForCallers.{only_pair_by_range}
 
 -- a power is a multiple of the denominator if the power times the numerator is
@@ -8,8 +8,8 @@ scale_divided x h = coprime_divides x.lowest h
 
 exact_quotient_is : {s d q r : ℤ} → pos 0 <ℤ d → IsFloored s d q r → Divides d s → q *ℤ d ≡ s
 exact_quotient_is {s} {d} {q} up h k =
-    let own : s ≡ k.factor *ℤ d +ℤ pos 0 = k.product ∙ comm d k.factor ∙ omega (arith, linear) in
-    let same = only_pair_by_range h own (omega (arith, linear)) up in
+    let own : s ≡ k.factor *ℤ d +ℤ pos 0 = k.product ∙ comm d k.factor ∙ omega linear in
+    let same = only_pair_by_range h own (omega linear) up in
     ap (λ (t : ℤ). t *ℤ d) (sym same.0) ∙ comm k.factor d ∙ sym k.product
 
 -- the units of the decimal number

@@ -1,5 +1,6 @@
 -- The exact result of a fraction: its parts by their gcd, with a positive denominator.
-use Rattle.ratio64.proofs.Common.{◌≡◌, ◌≢◌, ◌↔◌, ◌≤◌, ◌<ℤ◌, ◌≤ℤ◌, ◌*ℤ◌, ℤ, pos, negsuc, neg_ℤ, suc, int_div, unsigned_abs, arith, ap, refl, subst, sym, ◌∙◌, ints, Divides_refl, cancel, comm, divided_by_gcd, divisor_at_most, exact_quotient, expand, factor_positive, gcd_divisor, gcd_nonzero, gcd_positive, linear, mul-one, one_divides, products, gcd_exists, Divides, IsGreatestCommonDivisor, AreEqual, IsExact, IsFraction, IsReduced, positive_is_nonzero, same_pair, le_refl, divisor_size, neg_mul, mul_neg}
+use Rattle.num_integer.proofs.ForCallers.{divided_by_gcd, divisor_size, exact_quotient, gcd_divisor, gcd_nonzero, gcd_positive, mul_neg}
+use Rattle.ratio64.proofs.Common.{◌≡◌, ◌≢◌, ◌↔◌, ◌≤◌, ◌<ℤ◌, ◌≤ℤ◌, ◌*ℤ◌, ℤ, pos, negsuc, neg_ℤ, suc, int_div, unsigned_abs, arith, ap, refl, subst, sym, ◌∙◌, ints, Divides_refl, cancel, comm, divisor_at_most, expand, factor_positive, linear, mul-one, one_divides, products, gcd_exists, Divides, IsGreatestCommonDivisor, AreEqual, IsExact, IsFraction, IsReduced, positive_is_nonzero, same_pair, le_refl, neg_mul}
 
 -- ---- there is only one
 
@@ -8,7 +9,7 @@ equal_through : {a b c d e f : ℤ} → IsFraction a b → AreEqual a b c d → 
 equal_through {b = b} {c = c} {d = d} {e = e} {f = f} fraction h k =
     let left = simp expand at (ap (λ (t : ℤ). t *ℤ f) h.cross) in
     let right = simp expand at (ap (λ (t : ℤ). t *ℤ d) k.cross) in
-    record { cross = cancel b (c *ℤ f) (e *ℤ d) fraction (simp expand (omega (arith, linear))) }
+    record { cross = cancel b (c *ℤ f) (e *ℤ d) fraction (simp expand (omega linear)) }
 
 pub only_exact_result : {a b p q r s : ℤ} → IsExact a b p q → IsExact a b r s → (p ≡ r) × (q ≡ s)
 only_exact_result x y = same_pair x.reduced y.reduced (equal_through x.fraction x.equal y.equal)
@@ -45,14 +46,14 @@ exact_quotients {a} {b} {g} up x =
 pub coprime_is_exact : {a b g : ℤ} → IsFraction a b → pos 0 ≤ℤ b → IsGreatestCommonDivisor a b g → g ≤ℤ pos 1 → IsExact a b a b
 coprime_is_exact {a} {b} {g} fraction up x small =
     let nonzero = gcd_nonzero x fraction in
-    let one : g ≡ pos 1 = omega (arith, linear) in
-    record { fraction = fraction; reduced = record { positive = omega (arith, linear); lowest = subst (IsGreatestCommonDivisor a b) one x }; equal = record { cross = refl } }
+    let one : g ≡ pos 1 = omega linear in
+    record { fraction = fraction; reduced = record { positive = omega linear; lowest = subst (IsGreatestCommonDivisor a b) one x }; equal = record { cross = refl } }
 
 pub exact_result_exists : (a b : ℤ) → IsFraction a b → (num den : ℤ) × IsExact a b num den
-exact_result_exists a (pos b) fraction = (_, _, exact_quotients (omega (arith, linear)) (gcd_exists a (pos b)).1)
+exact_result_exists a (pos b) fraction = (_, _, exact_quotients (omega linear) (gcd_exists a (pos b)).1)
 exact_result_exists a (negsuc b) fraction =
     let turned = neg_mul a (negsuc b) ∙ sym (mul_neg a (negsuc b)) in
-    (_, _, same_result fraction (record { cross = turned }) (exact_quotients (omega (arith, ints)) (gcd_exists (neg_ℤ a) (pos (suc b))).1))
+    (_, _, same_result fraction (record { cross = turned }) (exact_quotients (omega ints) (gcd_exists (neg_ℤ a) (pos (suc b))).1))
 
 -- ---- fractions that are reduced already
 
@@ -61,16 +62,16 @@ reduced_is_exact x = record { fraction = positive_is_nonzero x.positive; reduced
 
 -- a number over 1
 pub whole_is_exact : (n : ℤ) → IsExact n (pos 1) n (pos 1)
-whole_is_exact n = reduced_is_exact (record { positive = omega (arith, ints); lowest = gcd_divisor (one_divides n) })
+whole_is_exact n = reduced_is_exact (record { positive = omega ints; lowest = gcd_divisor (one_divides n) })
 
 -- a fraction whose numerator is 0 is 0/1
 pub zero_is_over_one : {n d : ℤ} → IsReduced n d → n ≡ pos 0 → d ≡ pos 1
-zero_is_over_one {n} {d} x none = (same_pair x (whole_is_exact (pos 0)).reduced (record { cross = rw none (omega (arith, products)) })).1
+zero_is_over_one {n} {d} x none = (same_pair x (whole_is_exact (pos 0)).reduced (record { cross = rw none (omega products) })).1
 
 -- the denominator divides the numerator exactly if it is 1
 pub whole_exactly : {n d : ℤ} → IsReduced n d → Divides d n ↔ (d ≡ pos 1)
 whole_exactly {n} {d} x = (
-  λ h. omega (arith, linear, x.positive, divisor_at_most (omega (arith, linear)) (x.lowest.greatest d h (Divides_refl d))),
+  λ h. omega (linear, x.positive, divisor_at_most (omega linear) (x.lowest.greatest d h (Divides_refl d))),
   λ one. rw one (one_divides n),
 )
 

@@ -9,13 +9,13 @@ common_factor {a} {b} {n} {d} h =
     (x.factor, cancel d a (n *ℤ x.factor) (positive_is_nonzero h.reduced.positive) (comm d a ∙ rw x.product at h.equal.cross ∙ simp expand), x.product)
 
 factor_at_most : (x y s : ℤ) → s ≢ pos 0 → x ≡ y *ℤ s → unsigned_abs y ≤ unsigned_abs x
-factor_at_most x y s nonzero e = rw (e, unsigned_abs-mul y s) (le-mul_of_pos_right (unsigned_abs y) (omega (arith, sizes)))
+factor_at_most x y s nonzero e = rw (e, unsigned_abs-mul y s) (le-mul_of_pos_right (unsigned_abs y) (omega sizes))
 
 -- they are no wider than those of the fraction
 pub exact_parts_at_most : {a b n d : ℤ} → IsExact a b n d → (unsigned_abs n ≤ unsigned_abs a) × (unsigned_abs d ≤ unsigned_abs b)
 exact_parts_at_most {a} {b} {n} {d} h =
     let s = common_factor h in
-    let nonzero : s.0 ≢ pos 0 = λ none. h.fraction (rw none at s.2 ∙ omega (arith, products)) in
+    let nonzero : s.0 ≢ pos 0 = λ none. h.fraction (rw none at s.2 ∙ omega products) in
     (factor_at_most a n s.0 nonzero s.1, factor_at_most b d s.0 nonzero s.2)
 
 pub small_parts_inside : {a b : ℤ} → unsigned_abs a < 2 ^ 63 → unsigned_abs b < 2 ^ 63 → ¬ (IsOutsideI64 a b)
@@ -32,11 +32,12 @@ positive_denominator_inside {a} {b} a_fits b_fits up far =
     let s = common_factor far.exact in
     let s_up = factor_positive up far.exact.reduced.positive s.2 in
     elim far.outside [
-      | inl outside ↦ outside (quotient_fits {r = pos 0} s_up (record { equation = omega (arith, linear, s.1); small = omega (arith, sizes) }) w64 a_fits)
-      | inr outside ↦ outside (quotient_fits {r = pos 0} s_up (record { equation = omega (arith, linear, s.2); small = omega (arith, sizes) }) w64 b_fits)
+      | inl outside ↦ outside (quotient_fits {r = pos 0} s_up (record { equation = omega (linear, s.1); small = omega sizes }) w64 a_fits)
+      | inr outside ↦ outside (quotient_fits {r = pos 0} s_up (record { equation = omega (linear, s.2); small = omega sizes }) w64 b_fits)
     ]
 
-pub positive_is_answered : {a b : ℤ} (r : Result Ratio RatioError) → FitsSigned w64 a → FitsSigned w64 b → AnswersFraction a b r → IfErr r (λ _. b ≤ℤ pos 0)
+pub positive_is_answered : {a b : ℤ} (r : Result Ratio RatioError) → FitsSigned w64 a → FitsSigned w64 b → AnswersFraction a b r
+    → IfErr r (λ _. b ≤ℤ pos 0)
 positive_is_answered (Ok x) a_fits b_fits h = tt
 positive_is_answered {b = b} (Err e) a_fits b_fits h = grind (arith, positive_denominator_inside)
 

@@ -1,12 +1,14 @@
 -- What a call returns for a fraction: its exact result, or an error.
-use Rattle.ratio64.proofs.Common.{◌≡◌, ◌≢◌, ◌↔◌, ◌*ℤ◌, ℤ, pos, Some, None, Result, Ok, Err, FitsSigned, IfOk, IsOk, w64, result_ok, ap, arith, inl, inr, refl, subst, sym, ◌∙◌, is_prop→PathP, cancel, comm, products, IsExact, IsOutsideI64, IsReduced, AnswerIsOnly, RatioOfPartsIsOnly, AnswersFraction, num_of, den_of, IsReduced_prop, Ratio, RatioError, ZeroDenominator, NotFitting}
+use Rattle.std.specs.Result.{result_ok}
+use Rattle.ratio64.proofs.Common.{◌≡◌, ◌≢◌, ◌↔◌, ◌*ℤ◌, ℤ, pos, Some, None, Result, Ok, Err, FitsSigned, IfOk, IsOk, w64, ap, inl, inr, refl, subst, sym, ◌∙◌, is_prop→PathP, cancel, comm, products, IsExact, IsOutsideI64, IsReduced, AnswerIsOnly, RatioOfPartsIsOnly, AnswersFraction, num_of, den_of, IsReduced_prop, Ratio, RatioError, ZeroDenominator, NotFitting}
 use Rattle.ratio64.proofs.ExactResults.{only_exact_result}
 
 -- ---- one of them
 
 -- fractions of the same parts are the same
 pub only_of_parts : RatioOfPartsIsOnly
-only_of_parts x y p q = λ i. record { num = p i; den = q i; reduced = is_prop→PathP (λ i. IsReduced (p i) (q i)) (λ i. IsReduced_prop (p i) (q i)) x.reduced y.reduced i }
+only_of_parts x y p q =
+    λ i. record { num = p i; den = q i; reduced = is_prop→PathP (λ i. IsReduced (p i) (q i)) (λ i. IsReduced_prop (p i) (q i)) x.reduced y.reduced i }
 
 -- so the exact result is one, and each error is told by its condition
 pub only_answer : AnswerIsOnly
@@ -30,7 +32,8 @@ exact_is_inside exact num_fits den_fits far =
     ]
 
 -- what a call returns if both parts of the exact result fit
-pub exact_answer : {a b : ℤ} (x : Ratio) → IsExact a b (num_of x) (den_of x) → FitsSigned w64 (num_of x) → FitsSigned w64 (den_of x) → AnswersFraction a b (Ok x)
+pub exact_answer : {a b : ℤ} (x : Ratio) → IsExact a b (num_of x) (den_of x) → FitsSigned w64 (num_of x) → FitsSigned w64 (den_of x)
+    → AnswersFraction a b (Ok x)
 exact_answer x exact num_fits den_fits = record {
   exact = exact;
   zero_denominator = (λ e. absurd cc, λ none. absurd (exact.fraction none));
@@ -39,7 +42,7 @@ exact_answer x exact num_fits den_fits = record {
 
 -- a product whose second factor is not 0 is 0 exactly if its first factor is
 pub zero_factor : {c b : ℤ} → b ≢ pos 0 → (c *ℤ b ≡ pos 0) ↔ (c ≡ pos 0)
-zero_factor {c} {b} nonzero = (λ e. cancel b c (pos 0) nonzero (comm b c ∙ e ∙ omega (arith, products)), λ none. rw none (omega (arith, products)))
+zero_factor {c} {b} nonzero = (λ e. cancel b c (pos 0) nonzero (comm b c ∙ e ∙ omega products), λ none. rw none (omega products))
 
 -- if the denominator is a product whose second factor is not 0, the error is `ZeroDenominator` exactly if the first is
 pub zero_exactly : {a b c : ℤ} {r : Result Ratio RatioError} → b ≢ pos 0 → AnswersFraction a (c *ℤ b) r → (r ≡ Err ZeroDenominator) ↔ (c ≡ pos 0)
@@ -71,7 +74,8 @@ at_some P (Ok y) {x} e h = let same : y ≡ x = cc in subst P same h
 at_some P (Err y) e h = absurd cc
 
 -- The fraction that `.ok()?` returns is the exact result.
-pub some_is_exact : {a b : ℤ} {x : Ratio} (r : Result Ratio RatioError) → Some x ≡ result_ok r → AnswersFraction a b r → IsExact a b (num_of x) (den_of x)
+pub some_is_exact : {a b : ℤ} {x : Ratio} (r : Result Ratio RatioError) → Some x ≡ result_ok r → AnswersFraction a b r
+    → IsExact a b (num_of x) (den_of x)
 some_is_exact {a} {b} r e h = at_some (λ x. IsExact a b (num_of x) (den_of x)) r e h.exact
 
 -- If `.ok()` is `None`, a part of the exact result does not fit, since the denominator is not 0.

@@ -7,7 +7,7 @@ use Rattle.ratio64.proofs.WideSums.{part_size}
 
 -- the power of a product
 pub power_of_product : (x y : ℤ) (k : ℕ) → int_pow (x *ℤ y) k ≡ int_pow x k *ℤ int_pow y k
-power_of_product x y zero = rw (int_pow_zero (x *ℤ y), int_pow_zero x, int_pow_zero y) (omega (arith, products))
+power_of_product x y zero = rw (int_pow_zero (x *ℤ y), int_pow_zero x, int_pow_zero y) (omega products)
 power_of_product x y (suc k) = rw (int_pow_suc (x *ℤ y) k, int_pow_suc x k, int_pow_suc y k, power_of_product x y k) (simp expand)
 
 -- it is not 0 if the number is not
@@ -15,8 +15,8 @@ pub power_nonzero : (x : ℤ) (k : ℕ) → x ≢ pos 0 → int_pow x k ≢ pos 
 power_nonzero x k nonzero none = grind (arith, one-le-pow)
 
 power_positive : (x : ℤ) (k : ℕ) → pos 0 <ℤ x → pos 0 <ℤ int_pow x k
-power_positive (pos n) k up = omega (arith, ints, one-le-pow k n (omega (arith, ints)))
-power_positive (negsuc n) k up = absurd (omega (arith, ints))
+power_positive (pos n) k up = omega (ints, one-le-pow k n (omega ints))
+power_positive (negsuc n) k up = absurd (omega ints)
 
 -- if it fits, so does the number
 at_most_power : (n k : ℕ) → 0 < k → n ≤ n ^ k
@@ -26,7 +26,8 @@ at_most_power (suc n) (suc k) up = rw (pow-succ' (suc n) k) (omega (arith, mul-l
 
 pub base_fits : (x : ℤ) (k : ℕ) → 0 < k → FitsSigned w64 (int_pow x k) → FitsSigned w64 x
 base_fits (pos n) k up fits = let low = fits.sfits in record { sfits = omega (arith, at_most_power n k up) }
-base_fits (negsuc n) k up fits = record { sfits = omega (arith, at_most_power (suc n) k up, power_size (negsuc n) k, part_size (int_pow (negsuc n) k) fits) }
+base_fits (negsuc n) k up fits =
+    record { sfits = omega (arith, at_most_power (suc n) k up, power_size (negsuc n) k, part_size (int_pow (negsuc n) k) fits) }
 
 -- ---- powers of fractions
 

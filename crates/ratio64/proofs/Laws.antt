@@ -28,7 +28,7 @@ reduced_pairs_are_equal_where_same = λ a b c d. equal_where_same
 -- ---- the order
 
 pub order_over_one_denominator : law.OrderOverOneDenominator
-order_over_one_denominator a c d up less = sym (int_cmp_is (a *ℤ d) (c *ℤ d) Less (omega (arith, linear, multiples_apart a c d up less)))
+order_over_one_denominator a c d up less = sym (int_cmp_is (a *ℤ d) (c *ℤ d) Less (omega (linear, multiples_apart a c d up less)))
 
 -- ---- small denominators
 
@@ -39,8 +39,8 @@ nearest_is_only = λ n d max num den x (u, v) y.
     let other_near = y.nearest num den x.positive x.bounded in
     let tie = x.tie u v y.positive y.bounded (omega arith) in
     let other_tie = y.tie num den x.positive x.bounded (omega arith) in
-    let same_den : v ≡ den = omega (arith, linear, tie.0, other_tie.0) in
-    let same_num : u ≡ num = omega (arith, linear, tie.1 same_den, other_tie.1 (sym same_den)) in
+    let same_den : v ≡ den = omega (linear, tie.0, other_tie.0) in
+    let same_num : u ≡ num = omega (linear, tie.1 same_den, other_tie.1 (sym same_den)) in
     rw (same_num, same_den) refl
 
 -- two nearest fractions tie, so their denominators are equal, and then the sizes of their numerators
@@ -50,7 +50,7 @@ nearest_parts_are_only = λ n d max num den x (u, v) y.
     let other_near = y.nearest num den x.positive x.bounded.0 x.bounded.1 in
     let tie = x.tie u v y.positive y.bounded.0 y.bounded.1 (omega arith) in
     let other_tie = y.tie num den x.positive x.bounded.0 x.bounded.1 (omega arith) in
-    let same_den : v ≡ den = omega (arith, linear, tie.0, other_tie.0) in
+    let same_den : v ≡ den = omega (linear, tie.0, other_tie.0) in
     let same_size : unsigned_abs u ≡ unsigned_abs num = omega (arith, tie.1 same_den, other_tie.1 (sym same_den)) in
     let same_num = same_numerator x (rw same_den at y) same_size in
     rw (same_num, same_den) refl

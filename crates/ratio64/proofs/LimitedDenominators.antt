@@ -6,7 +6,7 @@ use Rattle.ratio64.proofs.ReducedParts.{remainder_reduced}
 
 -- a reduced fraction has the smallest denominator of all fractions that are equal to it
 pub lowest_natural : {n d : ℕ} → IsReduced (pos n) (pos d) → (a b : ℕ) → 0 < b → n * b ≡ a * d → d ≤ b
-lowest_natural {n} {d} x a b up e = omega (arith, ints, (equal_least {a = pos n} {b = pos d} {u = pos a} {v = pos b} x (omega (arith, ints)) (ap pos e)).0)
+lowest_natural {n} {d} x a b up e = omega (ints, (equal_least {a = pos n} {b = pos d} {u = pos a} {v = pos b} x (omega ints) (ap pos e)).0)
 
 -- ---- the integer added
 
@@ -20,15 +20,15 @@ pub record IsSplit (m bottom w : ℤ) (n d : ℕ) : Type 0 where
 shifted : {n d max a b : ℤ} (w m : ℤ) → m ≡ w *ℤ d +ℤ n → IsNearestWithin n d max a b → IsNearestWithin m d max (w *ℤ b +ℤ a) b
 shifted {n} {d} {max} {a} {b} w m e x =
     let times : (v : ℤ) → m *ℤ v ≡ (w *ℤ d +ℤ n) *ℤ v = λ v. ap (λ (t : ℤ). t *ℤ v) e in
-    let own : gap m d (w *ℤ b +ℤ a) b ≡ gap n d a b = rw (times b) (simp expand (omega (arith, sizes))) in
-    let other : (u v : ℤ) → gap m d u v ≡ gap n d (u -ℤ w *ℤ v) v = λ u v. rw (times v) (simp expand (omega (arith, sizes))) in
+    let own : gap m d (w *ℤ b +ℤ a) b ≡ gap n d a b = rw (times b) (simp expand (omega sizes)) in
+    let other : (u v : ℤ) → gap m d u v ≡ gap n d (u -ℤ w *ℤ v) v = λ u v. rw (times v) (simp expand (omega sizes)) in
     record {
       positive = x.positive;
       bounded = x.bounded;
       nearest = λ u v up most. rw (own, other u v) (x.nearest (u -ℤ w *ℤ v) v up most);
       tie = λ u v up most tie.
           let least = x.tie (u -ℤ w *ℤ v) v up most (rw (own, other u v) at tie) in
-          (least.0, λ one. let low = rw one at (least.1 one) in omega (arith, linear));
+          (least.0, λ one. let low = rw one at (least.1 one) in omega linear);
     }
 
 -- the parts of a/b are at most those of n/d, and so is what a leaves of b
@@ -64,11 +64,11 @@ nearer_is_limited {n} {d} {max} {x} {y} {z} h none near =
       | inl k ↦ rw k.0 (h.bounded.0, part_of x.gap y.gap made.0 made.1 h.gaps.1 h.nums.0 h.nums.1)
       | inr k ↦ rw k.0 (h.bounded.1, part_of y.gap x.gap (omega (arith, made.0)) (omega (arith, made.1)) h.gaps.0 h.nums.1 h.nums.0)
     ] in
-    let nearest = λ (u v : ℤ) (v_up : pos 0 <ℤ v) (most : v ≤ℤ pos max). is.1 u v v_up (inl (h.dens.1, omega (arith, ints))) in
+    let nearest = λ (u v : ℤ) (v_up : pos 0 <ℤ v) (most : v ≤ℤ pos max). is.1 u v v_up (inl (h.dens.1, omega ints)) in
     record {
       nearest = record {
         positive = is.0.positive;
-        bounded = omega (arith, ints, chosen.0);
+        bounded = omega (ints, chosen.0);
         nearest = λ u v up most. (nearest u v up most).0;
         tie = λ u v up most. (nearest u v up most).1;
       };
@@ -82,4 +82,4 @@ module _ {m bottom w : ℤ} {n d max : ℕ} {z : Neighbour} (split : IsSplit m b
   nearest_with_whole = rw (← split.den) (shifted w m split.equation h.nearest)
 
   pub reduced_with_whole : IsReduced (w *ℤ pos z.den +ℤ pos z.num) (pos z.den)
-  reduced_with_whole = remainder_reduced (neg_ℤ w) h.reduced (simp neg_mul (omega (arith, linear)))
+  reduced_with_whole = remainder_reduced (neg_ℤ w) h.reduced (simp neg_mul (omega linear))

@@ -168,7 +168,7 @@ units_text true zero p some many = absurd (omega (arith, some refl))
 units_text true (suc size) p some many = rw (point_is p many) refl
 
 product_sign : (n : ℤ) (t : ℕ) → 0 < t → is_negative (n *ℤ pos t) ≡ is_negative n
-product_sign n t up = grind (arith, linear, multiples_apart n (pos 0) (pos t), multiples_apart (pos 0) n (pos t))
+product_sign n t up = grind (linear, multiples_apart n (pos 0) (pos t), multiples_apart (pos 0) n (pos t))
 
 -- the places of n / d
 abbrev rounded_places : ℤ → ℤ → ℕ → List ℕ
@@ -179,9 +179,9 @@ many_places_text : (n d : ℤ) (p : ℕ) → pos 0 <ℤ d → unsigned_abs d < 2
     → decimal_text (rounded_even (n *ℤ pos (10 ^ p)) d) p
     ≡ sign_text (is_negative n) ++ ((decimal (unsigned_abs n / unsigned_abs d) ++ codes ".") ++ rounded_places n d p)
 many_places_text n d p up few many =
-    let some : 0 < unsigned_abs d = omega (arith, sizes) in
+    let some : 0 < unsigned_abs d = omega sizes in
     let size = half_even (unsigned_abs n * 10 ^ p) (unsigned_abs d) in
-    let negative : is_negative n ≡ true → 0 < size = λ e. size_up n (unsigned_abs d) p some few many (grind (arith, sizes)) in
+    let negative : is_negative n ≡ true → 0 < size = λ e. size_up n (unsigned_abs d) p some few many (grind sizes) in
     let text = units_text (is_negative n) size p negative (omega arith) in
     rw (product_sign n (10 ^ p) (ten_up p), unsigned_abs-mul n (pos (10 ^ p))) (rw (whole_is n (unsigned_abs d) p some few many) at text)
 

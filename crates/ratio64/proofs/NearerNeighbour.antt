@@ -15,9 +15,9 @@ equal_least {a} {b} {u} x up e = (
 pub itself_is_nearest : {n d u v : ℤ} → IsReduced n d → pos 0 <ℤ v → (gap n d n d * unsigned_abs v ≤ gap n d u v * unsigned_abs d)
     × (gap n d n d * unsigned_abs v ≡ gap n d u v * unsigned_abs d → (d ≤ℤ v) × (v ≡ d → n ≡ u))
 itself_is_nearest {n} {d} {u} {v} x up =
-    let own : gap n d n d ≡ 0 = omega (arith, sizes) in
-    let apart = le-mul_of_pos_right {m = unsigned_abs d} (gap n d u v) (omega (arith, sizes, x.positive)) in
-    rw own (omega arith, λ same. equal_least {u = u} x up (omega (arith, sizes)))
+    let own : gap n d n d ≡ 0 = omega sizes in
+    let apart = le-mul_of_pos_right {m = unsigned_abs d} (gap n d u v) (omega (sizes, x.positive)) in
+    rw own (omega arith, λ same. equal_least {u = u} x up (omega sizes))
 
 -- numbers of which a combination is 1
 reduced_by : (x y a b : ℤ) → pos 0 <ℤ b → x *ℤ a +ℤ y *ℤ b ≡ pos 1 → IsReduced a b
@@ -46,16 +46,16 @@ IsPast n d x a v = gap (pos n) (pos d) a v * x.den ≡ x.gap * unsigned_abs v + 
 -- numbers of which such a combination is small are not both negative
 not_both : {i j k : ℤ} (b e : ℕ) → 0 < b → 0 < e → i *ℤ pos e +ℤ j *ℤ pos b ≡ neg_ℤ k → k <ℤ pos (b + e) → i <ℤ pos 0 → pos 0 ≤ℤ j
 not_both {i} {j} b e b_up e_up both small under = from_not_less (λ low.
-    let i_less = multiples_apart i (pos 0) (pos e) (omega (arith, ints)) under in
-    let j_less = multiples_apart j (pos 0) (pos b) (omega (arith, ints)) low in
-    omega (arith, ints, products, both))
+    let i_less = multiples_apart i (pos 0) (pos e) (omega ints) under in
+    let j_less = multiples_apart j (pos 0) (pos b) (omega ints) low in
+    omega (ints, products, both))
 
 past_size : (z v i : ℤ) (d b g : ℕ) → z *ℤ pos b ≡ pos g *ℤ v +ℤ pos d *ℤ i → pos 0 <ℤ v → pos 0 ≤ℤ i
     → unsigned_abs z * b ≡ g * unsigned_abs v + d * unsigned_abs i
 past_size z v i d b g e v_up up = grind arith
 
 turned_size : (x y : ℤ) → unsigned_abs (x -ℤ y) ≡ unsigned_abs (y -ℤ x)
-turned_size x y = omega (arith, sizes)
+turned_size x y = omega sizes
 
 -- a fraction that does not lie between the two is past one of them
 past_one : {n d : ℕ} {l u : Neighbour} {a v : ℤ} → AreAround n d l u → pos 0 <ℤ v → IsOutside l u a v → IsPast n d l a v ⊎ IsPast n d u a v
@@ -69,12 +69,12 @@ past_one {n} {d} {l} {u} {a} {v} h v_up outside =
     by_lt_z i (pos 0)
     (λ under.
     let up : pos 0 ≤ℤ j = elim outside [
-      | inl k ↦ not_both {i = i} {k = v} l.den u.den h.ups.1 k.0 (simp expand (omega (arith, products))) k.1 under
-      | inr k ↦ not_both {i = i} {k = a} l.num u.num k.0 k.1 (simp expand (omega (arith, products))) k.2 under
+      | inl k ↦ not_both {i = i} {k = v} l.den u.den h.ups.1 k.0 (simp expand (omega products)) k.1 under
+      | inr k ↦ not_both {i = i} {k = a} l.num u.num k.0 k.1 (simp expand (omega products)) k.2 under
     ] in
-    let far = past_size (a *ℤ pos d -ℤ pos n *ℤ v) v j d u.den u.gap (simp expand (omega (arith, products))) v_up up in
+    let far = past_size (a *ℤ pos d -ℤ pos n *ℤ v) v j d u.den u.gap (simp expand (omega products)) v_up up in
     inr (rw (turned_size (pos n *ℤ v) (a *ℤ pos d), turned_size (pos u.num *ℤ v) (a *ℤ pos u.den)) far))
-    (λ up. inl (past_size (pos n *ℤ v -ℤ a *ℤ pos d) v i d l.den l.gap (simp expand (omega (arith, products))) v_up up))
+    (λ up. inl (past_size (pos n *ℤ v -ℤ a *ℤ pos d) v i d l.den l.gap (simp expand (omega products)) v_up up))
 
 -- ---- the nearest
 
@@ -122,28 +122,28 @@ module _ {n d : ℕ} {x y : Neighbour} (h : IsFirst n d x y) (a : ℤ) {v : ℤ}
       rw h.own (
         omega arith,
         λ tie.
-            let least = equal_least {u = a} h.reduced up (omega (arith, sizes)) in
-            (least.0, λ same. omega (arith, linear, least.1 same)),
+            let least = equal_least {u = a} h.reduced up (omega sizes) in
+            (least.0, λ same. omega (linear, least.1 same)),
       )
 
   -- a fraction behind the farther one is not nearer, and equally near only if it is equal to the farther one
   near_behind_other : IsPast n d y a v → IsAsNear n d x a v
   near_behind_other past =
-      let x_up : 0 < x.den = omega (arith, ints, h.reduced.positive) in
-      let v_up : 0 < unsigned_abs v = omega (arith, sizes) in
+      let x_up : 0 < x.den = omega (ints, h.reduced.positive) in
+      let v_up : 0 < unsigned_abs v = omega sizes in
       let ups : (0 < d) × (0 < x.den) × (0 < y.gap) × (0 < unsigned_abs v) = (h.ups.0, x_up, h.ups.1, v_up) in
       let farther = past_farther (gap (pos n) (pos d) a v) x.den y.den x.gap y.gap (unsigned_abs v) d _ past h.near ups in
       rw h.own (
         farther.0,
         λ tie.
             let level = farther.1 tie in
-            let least = equal_least {u = a} (h.other level.1) up (omega (arith, sizes, level.0)) in
+            let least = equal_least {u = a} (h.other level.1) up (omega (sizes, level.0)) in
             let less = h.smaller level.2 in
-            let even : v ≡ pos x.den → y.den ≡ x.den = λ same. omega (arith, ints, least.0, less.0) in
+            let even : v ≡ pos x.den → y.den ≡ x.den = λ same. omega (ints, least.0, less.0) in
             let numerators : v ≡ pos x.den → pos x.num ≤ℤ a = λ same.
-            let level_dens : v ≡ pos y.den = omega (arith, ints, even same) in
-            omega (arith, ints, least.1 level_dens, less.1 (even same)) in
-            (omega (arith, ints, least.0), numerators),
+            let level_dens : v ≡ pos y.den = omega (ints, even same) in
+            omega (ints, least.1 level_dens, less.1 (even same)) in
+            (omega (ints, least.0), numerators),
       )
 
   near_behind : IsPast n d x a v ⊎ IsPast n d y a v → IsAsNear n d x a v
@@ -155,12 +155,12 @@ pub nearer_is_nearest : {n d : ℕ} {l u z : Neighbour} → AreAround n d l u �
 nearer_is_nearest {n} {d} {l} {u} h near =
     let left = neg_mul (pos u.den) (pos l.num) in
     let right = neg_mul (pos l.num) (pos u.den) in
-    let lower = reduced_by (neg_ℤ (pos u.den)) (pos u.num) (pos l.num) (pos l.den) (omega (arith, ints, h.ups)) (omega (arith, products)) in
+    let lower = reduced_by (neg_ℤ (pos u.den)) (pos u.num) (pos l.num) (pos l.den) (omega (ints, h.ups)) (omega products) in
     let upper = λ (up : 0 < u.den).
-    reduced_by (pos l.den) (neg_ℤ (pos l.num)) (pos u.num) (pos u.den) (omega (arith, ints)) (omega (arith, products)) in
+    reduced_by (pos l.den) (neg_ℤ (pos l.num)) (pos u.num) (pos u.den) (omega ints) (omega products) in
     elim near.is [
       | inl k ↦
-          let own : gap (pos n) (pos d) (pos l.num) (pos l.den) ≡ l.gap = omega (arith, sizes, h.from_below) in
+          let own : gap (pos n) (pos d) (pos l.num) (pos l.den) ≡ l.gap = omega (sizes, h.from_below) in
           let smaller : u.den ≡ l.den → l.num ≤ u.num = λ same.
           le_of_mul-le-mul_right {m = l.num} {n = u.num} {k = l.den} (omega (arith, rw same at h.adjacent)) h.ups.1 in
           let first : IsFirst n d l u = record {
@@ -173,7 +173,7 @@ nearer_is_nearest {n} {d} {l} {u} h near =
           } in
           rw k.0 (lower, λ a v up outside. near_behind first a up (past_one h up outside))
       | inr k ↦
-          let own : gap (pos n) (pos d) (pos u.num) (pos u.den) ≡ u.gap = omega (arith, sizes, h.from_above) in
+          let own : gap (pos n) (pos d) (pos u.num) (pos u.den) ≡ u.gap = omega (sizes, h.from_above) in
           let some = mul-pos h.ups.3 h.ups.1 in
           let reduced = upper (positive_by_product l.gap u.den (omega (arith, k.1))) in
           let larger : u.gap * l.den ≡ l.gap * u.den → (u.den ≤ l.den) × (l.den ≡ u.den → u.num ≤ l.num) = λ tie.

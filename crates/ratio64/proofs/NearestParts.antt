@@ -7,12 +7,12 @@ use Rattle.ratio64.proofs.NearerNeighbour.{AreAround, IsOutside, nearer_is_neare
 -- ---- the sign
 
 turned : (n d u v : ℤ) → gap (neg_ℤ n) d u v ≡ gap n d (neg_ℤ u) v
-turned n d u v = omega (arith, sizes, neg_mul n v, neg_mul u d)
+turned n d u v = omega (sizes, neg_mul n v, neg_mul u d)
 
 negated_parts : {n d max a b : ℤ} → AreNearestParts n d max a b → AreNearestParts (neg_ℤ n) d max (neg_ℤ a) b
 negated_parts {n} {d} {max} {a} {b} x =
-    let twice : neg_ℤ (neg_ℤ a) ≡ a = omega (arith, sizes) in
-    let size : (u : ℤ) → unsigned_abs (neg_ℤ u) ≡ unsigned_abs u = λ u. omega (arith, sizes) in
+    let twice : neg_ℤ (neg_ℤ a) ≡ a = omega sizes in
+    let size : (u : ℤ) → unsigned_abs (neg_ℤ u) ≡ unsigned_abs u = λ u. omega sizes in
     record {
       positive = x.positive;
       bounded = rw (size a) x.bounded;
@@ -25,38 +25,39 @@ negated_parts {n} {d} {max} {a} {b} x =
 -- the nearest parts of a magnitude, with the sign
 pub signed_parts : {d max b : ℤ} {a : ℕ} (n m : ℤ) → (n <ℤ pos 0 → m ≡ neg_ℤ (pos a)) → (pos 0 ≤ℤ n → m ≡ pos a)
     → AreNearestParts (pos (unsigned_abs n)) d max (pos a) b → AreNearestParts n d max m b
-signed_parts (pos n) m negative other x = rw (other (omega (arith, ints))) x
-signed_parts (negsuc n) m negative other x = rw (negative (omega (arith, ints))) (negated_parts x)
+signed_parts (pos n) m negative other x = rw (other (omega ints)) x
+signed_parts (negsuc n) m negative other x = rw (negative (omega ints)) (negated_parts x)
 
 pub signed_reduced : {b : ℤ} {a : ℕ} (n m : ℤ) → (n <ℤ pos 0 → m ≡ neg_ℤ (pos a)) → (pos 0 ≤ℤ n → m ≡ pos a) → IsReduced (pos a) b → IsReduced m b
-signed_reduced (pos n) m negative other x = rw (other (omega (arith, ints))) x
-signed_reduced (negsuc n) m negative other x = rw (negative (omega (arith, ints))) (negated_reduced x)
+signed_reduced (pos n) m negative other x = rw (other (omega ints)) x
+signed_reduced (negsuc n) m negative other x = rw (negative (omega ints)) (negated_reduced x)
 
 -- ---- no two over one denominator
 
 same_or_negated : (u num : ℤ) → unsigned_abs u ≡ unsigned_abs num → (u ≡ num) ⊎ (u ≡ neg_ℤ num)
-same_or_negated u num size = grind (arith, sizes)
+same_or_negated u num size = grind sizes
 
 -- two numerators of the same size and of two signs would both be farther than 0
 pub same_numerator : {n d max num u den : ℤ} → AreNearestParts n d max num den → AreNearestParts n d max u den
     → unsigned_abs u ≡ unsigned_abs num → u ≡ num
 same_numerator {n} {d} {max} {num} {u} {den} x y size =
-    let up : 0 < unsigned_abs den = omega (arith, sizes, x.positive) in
-    let low : pos (unsigned_abs (pos 0)) ≤ℤ max = omega (arith, sizes, x.positive, x.bounded.0) in
+    let up : 0 < unsigned_abs den = omega (sizes, x.positive) in
+    let low : pos (unsigned_abs (pos 0)) ≤ℤ max = omega (sizes, x.positive, x.bounded.0) in
     let own = le_of_mul-le-mul_right {m = gap n d num den} {n = gap n d (pos 0) den} {k = unsigned_abs den} (x.nearest (pos 0) den x.positive x.bounded.0 low) up in
     let other = le_of_mul-le-mul_right {m = gap n d u den} {n = gap n d (pos 0) den} {k = unsigned_abs den} (y.nearest (pos 0) den y.positive y.bounded.0 low) up in
     elim (same_or_negated u num size) [
       | inl same ↦ same
       | inr negated ↦
           let far = rw (negated, neg_mul num d) at other in
-          let same : gap n d num den ≡ gap n d (pos 0) den = omega (arith, sizes, products, own, far) in
+          let same : gap n d num den ≡ gap n d (pos 0) den = omega (sizes, products, own, far) in
           let least = (x.tie (pos 0) den x.positive x.bounded.0 low (ap (λ (t : ℕ). t * unsigned_abs den) same)).1 refl in
-          omega (arith, sizes, negated)
+          omega (sizes, negated)
     ]
 
 -- ---- a fraction below 1: the limit on the denominators decides
 
-pub parts_of_nearest : {n d max a b : ℕ} → a ≤ b → IsNearestWithin (pos n) (pos d) (pos max) (pos a) (pos b) → AreNearestParts (pos n) (pos d) (pos max) (pos a) (pos b)
+pub parts_of_nearest : {n d max a b : ℕ} → a ≤ b → IsNearestWithin (pos n) (pos d) (pos max) (pos a) (pos b)
+    → AreNearestParts (pos n) (pos d) (pos max) (pos a) (pos b)
 parts_of_nearest {n} {d} {max} {a} {b} proper x = grind arith
 
 -- ---- a fraction above 1: the limit on the numerators does
@@ -65,7 +66,7 @@ parts_of_nearest {n} {d} {max} {a} {b} proper x = grind arith
 pub above_one : {n d max : ℕ} → 0 < max → (max < n) ⊎ (max < d) → d ≤ n → IsReduced (pos n) (pos d) → d < n
 above_one {n} {d} {max} up above most x =
     let one : d ≡ n → pos d ≡ pos 1 = λ same. (whole_exactly x).0 (subst (λ (t : ℕ). Divides (pos d) (pos t)) same (Divides_refl (pos d))) in
-    grind (arith, ints)
+    grind ints
 
 abbrev pub reciprocal : Neighbour → Neighbour
 reciprocal x = record { num = x.den; den = x.num; gap = x.gap }
@@ -83,12 +84,12 @@ nearer_reciprocal {n} {d} {max} {x} {y} {z} h up none near =
       | inr k ↦ rw k.0 (omega (arith, h.nums, h.bounded), h.bounded.0)
     ] in
     let outside : (u v : ℤ) → pos (unsigned_abs u) ≤ℤ pos max → IsOutside (reciprocal y) (reciprocal x) u v = λ u v most.
-    inr (h.dens.1, h.dens.0, omega (arith, sizes)) in (
+    inr (h.dens.1, h.dens.0, omega sizes) in (
       record {
         positive = is.0.positive;
-        bounded = (omega (arith, ints, small.0), omega (arith, ints, small.1));
+        bounded = (omega (ints, small.0), omega (ints, small.1));
         nearest = λ u v up v_most u_most. (is.1 u v up (outside u v u_most)).0;
-        tie = λ u v up v_most u_most same. let own = (is.1 u v up (outside u v u_most)).1 same in (own.0, λ one. omega (arith, sizes, own.1 one));
+        tie = λ u v up v_most u_most same. let own = (is.1 u v up (outside u v u_most)).1 same in (own.0, λ one. omega (sizes, own.1 one));
       },
       is.0,
     )

@@ -4,7 +4,8 @@ use Rattle.ratio64.proofs.Common.{◌≡◌, ◌≢◌, ◌+◌, ◌-◌, ◌*�
 -- ---- the steps of one neighbour toward the other
 
 -- as many steps as leave a gap and keep the denominator within the limit
-pub steps_within : {steps gap num den max a b g : ℕ} → (0 < g) × (g < gap) → (0 < b) × (den + b ≤ max) → (num ≤ den) × (a ≤ b) → steps ≡ min ((gap - 1) / g) ((max - den) / b)
+pub steps_within : {steps gap num den max a b g : ℕ} → (0 < g) × (g < gap) → (0 < b) × (den + b ≤ max) → (num ≤ den) × (a ≤ b)
+    → steps ≡ min ((gap - 1) / g) ((max - den) / b)
     → (0 < steps) × (steps * g < gap) × (num + steps * a ≤ max) × (den + steps * b ≤ max)
 steps_within {steps} {gap} {num} {den} {max} {a} {b} {g} gaps dens nums is =
     let steps_gap : steps ≤ (gap - 1) / g = omega arith in
@@ -40,7 +41,8 @@ gaps_differ {n} {d} {max} {x} {y} h above lowest room most =
     omega arith
 
 -- the gaps by the parts make those of the fraction
-pub gaps_make : {n d max : ℕ} {x y : Neighbour} → AreNeighbours n d max x y → (d ≡ x.gap * y.den + y.gap * x.den) × (n ≡ x.gap * y.num + y.gap * x.num)
+pub gaps_make : {n d max : ℕ} {x y : Neighbour} → AreNeighbours n d max x y
+    → (d ≡ x.gap * y.den + y.gap * x.den) × (n ≡ x.gap * y.num + y.gap * x.num)
 gaps_make {n} {d} {max} {x} {y} h = (
   omega (arith, ap (λ (t : ℕ). t * y.den) h.from_below, ap (λ (t : ℕ). t * x.den) h.from_above, ap (λ (t : ℕ). t * d) h.adjacent),
   omega (arith, ap (λ (t : ℕ). t * y.num) h.from_below, ap (λ (t : ℕ). t * x.num) h.from_above, ap (λ (t : ℕ). t * n) h.adjacent),

@@ -27,7 +27,8 @@ shifted n d t v w u e f = rw (e, f) (omega arith)
 digits_after : (n : ℕ) (ds : List ℕ) → digits_value_after 10 n ds ≡ n * 10 ^ length ds + digits_value 10 ds
 digits_after n [] = omega arith
 digits_after n (c ∷ cs) =
-    let value : digits_value 10 (c ∷ cs) ≡ (0 * 10 + digit_value c) * 10 ^ length cs + digits_value 10 cs = digits_after (0 * 10 + digit_value c) cs in
+    let value : digits_value 10 (c ∷ cs) ≡ (0 * 10 + digit_value c) * 10 ^ length cs + digits_value 10 cs =
+    digits_after (0 * 10 + digit_value c) cs in
     let up : 10 ^ length (c ∷ cs) ≡ 10 * 10 ^ length cs = pow-succ' 10 (length cs) in
     digits_after (n * 10 + digit_value c) cs ∙ shifted n (digit_value c) (10 ^ length cs) (digits_value 10 cs) _ _ value up
 
@@ -105,7 +106,8 @@ length_kept ds = omega (arith, length-take 18 ds)
 
 -- ---- an integer and digits behind it
 
-pub front_kept : (w ds : List ℕ) → IsNumeral 10 (unsigned_part w) → (starts_with_minus (w ++ ds) ≡ starts_with_minus w) × (unsigned_part (w ++ ds) ≡ unsigned_part w ++ ds)
+pub front_kept : (w ds : List ℕ) → IsNumeral 10 (unsigned_part w)
+    → (starts_with_minus (w ++ ds) ≡ starts_with_minus w) × (unsigned_part (w ++ ds) ≡ unsigned_part w ++ ds)
 front_kept [] ds h = absurd (omega (arith, h.0))
 front_kept (c ∷ cs) ds h = elim (cases_Bool (c == 45)) [
   | inl minus ↦ rw minus (refl, refl)
@@ -139,7 +141,8 @@ alone_spelled text empty e h = rw e (parts_spelled (sym (append-nil (text ++ [])
 at_point : {text : List ℕ} {u : ℤ} {p : ℕ} (s : SpellsDecimal text u p) → (p == 0) ≡ false → (text ≡ s.whole ++ (46 ∷ s.part)) × (0 < length s.part)
 at_point s some = (rw some at s.parts ∙ append_assoc s.whole _ _, grind (arith, s.part_places))
 
-pub alone_unspelled : (text : List ℕ) (r : Option (Bor (List ℕ) × Bor (List ℕ))) → r ≡ None → IsSplitOnceResult 46 text r → ¬ (IsNumeral 10 (unsigned_part text)) → (u : ℤ) (p : ℕ) → ¬ (SpellsDecimal text u p)
+pub alone_unspelled : (text : List ℕ) (r : Option (Bor (List ℕ) × Bor (List ℕ))) → r ≡ None → IsSplitOnceResult 46 text r
+    → ¬ (IsNumeral 10 (unsigned_part text)) → (u : ℤ) (p : ℕ) → ¬ (SpellsDecimal text u p)
 alone_unspelled text r none h other u p s = elim (cases_Bool (p == 0)) [
   | inl whole ↦ other (subst (λ ds. IsNumeral 10 (unsigned_part ds)) (sym (alone s whole).0) s.whole_digits)
   | inr some ↦ split_after 46 text s.whole s.part None (subst (IsSplitOnceResult 46 text) none h) (omega arith) (at_point s some).0 (no_mark 46 s.whole (omega arith) s.whole_digits)
@@ -186,7 +189,7 @@ pub only_kept : {u k l : ℤ} {p : ℕ} → AreKept u p k → AreKept u p l → 
 only_kept {k = k} {l = l} {p = p} x y =
     let up = ten_up (p - 18) in
     let scale = pos (10 ^ (p - 18)) in
-    cancel scale k l (positive_is_nonzero (omega (arith, linear))) (comm scale k ∙ x.product ∙ sym y.product ∙ comm l scale)
+    cancel scale k l (positive_is_nonzero (omega linear)) (comm scale k ∙ x.product ∙ sym y.product ∙ comm l scale)
 
 module _ (w part : List ℕ) (whole : IsNumeral 10 (unsigned_part w)) (digits : AllDigits 10 part) where
   -- the integer whose digits stand before and after the point
@@ -201,23 +204,28 @@ module _ (w part : List ℕ) (whole : IsNumeral 10 (unsigned_part w)) (digits : 
   in_two : digits_value 10 (unsigned_part w ++ part) ≡ digits_value 10 (unsigned_part w ++ take 18 part) * 10 ^ (length part - 18) + digits_value 10 (drop 18 part)
   in_two =
       let cut = sym (take-append-drop 18 part) in
-      let all : unsigned_part w ++ part ≡ (unsigned_part w ++ take 18 part) ++ drop 18 part = ap (λ ds. unsigned_part w ++ ds) cut ∙ sym (append_assoc (unsigned_part w) (take 18 part) (drop 18 part)) in
+      let all : unsigned_part w ++ part ≡ (unsigned_part w ++ take 18 part) ++ drop 18 part =
+      ap (λ ds. unsigned_part w ++ ds) cut ∙ sym (append_assoc (unsigned_part w) (take 18 part) (drop 18 part)) in
       rw (all, ← (length-drop 18 part)) (digits_joined (unsigned_part w ++ take 18 part) (drop 18 part))
 
   pub own_kept : digits_value 10 (drop 18 part) ≡ 0 → AreKept (whole_of (w ++ part)) (length part) (whole_of (w ++ take 18 part))
   own_kept none =
-      let same : digits_value 10 (unsigned_part w ++ take 18 part) * 10 ^ (length part - 18) ≡ digits_value 10 (unsigned_part w ++ part) = omega (arith, in_two) in
+      let same : digits_value 10 (unsigned_part w ++ take 18 part) * 10 ^ (length part - 18) ≡ digits_value 10 (unsigned_part w ++ part) =
+      omega (arith, in_two) in
       record { product = rw (whole_joined part, whole_joined (take 18 part)) (signed_times (starts_with_minus w) _ _ ∙ ap (signed (starts_with_minus w)) same) }
 
   pub none_kept : 0 < digits_value 10 (drop 18 part) → (k : ℤ) → ¬ (AreKept (whole_of (w ++ part)) (length part) k)
   none_kept some k h =
-      let sizes : unsigned_abs k * 10 ^ (length part - 18) ≡ digits_value 10 (unsigned_part w ++ part) = sym (unsigned_abs-mul k (pos (10 ^ (length part - 18)))) ∙ ap unsigned_abs h.product ∙ joined_size part in
+      let sizes : unsigned_abs k * 10 ^ (length part - 18) ≡ digits_value 10 (unsigned_part w ++ part) =
+      sym (unsigned_abs-mul k (pos (10 ^ (length part - 18)))) ∙ ap unsigned_abs h.product ∙ joined_size part in
       let small = digits_value-lt 10 (drop 18 part) (all_digits_dropped 18 part digits) in
       not_multiple (unsigned_abs k) (digits_value 10 (unsigned_part w ++ take 18 part)) (10 ^ (length part - 18)) (digits_value 10 (drop 18 part)) some (rw (length-drop 18 part) at small) (sizes ∙ in_two)
 
   -- the units as `i128` computes them
-  pub kept_units : {r size : ℤ} → digits_value 10 (unsigned_part w ++ take 18 part) < 2 ^ 127 → size ≡ pos (digits_value 10 (unsigned_part w ++ take 18 part))
-      → r ≡ (if starts_with_minus w then neg_ℤ (to_z w128 (of_z w128 size)) else to_z w128 (of_z w128 size)) → (to_z w128 (of_z w128 r) ≡ whole_of (w ++ take 18 part)) × (unsigned_abs (to_z w128 (of_z w128 r)) < 2 ^ 127)
+  pub kept_units : {r size : ℤ} → digits_value 10 (unsigned_part w ++ take 18 part) < 2 ^ 127
+      → size ≡ pos (digits_value 10 (unsigned_part w ++ take 18 part))
+      → r ≡ (if starts_with_minus w then neg_ℤ (to_z w128 (of_z w128 size)) else to_z w128 (of_z w128 size))
+      → (to_z w128 (of_z w128 r) ≡ whole_of (w ++ take 18 part)) × (unsigned_abs (to_z w128 (of_z w128 r)) < 2 ^ 127)
   kept_units {r} {size} small e f =
       let size_read : to_z w128 (of_z w128 size) ≡ pos (digits_value 10 (unsigned_part w ++ take 18 part)) = read size (rw e small) ∙ e in
       let own : r ≡ whole_of (w ++ take 18 part) = f ∙ rw size_read (sym (whole_joined (take 18 part))) in
@@ -239,10 +247,12 @@ whole_size_is w = signed_size (starts_with_minus w) (digits_value 10 (unsigned_p
 -- ---- what the string is read as
 
 pub too_many_answer : {u : ℤ} {p : ℕ} → ((k : ℤ) → ¬ (AreKept u p k)) → AnswersDecimal u p (Err TooManyPlaces)
-too_many_answer none = record { number = tt; too_many_places = (λ e. none, λ h. refl); not_fitting = (λ e. absurd cc, λ big. absurd (none big.0 big.1)) }
+too_many_answer none =
+    record { number = tt; too_many_places = (λ e. none, λ h. refl); not_fitting = (λ e. absurd cc, λ big. absurd (none big.0 big.1)) }
 
 pub not_fitting_answer : {u : ℤ} {p : ℕ} (k : ℤ) → AreKept u p k → 2 ^ 127 ≤ unsigned_abs k → AnswersDecimal u p (Err NotFitting)
-not_fitting_answer k h big = record { number = tt; too_many_places = (λ e. absurd cc, λ none. absurd (none k h)); not_fitting = (λ e. (k, h, big), λ more. refl) }
+not_fitting_answer k h big =
+    record { number = tt; too_many_places = (λ e. absurd cc, λ none. absurd (none k h)); not_fitting = (λ e. (k, h, big), λ more. refl) }
 
 pub number_answer : {u : ℤ} {p : ℕ} (x : Decimal) → AreKept u p (units_of x) → places_of x ≡ min p 18 → AnswersDecimal u p (Ok x)
 number_answer x h places = record {
@@ -251,7 +261,8 @@ number_answer x h places = record {
   not_fitting = (λ e. absurd cc, λ big. let same = only_kept big.1 h in let small = x.below in absurd (omega (arith, ap unsigned_abs same, big.2)));
 }
 
-pub parts_read : {text w part : List ℕ} {result : Result Decimal ParseDecimalError} → AreParts text w part → AnswersDecimal (whole_of (w ++ part)) (length part) result → result ≢ Err NotADecimal → ReadsDecimal text result
+pub parts_read : {text w part : List ℕ} {result : Result Decimal ParseDecimalError} → AreParts text w part
+    → AnswersDecimal (whole_of (w ++ part)) (length part) result → result ≢ Err NotADecimal → ReadsDecimal text result
 parts_read {text} {w} {part} {result} own answer spelled = record {
   not_a_decimal = (λ e. absurd (spelled e), λ none. absurd (none _ _ own.spelled));
   answer = λ u p s.

@@ -1,7 +1,12 @@
 -- The strings of fractions, cut at the slash, and what they are read as.
-use Rattle.ratio64.proofs.Common.{◌≡◌, ◌≢◌, ◌⊎◌, ◌++◌, ◌∷◌, [], ◌<◌, ℕ, suc, List, codes, length, ℤ, Option, Some, None, Result, Err, FitsSigned, false, pos, negsuc, unwrap_or, Ok, unsigned_abs, AllDigits, IsNumeral, digits_value, starts_with_minus, decimal, signed_decimal, w64, int_eq, Bor, ap, append_assoc, arith, get_or, inl, inr, refl, sym, rules, subst, ◌∙◌, cases_Bool, Decides-int_eq, decimal_is_IsNumeral, get_or_at, length-append, not_in_digits, IsSplitOnceResult, split_after, split_parts, linear, ReadingIsOnly, TextIsReadBack, den_of, num_of, text_of, AnswersSpelled, HasLongPart, ReadsFraction, SpellsFraction, SpellsWhole, answer_read, unsigned_part, whole_of, Ratio, ParseRatioError, NotAFraction, TooLong, is_negative, sign_text}
+use Rattle.ratio64.specs.declared.parse.ParseRatioError.{ParseRatioError}
+use Rattle.ratio64.specs.RatioText.{AnswersSpelled, HasLongPart, ReadsFraction, SpellsFraction, SpellsWhole, answer_read}
+use Rattle.std.specs.Ordering.{int_eq}
+use Rattle.std.proofs.lemmas.Str.Parse.{not_in_digits}
+use Rattle.std.proofs.lemmas.Bool.Decides.{Decides-int_eq}
+use Rattle.ratio64.proofs.Common.{◌≡◌, ◌≢◌, ◌⊎◌, ◌++◌, ◌∷◌, [], ◌<◌, ℕ, suc, List, codes, length, ℤ, Option, Some, None, Result, Err, FitsSigned, false, pos, negsuc, unwrap_or, Ok, unsigned_abs, AllDigits, IsNumeral, digits_value, starts_with_minus, decimal, signed_decimal, w64, Bor, ap, append_assoc, arith, get_or, inl, inr, refl, sym, rules, subst, ◌∙◌, cases_Bool, decimal_is_IsNumeral, get_or_at, length-append, IsSplitOnceResult, split_after, split_parts, linear, ReadingIsOnly, TextIsReadBack, den_of, num_of, text_of, unsigned_part, whole_of, Ratio, is_negative, sign_text}
 use Rattle.num_integer.proofs.ForCallers.{decimal_model}
-use Rattle.ratio64.specs.declared.parse.ParseRatioError.TheVariants.{ZeroDenominator, NotFitting}
+use Rattle.ratio64.specs.declared.parse.ParseRatioError.TheVariants.{ZeroDenominator, NotFitting, NotAFraction, TooLong}
 use Rattle.ratio64.proofs.ExactResults.{reduced_is_exact}
 use Rattle.ratio64.proofs.FractionAnswers.{exact_answer, only_answer, only_of_parts}
 use Rattle.ratio64.proofs.WideSums.{part_size}
@@ -30,11 +35,13 @@ AreParts text num den = (text ≡ num ++ codes "/" ++ den) ⊎ ((text ≡ num) �
 
 -- what `split_once` cuts at the slash, or the string and `1`
 module _ {text : List ℕ} (t one : Bor (List ℕ)) (same : t.now ≡ text) (is_one : one.now ≡ codes "1") where
-  cut : (r : Option (Bor (List ℕ) × Bor (List ℕ))) → IsSplitOnceResult 47 text r → AreParts text (unwrap_or r (t, one)).0.now (unwrap_or r (t, one)).1.now
+  cut : (r : Option (Bor (List ℕ) × Bor (List ℕ))) → IsSplitOnceResult 47 text r
+      → AreParts text (unwrap_or r (t, one)).0.now (unwrap_or r (t, one)).1.now
   cut None h = inr (sym same, is_one)
   cut (Some x) h = inl ((split_parts 47 text (Some x) h (omega arith)).0 ∙ sym (append_assoc x.0.now (codes "/") x.1.now))
 
-  only_cut : (r : Option (Bor (List ℕ) × Bor (List ℕ))) (num den : List ℕ) → IsSplitOnceResult 47 text r → IsNumeral 10 (unsigned_part num) → AreParts text num den
+  only_cut : (r : Option (Bor (List ℕ) × Bor (List ℕ))) (num den : List ℕ) → IsSplitOnceResult 47 text r → IsNumeral 10 (unsigned_part num)
+      → AreParts text num den
       → ((unwrap_or r (t, one)).0.now ≡ num) × ((unwrap_or r (t, one)).1.now ≡ den)
   only_cut None num den h digits parts = elim parts [
     | inl slash ↦ absurd (split_after 47 text num den None h (omega arith) (slash ∙ append_assoc num _ _) (no_mark 47 num (omega arith) digits))
@@ -50,13 +57,15 @@ pub record AreCut (text num den : List ℕ) : Type 0 where
   pub parts : AreParts text num den
   pub only : (n d : List ℕ) → IsNumeral 10 (unsigned_part n) → AreParts text n d → (num ≡ n) × (den ≡ d)
 
-pub split_cuts : {text : List ℕ} {x : Bor (List ℕ) × Bor (List ℕ)} (t one : Bor (List ℕ)) (r : Option (Bor (List ℕ) × Bor (List ℕ))) → t.now ≡ text → one.now ≡ codes "1" → x ≡ unwrap_or r (t, one) → IsSplitOnceResult 47 text r → AreCut text x.0.now x.1.now
+pub split_cuts : {text : List ℕ} {x : Bor (List ℕ) × Bor (List ℕ)} (t one : Bor (List ℕ)) (r : Option (Bor (List ℕ) × Bor (List ℕ))) → t.now ≡ text
+    → one.now ≡ codes "1" → x ≡ unwrap_or r (t, one) → IsSplitOnceResult 47 text r → AreCut text x.0.now x.1.now
 split_cuts t one r same is_one is h = rw is (record { parts = cut t one same is_one r h; only = λ n d. only_cut t one same is_one r n d h })
 
 -- ---- what the string is read as
 
 -- no fraction, if a part is no integer
-pub other_text : {text num den : List ℕ} → AreCut text num den → ¬ (IsNumeral 10 (unsigned_part num) × IsNumeral 10 (unsigned_part den)) → ReadsFraction text (Err NotAFraction)
+pub other_text : {text num den : List ℕ} → AreCut text num den → ¬ (IsNumeral 10 (unsigned_part num) × IsNumeral 10 (unsigned_part den))
+    → ReadsFraction text (Err NotAFraction)
 other_text {text} {num} {den} cuts unspelled =
     let none : (a b : ℤ) → ¬ (SpellsFraction text a b) = λ a b s.
     let same = cuts.only s.num s.den s.num_spelled.digits s.parts in
@@ -64,7 +73,8 @@ other_text {text} {num} {den} cuts unspelled =
     record { not_a_fraction = (λ e. none, λ _. refl); answer = λ a b s. absurd (none a b s) }
 
 -- the fraction of the two parts, if both are integers
-pub spelled_text : {text num den : List ℕ} {result : Result Ratio ParseRatioError} → AreCut text num den → IsNumeral 10 (unsigned_part num) → IsNumeral 10 (unsigned_part den)
+pub spelled_text : {text num den : List ℕ} {result : Result Ratio ParseRatioError} → AreCut text num den → IsNumeral 10 (unsigned_part num)
+    → IsNumeral 10 (unsigned_part den)
     → AnswersSpelled (whole_of num) (whole_of den) result → result ≢ Err NotAFraction → ReadsFraction text result
 spelled_text {text} {num} {den} cuts left right answer spelled =
     let num_spelled : SpellsWhole num (whole_of num) = record { digits = left; value = refl } in
@@ -123,7 +133,7 @@ printed_is_read x r num_fits den_fits h =
 -- ---- results that cannot differ are the same
 
 pub same_number : (a b : ℤ) → ¬ (¬ (a ≡ b)) → a ≡ b
-same_number a b h = grind (arith, linear)
+same_number a b h = grind linear
 
 same_error : (e f : ParseRatioError) → ¬ (¬ (e ≡ f)) → e ≡ f
 same_error NotAFraction NotAFraction h = refl
@@ -132,12 +142,15 @@ same_error ZeroDenominator ZeroDenominator h = refl
 same_error NotFitting NotFitting h = refl
 same_error _ _ h = absurd (h (λ e. absurd cc))
 
-same_read : (r s : Result Ratio ParseRatioError) → ¬ (¬ (r ≡ s)) → r ≡ s
-same_read (Ok x) (Ok y) h = ap Ok (only_of_parts x y
-    (same_number (num_of x) (num_of y) (λ other. h (λ e. let same : x ≡ y = cc in other (ap num_of same))))
-    (same_number (den_of x) (den_of y) (λ other. h (λ e. let same : x ≡ y = cc in other (ap den_of same)))))
-same_read (Err e) (Err f) h = ap Err (same_error e f (λ other. h (λ same. let one : e ≡ f = cc in other one)))
-same_read _ _ h = absurd (h (λ same. absurd cc))
+pub same_result : {A E : Type 0} → ((x y : A) → ¬ (¬ (x ≡ y)) → x ≡ y) → ((e f : E) → ¬ (¬ (e ≡ f)) → e ≡ f) → (r s : Result A E) → ¬ (¬ (r ≡ s))
+    → r ≡ s
+same_result values errors (Ok x) (Ok y) h = ap Ok (values x y (λ other. h (λ same. let one : x ≡ y = cc in other one)))
+same_result values errors (Err e) (Err f) h = ap Err (errors e f (λ other. h (λ same. let one : e ≡ f = cc in other one)))
+same_result values errors _ _ h = absurd (h (λ same. absurd cc))
+
+same_fraction : (x y : Ratio) → ¬ (¬ (x ≡ y)) → x ≡ y
+same_fraction x y h =
+    only_of_parts x y (same_number _ _ (λ other. h (λ e. other (ap num_of e)))) (same_number _ _ (λ other. h (λ e. other (ap den_of e))))
 
 -- ---- a string has one result
 
@@ -155,6 +168,6 @@ only_spelled {a} {b} h k =
 
 -- or `NotAFraction`, since two results can differ for no other reason
 pub only_reading : ReadingIsOnly
-only_reading text r s h k = same_read r s (λ other.
+only_reading text r s h k = same_result same_fraction same_error r s (λ other.
     let none : (a b : ℤ) → ¬ (SpellsFraction text a b) = λ a b spelled. other (only_spelled (h.answer a b spelled) (k.answer a b spelled)) in
     other (h.not_a_fraction.1 none ∙ sym (k.not_a_fraction.1 none)))

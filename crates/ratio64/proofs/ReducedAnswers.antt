@@ -49,5 +49,6 @@ powers_refused {b = b} ZeroDenominator k up h = zero_answer (rw (h.zero_denomina
 powers_refused NotFitting k up h = outside_answer (outside_powers k up (h.not_fitting.0 refl))
 
 -- the powers of its exact result have the results of its powers
-pub powers_of_exact : {a b n d : ℤ} {r : Result Ratio RatioError} (k : ℕ) → IsExact a b n d → AnswersFraction (int_pow n k) (int_pow d k) r → AnswersFraction (int_pow a k) (int_pow b k) r
+pub powers_of_exact : {a b n d : ℤ} {r : Result Ratio RatioError} (k : ℕ) → IsExact a b n d → AnswersFraction (int_pow n k) (int_pow d k) r
+    → AnswersFraction (int_pow a k) (int_pow b k) r
 powers_of_exact {b = b} {d = d} k x h = equal_fractions_answered_alike (power_nonzero d k (positive_is_nonzero x.reduced.positive)) (power_nonzero b k x.fraction) (AreEqual_sym (equal_powers k x.equal)) h

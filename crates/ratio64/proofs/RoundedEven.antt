@@ -28,11 +28,11 @@ module _ (n d : ℕ) (up : 0 < d) where
             let none : ¬ (IsDown (IsEven (pos (n / d))) (pos d) (pos (n % d))) = λ is.
             let most : 2 * (n % d) + n / d % 2 ≤ d = elim is [ inl less ↦ omega arith | inr half ↦ omega (arith, half.0, even.0 half.1) ] in
             absurd (grind (arith, le-leb)) in
-            inr (none, rw over (omega (arith, ints)))
+            inr (none, rw over (omega ints))
       ]
 
   floored : IsFloored (pos n) (pos d) (pos (n / d)) (pos (n % d))
-  floored = floored_by_range (omega (arith, ints)) (omega (arith, ints)) (omega (arith, ints))
+  floored = floored_by_range (omega ints) (omega ints) (omega ints)
 
   pub natural_rounded : IsRoundedEven (pos n) (pos d) (pos (half_even n d))
   natural_rounded = nearest_even_is floored (IsEven (pos (n / d))) (λ e. e, λ e. e) nearer_is
@@ -47,20 +47,20 @@ negated_rounded {n} {d} {r} h =
     record {
       remainder = neg_ℤ s;
       division = record {
-        division = record { equation = omega (arith, products, near.division.equation, neg_mul r d); small = omega (arith, sizes) };
-        nearest = omega (arith, sizes, near.nearest);
+        division = record { equation = omega (products, near.division.equation, neg_mul r d); small = omega sizes };
+        nearest = omega (sizes, near.nearest);
         tie = λ half.
-            let even = near.tie (omega (arith, sizes)) in
-            record { factor = neg_ℤ even.factor; product = omega (arith, products, even.product) };
+            let even = near.tie (omega sizes) in
+            record { factor = neg_ℤ even.factor; product = omega (products, even.product) };
       };
     }
 
 pub not_negative : (n : ℕ) → is_negative (pos n) ≡ false
-not_negative n = grind (arith, ints)
+not_negative n = grind ints
 
 pub rounded_even_is : RoundedEvenIs
-rounded_even_is (pos n) (pos d) up = rw (not_negative n) (natural_rounded n d (omega (arith, ints)))
-rounded_even_is (negsuc n) (pos d) up = negated_rounded (natural_rounded (suc n) d (omega (arith, ints)))
+rounded_even_is (pos n) (pos d) up = rw (not_negative n) (natural_rounded n d (omega ints))
+rounded_even_is (negsuc n) (pos d) up = negated_rounded (natural_rounded (suc n) d (omega ints))
 rounded_even_is n (negsuc d) up = absurd up.lt
 
 -- a number that is rounded is that of the formula
@@ -69,7 +69,7 @@ rounded_is {n} {d} {r} up h = only_rounded_even n d (rounded_even n d) up (round
 
 pub natural_rounded_is : (n d : ℕ) {r : ℕ} → 0 < d → IsRoundedEven (pos n) (pos d) (pos r) → r ≡ half_even n d
 natural_rounded_is n d {r} up h =
-    let some : pos 0 <ℤ pos d = omega (arith, ints) in
+    let some : pos 0 <ℤ pos d = omega ints in
     ap unsigned_abs (only_rounded_even (pos n) (pos d) (pos (half_even n d)) some (natural_rounded n d up) (pos r) h)
 
 -- ---- a number whose first digits are those of another

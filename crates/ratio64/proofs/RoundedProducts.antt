@@ -1,5 +1,6 @@
 -- A fraction times an integer, rounded in `i128`.
-use Rattle.ratio64.proofs.Common.{◌≡◌, ◌≢◌, ◌<◌, ◌^◌, ◌<ℤ◌, ◌*ℤ◌, ℤ, pos, unsigned_abs, FitsSigned, w64, w128, of_z, to_z, ◌∙◌, fits_signed_from_abs, to_z-of_z, IsDivision, positive_is_nonzero, AreTimes}
+use Rattle.ratio64.specs.Times.{AreTimes, IsWideQuotient}
+use Rattle.ratio64.proofs.Common.{◌≡◌, ◌≢◌, ◌<ℤ◌, ◌*ℤ◌, ℤ, pos, FitsSigned, w64, w128, of_z, to_z, ◌∙◌, fits_signed_from_abs, to_z-of_z, IsDivision, IsQuotient, positive_is_nonzero}
 use Rattle.ratio64.proofs.NearestNumbers.{quotient_below, quotient_fits}
 use Rattle.ratio64.proofs.WideSums.{read}
 
@@ -18,13 +19,14 @@ module _ {num den t p q : ℤ} (h : AreTimes num den t p q) where
   pub wide_quotient_fits : (x y : ℤ) → IsDivision (to_z w128 (of_z w128 p)) (to_z w128 (of_z w128 q)) x y → FitsSigned w128 x
   wide_quotient_fits = rw (read p h.num_below, den_read) (λ x y k. quotient_fits h.positive k w128 (fits_signed_from_abs w128 p h.num_below))
 
-  -- and a number that is one by a rounding is that of the fraction times n
-  pub wide_rounded : {n : ℤ} → FitsSigned w64 n → t ≡ to_z w64 (of_z w64 n) → (Is : ℤ → ℤ → ℤ → Type 0) (r : ℤ) → ((m d : ℤ) → pos 0 <ℤ d → Is m d r → (s : ℤ) × IsDivision m d r s) → FitsSigned w128 r
-      → Is (to_z w128 (of_z w128 p)) (to_z w128 (of_z w128 q)) r → Is (num *ℤ n) den (to_z w128 (of_z w128 r)) × (unsigned_abs (to_z w128 (of_z w128 r)) < 2 ^ 127)
-  wide_rounded {n} n_fits same Is r divided fits k =
+  -- and one by a kind of division is that of the fraction times n
+  pub wide_rounded : {Kind : ℤ → ℤ → ℤ → ℤ → Type 0} {n r : ℤ} → FitsSigned w64 n → t ≡ to_z w64 (of_z w64 n) → FitsSigned w128 r
+      → IsQuotient Kind (to_z w128 (of_z w128 p)) (to_z w128 (of_z w128 q)) r → ((m d s : ℤ) → Kind m d r s → IsDivision m d r s)
+      → IsWideQuotient Kind (num *ℤ n) den (to_z w128 (of_z w128 r))
+  wide_rounded {n = n} {r} n_fits same fits k divided =
       let own = rw (read p h.num_below, den_read) at k in
       let product : to_z w128 (of_z w128 p) ≡ num *ℤ n = read p h.num_below ∙ rw (same, to_z-of_z w64 n n_fits) at h.num_is in
-      rw (to_z-of_z w128 r fits) (rw (product, den_read) at k, quotient_below h.positive (divided p den h.positive own).1 h.num_below)
+      rw (to_z-of_z w128 r fits) (rw (product, den_read) at k, quotient_below h.positive (divided p den own.remainder own.division) h.num_below)
 
 -- for `grind`: the denominator of such a product
 pub ruleset of_times = (den_positive, den_nonzero)

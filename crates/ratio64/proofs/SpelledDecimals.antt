@@ -1,5 +1,7 @@
 -- The strings of decimal numbers: what they spell.
-use Rattle.ratio64.proofs.Common.{◌≡◌, ◌≢◌, ◌+◌, ◌/◌, ◌%◌, ◌^◌, ◌<◌, ◌++◌, ◌==◌, ℕ, zero, suc, ℤ, List, [], ◌∷◌, true, length, unsigned_abs, digit_value, decimal, sign_text, is_negative, IsNumeral, digits_value, append_assoc, arith, ap, inl, inr, refl, sym, ◌∙◌, cases_Bool, decimal_is_IsNumeral_wide, digits_value_push, append-nil, length-append, digit_value_digit, div-div-eq-div-mul, div-le_self, pow-succ', SpellsDecimal, places_of, units_of, DecimalIsSpelled, SpelledDecimalIsOnly, last_digits, digits_push, get_or, get_or_at, get_or_append_left, nil_from_length, take_at, drop_at, take, drop, ◌⊎◌}
+use Rattle.std.proofs.lemmas.Str.{digit_value_digit}
+use Rattle.std.proofs.lemmas.Int.Digits.{digits_push, digits_value_push}
+use Rattle.ratio64.proofs.Common.{◌≡◌, ◌≢◌, ◌+◌, ◌/◌, ◌%◌, ◌^◌, ◌<◌, ◌++◌, ◌==◌, ℕ, zero, suc, ℤ, List, [], ◌∷◌, true, length, unsigned_abs, digit_value, decimal, sign_text, is_negative, IsNumeral, digits_value, append_assoc, arith, ap, inl, inr, refl, sym, ◌∙◌, cases_Bool, decimal_is_IsNumeral_wide, append-nil, length-append, div-div-eq-div-mul, div-le_self, pow-succ', SpellsDecimal, places_of, units_of, DecimalIsSpelled, SpelledDecimalIsOnly, last_digits, get_or, get_or_at, get_or_append_left, nil_from_length, take_at, drop_at, take, drop, ◌⊎◌}
 use Rattle.ratio64.proofs.ReadTexts.{no_mark, no_mark_inside, sign_numeral, sign_spelled}
 
 -- ---- the digits of a number, in two pieces
@@ -10,7 +12,8 @@ length_last zero n = refl
 length_last (suc k) n = length-append (last_digits k (n / 10)) ((48 + n % 10) ∷ []) ∙ omega (arith, length_last k (n / 10))
 
 -- the first digits and the last ones are digits of the number
-pub in_pieces : (k n : ℕ) → n < 10 ^ 64 → IsNumeral 10 (decimal (n / 10 ^ k) ++ last_digits k n) × (digits_value 10 (decimal (n / 10 ^ k) ++ last_digits k n) ≡ n)
+pub in_pieces : (k n : ℕ) → n < 10 ^ 64
+    → IsNumeral 10 (decimal (n / 10 ^ k) ++ last_digits k n) × (digits_value 10 (decimal (n / 10 ^ k) ++ last_digits k n) ≡ n)
 unfolding last_digits
 in_pieces zero n small =
     let whole : n / 10 ^ 0 ≡ n = omega arith in
@@ -20,7 +23,8 @@ in_pieces (suc k) n small =
     let front = decimal (n / 10 / 10 ^ k) ++ last_digits k (n / 10) in
     let last = 48 + n % 10 in
     let whole : n / 10 ^ suc k ≡ n / 10 / 10 ^ k = rw (pow-succ' 10 k) (sym (div-div-eq-div-mul n 10 (10 ^ k))) in
-    let joined : decimal (n / 10 / 10 ^ k) ++ (last_digits k (n / 10) ++ last ∷ []) ≡ front ++ last ∷ [] = sym (append_assoc (decimal (n / 10 / 10 ^ k)) (last_digits k (n / 10)) (last ∷ [])) in
+    let joined : decimal (n / 10 / 10 ^ k) ++ (last_digits k (n / 10) ++ last ∷ []) ≡ front ++ last ∷ [] =
+    sym (append_assoc (decimal (n / 10 / 10 ^ k)) (last_digits k (n / 10)) (last ∷ [])) in
     let digit : digit_value last ≡ n % 10 = omega (arith, digit_value_digit last (omega arith, omega arith)) in
     let long = length-append front (last ∷ []) in
     let pushed = digits_value_push 10 front last in

@@ -2,10 +2,10 @@
 use Rattle.ratio64.proofs.Common.{◌≡◌, ◌<◌, ◌≤◌, ◌-◌, ◌^◌, ◌<ℤ◌, ◌+ℤ◌, ◌-ℤ◌, ◌*ℤ◌, ℤ, pos, negsuc, unsigned_abs, FitsSigned, w64, w128, arith, refl, to_z, of_z, mul-le-mul, to_z-of_z, fits_signed_from_abs, unsigned_abs-mul, sizes}
 
 pub sum_below : (x y : ℤ) → unsigned_abs x < 2 ^ 126 → unsigned_abs y < 2 ^ 126 → unsigned_abs (x +ℤ y) < 2 ^ 127
-sum_below x y h k = omega (arith, sizes)
+sum_below x y h k = omega sizes
 
 pub difference_below : (x y : ℤ) → unsigned_abs x < 2 ^ 126 → unsigned_abs y < 2 ^ 126 → unsigned_abs (x -ℤ y) < 2 ^ 127
-difference_below x y h k = omega (arith, sizes)
+difference_below x y h k = omega sizes
 
 -- a number below 2^127 is read back from its bits
 pub read : (x : ℤ) → unsigned_abs x < 2 ^ 127 → to_z w128 (of_z w128 x) ≡ x

@@ -1,5 +1,5 @@
 -- Fractions num/den of integers, and the one reduced pair that is equal to each.
-use Rattle.std.specs.Prelude.{◌≡◌, ◌≢◌, ◌⊎◌, ◌<ℤ◌, ◌*ℤ◌, ℤ, pos, FitsSigned}
+use Rattle.std.specs.Prelude.{◌≡◌, ◌≢◌, ◌⊎◌, ◌≤◌, ◌<ℤ◌, ◌*ℤ◌, ℤ, pos, unsigned_abs, FitsSigned}
 use Rattle.std.specs.Int.{w64}
 use Rattle.std.specs.Ordering.{int_cmp}
 use Rattle.std.specs.declared.cmp.Ordering.{Ordering}
@@ -40,3 +40,8 @@ pub record IsOutsideI64 (a b : ℤ) : Type 0 where
 -- Examples: 1/3 and 1/2: `Less`; 2/4 and 1/2: `Equal`; -1/MAX and MIN/1: `Greater`.
 abbrev pub fraction_cmp : ℤ → ℤ → ℤ → ℤ → Ordering
 fraction_cmp a b c d = int_cmp (a *ℤ d) (c *ℤ b)
+
+-- What private functions cite: each number of at most the magnitude of this one fits.
+-- Examples: at `i8`: of 100 and of -127; not of -128.
+abbrev pub FitsUpTo : (ℤ → Type 0) → ℤ → Type 0
+FitsUpTo fits number = (z : ℤ) → unsigned_abs z ≤ unsigned_abs number → fits z

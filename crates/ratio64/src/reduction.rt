@@ -1,7 +1,7 @@
 //! Parts of fractions in `i128`: products, and lowest terms.
 
 ghost use Rattle.std.specs.Prelude.{◌≡◌, ◌<◌, ◌≤◌, ◌^◌, ◌<ℤ◌, ◌+ℤ◌, ◌-ℤ◌, ◌*ℤ◌, ℤ, pos, unsigned_abs, MatchResult};
-ghost use Rattle.ratio64.specs.Fraction.{AreEqual, IsFraction, IsExact, IsOutsideI64};
+ghost use Rattle.ratio64.specs.Fraction.{AreEqual, FitsUpTo, IsFraction, IsExact, IsOutsideI64};
 
 use crate::RatioError;
 use num_integer::narrowing::narrowed;
@@ -65,8 +65,7 @@ pub(crate) fn lowest_terms(num: i128, den: i128) -> Result<(i64, i64), RatioErro
 /// Each number of at most the magnitude of a part must fit.
 #[tactic(auto, using(crate::proofs::ExactResults::quotient_steps))]
 fn reduced_terms<T: Integer + Copy>(num: T, den: T) -> (T, T)
-    requires num_sizes { (z : ℤ) → unsigned_abs z ≤ unsigned_abs (T.value num) → T.fits z }
-    requires den_sizes { (z : ℤ) → unsigned_abs z ≤ unsigned_abs (T.value den) → T.fits z }
+    requires sizes { FitsUpTo T.fits (T.value num) × FitsUpTo T.fits (T.value den) }
     requires fraction { IsFraction (T.value num) (T.value den) }
     ensures in_range { T.fits (T.value result.0) × T.fits (T.value result.1) }
     ensures exact { IsExact (T.value num) (T.value den) (T.value result.0) (T.value result.1) }
@@ -91,12 +90,10 @@ fn reduced_terms<T: Integer + Copy>(num: T, den: T) -> (T, T)
 /// The precondition is that of [`reduced_terms`].
 #[tactic(auto, using(num_integer::proofs::ForCallers::sizes))]
 fn with_positive_denominator<T: Integer + Copy>(num: T, den: T) -> (T, T)
-    requires num_sizes { (z : ℤ) → unsigned_abs z ≤ unsigned_abs (T.value num) → T.fits z }
-    requires den_sizes { (z : ℤ) → unsigned_abs z ≤ unsigned_abs (T.value den) → T.fits z }
+    requires sizes { FitsUpTo T.fits (T.value num) × FitsUpTo T.fits (T.value den) }
     requires fraction { IsFraction (T.value num) (T.value den) }
     ensures in_range { T.fits (T.value result.0) × T.fits (T.value result.1) }
-    ensures num_sizes { (z : ℤ) → unsigned_abs z ≤ unsigned_abs (T.value result.0) → T.fits z }
-    ensures den_sizes { (z : ℤ) → unsigned_abs z ≤ unsigned_abs (T.value result.1) → T.fits z }
+    ensures sizes { FitsUpTo T.fits (T.value result.0) × FitsUpTo T.fits (T.value result.1) }
     ensures positive { pos 0 <ℤ T.value result.1 }
     ensures equal { AreEqual (T.value result.0) (T.value result.1) (T.value num) (T.value den) }
 {

@@ -5,9 +5,10 @@ ghost use Rattle.std.specs.Int.{w64};
 ghost use Rattle.num_integer.specs.Checked.{AnswersWhere};
 ghost use Rattle.num_integer.specs.Division.{IsCeiled, IsFloored, IsQuotient};
 ghost use Rattle.num_integer.specs.Range.{EachFits};
+ghost use Rattle.num_integer.specs.Rounding.{IsNearest, IsNearestEven};
 ghost use Rattle.ratio64.specs.Ratio.{AnswersFraction, num_of, den_of};
 ghost use Rattle.ratio64.specs.Rounding.{AnswersInParts, IsRounded, IsRoundedEven};
-ghost use Rattle.ratio64.specs.Times.{AreTimes};
+ghost use Rattle.ratio64.specs.Times.{AreTimes, IsWideQuotient};
 
 use crate::reduction::product;
 use crate::{Ratio, RatioError};
@@ -158,8 +159,7 @@ impl Ratio {
     /// Returns the fraction times `n`, rounded down, which may not fit an `i64`.
     #[tactic(auto, using(crate::proofs::RoundedProducts::of_times))]
     fn wide_floor_times(&self, n: i64) -> i128
-        ensures floored { IsQuotient IsFloored (num_of self.now *ℤ n) (den_of self.now) result }
-        ensures below { unsigned_abs result < 2 ^ 127 }
+        ensures { IsWideQuotient IsFloored (num_of self.now *ℤ n) (den_of self.now) result }
     {
         let (num, den) = self.times(n);
         div_floor(num, den)
@@ -168,8 +168,7 @@ impl Ratio {
     /// Returns the fraction times `n`, rounded up, which may not fit an `i64`.
     #[tactic(auto, using(crate::proofs::RoundedProducts::of_times))]
     fn wide_ceil_times(&self, n: i64) -> i128
-        ensures ceiled { IsQuotient IsCeiled (num_of self.now *ℤ n) (den_of self.now) result }
-        ensures below { unsigned_abs result < 2 ^ 127 }
+        ensures { IsWideQuotient IsCeiled (num_of self.now *ℤ n) (den_of self.now) result }
     {
         let (num, den) = self.times(n);
         div_ceil(num, den)
@@ -179,8 +178,7 @@ impl Ratio {
     /// fit an `i64`.
     #[tactic(auto, using(crate::proofs::RoundedProducts::of_times))]
     fn wide_round_times(&self, n: i64) -> i128
-        ensures rounded { IsRounded (num_of self.now *ℤ n) (den_of self.now) result }
-        ensures below { unsigned_abs result < 2 ^ 127 }
+        ensures { IsWideQuotient IsNearest (num_of self.now *ℤ n) (den_of self.now) result }
     {
         let (num, den) = self.times(n);
         div_round(num, den)
@@ -190,8 +188,7 @@ impl Ratio {
     /// not fit an `i64`.
     #[tactic(auto, using(crate::proofs::RoundedProducts::of_times))]
     pub(crate) fn wide_round_even_times(&self, n: i64) -> i128
-        ensures rounded { IsRoundedEven (num_of self.now *ℤ n) (den_of self.now) result }
-        ensures below { unsigned_abs result < 2 ^ 127 }
+        ensures { IsWideQuotient IsNearestEven (num_of self.now *ℤ n) (den_of self.now) result }
     {
         let (num, den) = self.times(n);
         div_round_even(num, den)

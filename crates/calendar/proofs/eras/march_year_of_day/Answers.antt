@@ -5,12 +5,12 @@ pub returns : goal.returns
 returns c =
     let era = c.eras_in_days-era.result.0 in
     let years = c.march_year-years.result.0 in
-    let same : pos 400 *ℤ (era +ℤ pos 4) +ℤ pos years ≡ pos 400 *ℤ era +ℤ (pos years +ℤ pos 1600) = omega (arith, ints) in
+    let same : pos 400 *ℤ (era +ℤ pos 4) +ℤ pos years ≡ pos 400 *ℤ era +ℤ (pos years +ℤ pos 1600) = omega ints in
     let march = rw same at (c.march_year-years.ensures.day (era +ℤ pos 4)) in
     let part = rw same at (c.march_year-years.ensures.within (era +ℤ pos 4)) in
     let era_fits : FitsSigned w64 era = search rules in
     let cast = to_z_pos w64 years (omega (arith, c.march_year-years.ensures.small)) in
-    let scaled : FitsSigned w64 (pos 400 *ℤ era) = omega (arith, ints) in
-    let shifted : FitsSigned w64 (pos years +ℤ pos 1600) = omega (arith, ints) in
-    let whole : FitsSigned w64 (pos 400 *ℤ era +ℤ (pos years +ℤ pos 1600)) = omega (arith, ints) in
-    simp (cast, to_z-of_z) (record { day = omega (arith, ints, march); within = part; next_fits = omega (arith, ints) })
+    let scaled : FitsSigned w64 (pos 400 *ℤ era) = omega ints in
+    let shifted : FitsSigned w64 (pos years +ℤ pos 1600) = omega ints in
+    let whole : FitsSigned w64 (pos 400 *ℤ era +ℤ (pos years +ℤ pos 1600)) = omega ints in
+    simp (cast, to_z-of_z) (record { day = omega (ints, march); within = part; next_fits = omega ints })

@@ -8,4 +8,4 @@ returns-else-days-lt-DAYS_FROM_MARCH c =
     let year = c.ranges.year in
     let next = c.requires.next_fits in
     let found = c.month_and_day-month.ensures.next_year (c.args.year +ℤ pos 1) c.if-days-lt-DAYS_FROM_MARCH.false (omega (arith, c.requires.within, third_month (c.args.year +ℤ pos 1))) in
-    simp to_z-of_z (record { date = found.0; day = omega (arith, ints, found.1, third_month c.args.year, next_first_day c.args.year) })
+    simp to_z-of_z (record { date = found.0; day = omega (ints, found.1, third_month c.args.year, next_first_day c.args.year) })

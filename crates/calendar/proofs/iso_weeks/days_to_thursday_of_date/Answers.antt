@@ -1,4 +1,4 @@
-use Rattle.calendar.proofs.Common.{◌+◌, ◌-◌, ◌%◌, ◌-ℤ◌, pos, FitsSigned, w64, arith, refl, rules, ints, to_z-of_z}
+use Rattle.calendar.proofs.Common.{◌+◌, ◌-◌, ◌%◌, ◌-ℤ◌, pos, FitsSigned, w64, refl, rules, ints, to_z-of_z}
 use Rattle.calendar.proofs.IsoWeeks.{days_to_thursday}
 use Rattle.calendar.proofs.MarchYears.{month_at}
 use Rattle.calendar.proofs.iso_weeks.days_to_thursday_of_date.Goals as goal
@@ -13,8 +13,8 @@ returns c =
     let month = month_at era.result date.month c.days_to_month.result year era.ensures.place c.days_to_month.ensures.day in
     let january = month_at era.result 1 first year era.ensures.place c.days_to_month-2.ensures.day in
     let (of_week, from, below) =
-    days_to_thursday date era.result.0 _ n first (omega (arith, ints, month, c.from.ensures)) (omega (arith, ints, january)) refl in
-    let thursday_fits : FitsSigned w64 (pos (n + 2 - (n + 1) % 7)) = omega (arith, ints, c.days_to_month.ensures.small, c.from.ensures) in
-    let first_fits : FitsSigned w64 (pos first) = omega (arith, ints, c.days_to_month-2.ensures.small) in
-    let fits : FitsSigned w64 (pos (n + 2 - (n + 1) % 7) -ℤ pos first) = omega (arith, ints) in
+    days_to_thursday date era.result.0 _ n first (omega (ints, month, c.from.ensures)) (omega (ints, january)) refl in
+    let thursday_fits : FitsSigned w64 (pos (n + 2 - (n + 1) % 7)) = omega (ints, c.days_to_month.ensures.small, c.from.ensures) in
+    let first_fits : FitsSigned w64 (pos first) = omega (ints, c.days_to_month-2.ensures.small) in
+    let fits : FitsSigned w64 (pos (n + 2 - (n + 1) % 7) -ℤ pos first) = omega ints in
     rw (c.from-2.ensures, c.from-3.ensures) (simp to_z-of_z (record { of_week = of_week; from = from; below = below }))

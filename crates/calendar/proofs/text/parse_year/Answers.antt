@@ -1,4 +1,5 @@
-use Rattle.calendar.proofs.Common.{Some, None, arith, ints, strip_prefix_char}
+use Rattle.std.proofs.lemmas.Str.Pattern.{strip_prefix_char}
+use Rattle.calendar.proofs.Common.{Some, None, arith, ints}
 use Rattle.calendar.proofs.YearTexts.{minus_form, no_year_read, plain_form, plus_form, year_read}
 use Rattle.calendar.proofs.text.parse_year.Goals as goal
 
@@ -12,7 +13,7 @@ pub returns-in_ok-parse_number : goal.returns-in_ok-parse_number
 returns-in_ok-parse_number c =
     let minus = strip_prefix_char 45 _ (Some c.in-Some.digits) c.in-Some.ensures.cases (omega arith) in
     let read = c.in_ok-parse_number in
-    year_read read.field-0 (minus_form minus) read.ensures.number (omega (arith, ints, read.ensures.range))
+    year_read read.field-0 (minus_form minus) read.ensures.number (omega (ints, read.ensures.range))
 
 -- a text with a plus
 pub returns-in_err-parse_number-2 : goal.returns-in_err-parse_number-2
@@ -24,7 +25,7 @@ pub returns-in_ok-parse_number-2 : goal.returns-in_ok-parse_number-2
 returns-in_ok-parse_number-2 c =
     let plus = strip_prefix_char 43 _ (Some c.in-Some-strip_prefix.digits) c.in-Some-strip_prefix.ensures.cases (omega arith) in
     let read = c.in_ok-parse_number-2 in
-    year_read read.field-0 (plus_form plus) read.ensures.number (omega (arith, ints, read.ensures.range))
+    year_read read.field-0 (plus_form plus) read.ensures.number (omega (ints, read.ensures.range))
 
 -- a text with no sign
 pub returns-in_err-parse_number-3 : goal.returns-in_err-parse_number-3
@@ -38,4 +39,4 @@ returns-in_ok-parse_number-3 c =
     let no_minus = strip_prefix_char 45 _ None c.in_default.ensures.cases (omega arith) in
     let no_plus = strip_prefix_char 43 _ None c.in_default-strip_prefix.ensures.cases (omega arith) in
     let read = c.in_ok-parse_number-3 in
-    year_read read.field-0 (plain_form no_minus no_plus) read.ensures.number (omega (arith, ints, read.ensures.range))
+    year_read read.field-0 (plain_form no_minus no_plus) read.ensures.number (omega (ints, read.ensures.range))

@@ -1,4 +1,5 @@
-use Rattle.calendar.proofs.Common.{◌≡◌, ◌∷◌, ◌/◌, ◌%◌, ◌+◌, [], arith, ◌∙◌, nat_tests, iff_false, text_from_reads}
+use Rattle.std.proofs.lemmas.Slice.Eq.{text_from_reads}
+use Rattle.calendar.proofs.Common.{◌≡◌, ◌∷◌, ◌/◌, ◌%◌, ◌+◌, [], arith, ◌∙◌, nat_tests, iff_false}
 use Rattle.calendar.proofs.DateTexts.{number_boundary, number_told, number_text}
 use Rattle.calendar.proofs.text.split_last_two_digits.Goals as goal
 
@@ -13,5 +14,6 @@ returns-then-not-is_char_boundary c = λ front n small e.
 pub returns-in_default : goal.returns-in_default
 returns-in_default c = λ front n small e.
     let told = number_told c.args.text.now front n small e in
-    let whole : c.as_bytes.result.now ≡ 45 ∷ (48 + n / 10) ∷ (48 + n % 10) ∷ [] = c.as_bytes.ensures.value ∙ c.split_at.ensures.back ∙ rw c.saturating_sub-place.ensures told.last_is in
+    let whole : c.as_bytes.result.now ≡ 45 ∷ (48 + n / 10) ∷ (48 + n % 10) ∷ [] =
+    c.as_bytes.ensures.value ∙ c.split_at.ensures.back ∙ rw c.saturating_sub-place.ensures told.last_is in
     grind (arith, nat_tests, c.in_default.branch)

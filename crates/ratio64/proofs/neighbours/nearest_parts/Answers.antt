@@ -18,7 +18,7 @@ neighbours-requires-else-num-den-clause-proper c = above_one c.requires.positive
 
 pub neighbours-requires-else-num-den-clause-lowest : goal.neighbours-requires-else-num-den-clause-lowest
 neighbours-requires-else-num-den-clause-lowest c =
-    lowest_natural (record { positive = omega (arith, ints, c.requires.lowest.positive); lowest = gcd_swap c.requires.lowest.lowest })
+    lowest_natural (record { positive = omega (ints, c.requires.lowest.positive); lowest = gcd_swap c.requires.lowest.lowest })
 
 pub nearer-requires-else-num-den : goal.nearer-requires-else-num-den
 nearer-requires-else-num-den c =
@@ -36,5 +36,5 @@ returns-else-num-den c =
     let lower = reciprocal_is c.reciprocal.ensures.num c.reciprocal.ensures.den c.reciprocal.ensures.gap in
     let upper = reciprocal_is c.reciprocal-else-num-den.ensures.num c.reciprocal-else-num-den.ensures.den c.reciprocal-else-num-den.ensures.gap in
     let near = rw (lower, upper) at c.nearer-else-num-den.ensures in
-    let h = nearer_reciprocal at.neighbours (omega (arith, ints, c.requires.lowest.positive)) at.none_between near in
+    let h = nearer_reciprocal at.neighbours (omega (ints, c.requires.lowest.positive)) at.none_between near in
     record { nearest = h.0; reduced = h.1 }

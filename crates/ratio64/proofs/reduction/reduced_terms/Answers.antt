@@ -17,5 +17,5 @@ pub returns-else-is_below-clause-exact : goal.returns-else-is_below-clause-exact
 returns-else-is_below-clause-exact g c =
     let turned = c.with_positive_denominator-num.ensures in
     let small = from_test c.is_below.ensures c.if-is_below.false in
-    let own = coprime_is_exact (positive_is_nonzero turned.positive) (omega (arith, linear, turned.positive)) c.gcd-common.ensures.greatest (omega (arith, linear, small, c.one-2.ensures.value)) in
+    let own = coprime_is_exact (positive_is_nonzero turned.positive) (omega (linear, turned.positive)) c.gcd-common.ensures.greatest (omega (linear, small, c.one-2.ensures.value)) in
     same_result c.requires.fraction turned.equal own

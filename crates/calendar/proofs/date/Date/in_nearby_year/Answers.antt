@@ -12,4 +12,4 @@ returns c =
     let (within, place) = simp to_z-of_z at c.in_ok-year.ensures in
     let same = simp to_z-of_z at c.in_year.ensures.year in
     let day = rw same at c.in_year.ensures.day in
-    rw same (omega (arith, ints, place, day))
+    rw same (omega (ints, place, day))

@@ -8,7 +8,7 @@ returns-then-month-gt1 c =
     let year : FitsSigned w64 date.year = search rules in
     let month : date.month - 1 + 1 ≡ date.month = omega arith in
     let step = rw month at (next_month date.year (date.month - 1) (omega arith) (omega (arith, date.valid.month_to_twelve))) in
-    simp to_z-of_z (omega (arith, ints, step, simp to_z-of_z at c.length_of_month.ensures.days, date.valid.day_from_one))
+    simp to_z-of_z (omega (ints, step, simp to_z-of_z at c.length_of_month.ensures.days, date.valid.day_from_one))
 
 pub returns-in_ok-checked_sub : goal.returns-in_ok-checked_sub
 returns-in_ok-checked_sub c =
@@ -16,6 +16,6 @@ returns-in_ok-checked_sub c =
     let year : FitsSigned w64 date.year = search rules in
     let month : date.month ≡ 1 = omega (arith, date.valid.month_from_one) in
     let (fits, is) = simp to_z-of_z at c.in_ok-checked_sub.ensures in
-    let same : date.year -ℤ pos 1 +ℤ pos 1 ≡ date.year = omega (arith, ints) in
+    let same : date.year -ℤ pos 1 +ℤ pos 1 ≡ date.year = omega ints in
     let step = rw same at (next_year (date.year -ℤ pos 1)) in
-    rw (is, month) (simp to_z-of_z (omega (arith, ints, step, date.valid.day_from_one)))
+    rw (is, month) (simp to_z-of_z (omega (ints, step, date.valid.day_from_one)))

@@ -7,7 +7,7 @@ returns-then-not-is_earlier-clause-steps c = grind (arith, none_left, from_not_l
 
 pub returns-in_err-self-inside-clause-steps : goal.returns-in_err-self-inside-clause-steps
 returns-in_err-self-inside-clause-steps c =
-    absurd (none_later c.self.inside.next c.self.inside.end (omega (arith, ints, c.in_err-self-inside.ensures)) (c.is_earlier.ensures.0 (cc)))
+    absurd (none_later c.self.inside.next c.self.inside.end (omega (ints, c.in_err-self-inside.ensures)) (c.is_earlier.ensures.0 (cc)))
 
 pub returns-clause-steps : goal.returns-clause-steps
 returns-clause-steps c = sym c.self.view_is ∙ rw c.in_ok-self-inside.ensures (next_left _ _ (c.is_earlier.ensures.0 (cc)))

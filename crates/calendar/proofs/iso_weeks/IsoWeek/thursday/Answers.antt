@@ -19,5 +19,6 @@ returns c =
     let range = number_range week.valid in
     let place = thursday_of_week _ week.valid (later_thursday week.year (c.from.result - 1) first.value) (omega (arith, range, first.small)) (omega (arith, range, first.small)) in
     let same = simp to_z-of_z at c.in_year.ensures.year in
-    let number : first_day week.year +ℤ pos (c.days_to_first_thursday.result + 7 * (c.from.result - 1)) ≡ number_of c.in_year.result = omega (arith, ints, c.in_year.ensures.day, ap first_day same) in
+    let number : first_day week.year +ℤ pos (c.days_to_first_thursday.result + 7 * (c.from.result - 1)) ≡ number_of c.in_year.result =
+    omega (ints, c.in_year.ensures.day, ap first_day same) in
     rw number at place.1

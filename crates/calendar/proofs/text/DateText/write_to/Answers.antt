@@ -1,10 +1,10 @@
-use Rattle.calendar.proofs.Common.{ints, FitsSigned, w64, arith, rules, to_z-of_z, same_written, then_written}
+use Rattle.calendar.proofs.Common.{ints, FitsSigned, w64, rules, to_z-of_z, same_written, then_written}
 use Rattle.calendar.proofs.DateTexts.{joined, zero_padded}
 use Rattle.calendar.proofs.YearTexts.{year_texts}
 use Rattle.calendar.proofs.text.DateText.write_to.Goals as goal
 
 pub returns-then-matches : goal.returns-then-matches
-returns-then-matches g c = grind (arith, ints, year_texts c.args.self.now.year)
+returns-then-matches g c = grind (ints, year_texts c.args.self.now.year)
 
 pub returns : goal.returns
 returns g c =

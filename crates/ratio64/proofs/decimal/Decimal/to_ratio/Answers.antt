@@ -1,4 +1,4 @@
-use Rattle.ratio64.proofs.Common.{◌^◌, arith, linear, pos, positive_is_nonzero, places_of, rules, units_of, AnswersFraction}
+use Rattle.ratio64.proofs.Common.{◌^◌, linear, pos, positive_is_nonzero, places_of, rules, units_of, AnswersFraction}
 use Rattle.ratio64.proofs.DecimalTexts.{ten_up}
 use Rattle.ratio64.proofs.decimal.Decimal.to_ratio.Goals as goal
 
@@ -7,4 +7,4 @@ returns-clause-never_zero c =
     let x = c.args.self.now in
     let up = ten_up (places_of x) in
     let fraction : AnswersFraction (units_of x) (pos (10 ^ places_of x)) c.reduced.result = search rules in
-    λ e. positive_is_nonzero (omega (arith, linear)) (fraction.zero_denominator.0 e)
+    λ e. positive_is_nonzero (omega linear) (fraction.zero_denominator.0 e)

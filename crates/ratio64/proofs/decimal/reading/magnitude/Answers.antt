@@ -13,5 +13,6 @@ returns c =
     let w = c.args.whole.now in
     let part = c.args.part.now in
     let scale : c.pow-scale.result ≡ 10 ^ length part = search rules in
-    let same : c.in_ok-whole_magnitude.field-0 * c.pow-scale.result + c.part_magnitude.result ≡ digits_value 10 (unsigned_part w ++ part) = rw (c.in_ok-whole_magnitude.ensures, scale, c.part_magnitude.ensures, whole_size_is w) (sym (digits_joined (unsigned_part w) part)) in
+    let same : c.in_ok-whole_magnitude.field-0 * c.pow-scale.result + c.part_magnitude.result ≡ digits_value 10 (unsigned_part w ++ part) =
+    rw (c.in_ok-whole_magnitude.ensures, scale, c.part_magnitude.ensures, whole_size_is w) (sym (digits_joined (unsigned_part w) part)) in
     subst (λ n. MatchOption c.joined.result (2 ^ 127 ≤ n) (λ size. (size ≡ pos n) × (n < 2 ^ 127))) same c.joined.ensures

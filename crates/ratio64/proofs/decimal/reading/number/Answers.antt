@@ -5,7 +5,8 @@ use Rattle.ratio64.proofs.Common.{◌++◌, length, whole_of}
 use Rattle.ratio64.proofs.decimal.reading.number.Goals as goal
 
 pub returns-in_default-clause-number : goal.returns-in_default-clause-number
-returns-in_default-clause-number c = too_many_answer (none_kept c.args.whole.now c.args.part.now c.requires.whole c.requires.part c.in_default.ensures)
+returns-in_default-clause-number c =
+    too_many_answer (none_kept c.args.whole.now c.args.part.now c.requires.whole c.requires.part c.in_default.ensures)
 
 pub magnitude-requires-clause-part : goal.magnitude-requires-clause-part
 magnitude-requires-clause-part c = rw c.in-Some.ensures.0 (all_digits_taken 18 c.args.part.now c.requires.part)

@@ -9,7 +9,8 @@ use Rattle.ratio64.proofs.fraction.Ratio.limit_denominator.Goals as goal
 use Rattle.ratio64.proofs.fraction.Ratio.limit_denominator.Goals.{After-nearer-nearest, After-numerator, After-unsigned_abs-limit}
 
 -- the fraction is the integer and the part
-split : (c : After-unsigned_abs-limit) → IsSplit (num_of c.args.self.now) (den_of c.args.self.now) c.div_mod_floor-whole.result.0 c.unsigned_abs-part.result c.unsigned_abs-den.result
+split : (c : After-unsigned_abs-limit)
+    → IsSplit (num_of c.args.self.now) (den_of c.args.self.now) c.div_mod_floor-whole.result.0 c.unsigned_abs-part.result c.unsigned_abs-den.result
 split c =
     let num : FitsSigned w64 c.args.self.now.num = search rules in
     let den : FitsSigned w64 c.args.self.now.den = search rules in
@@ -18,8 +19,8 @@ split c =
     let h = simp to_z-of_z at c.div_mod_floor-whole.ensures.floored in
     let rest = simp to_z-of_z at c.unsigned_abs-part.ensures.value in
     let bottom = simp to_z-of_z at c.unsigned_abs-den.ensures.value in
-    let part_is : pos c.unsigned_abs-part.result ≡ c.div_mod_floor-whole.result.1 = omega (arith, sizes, rest, h, x.positive) in
-    let den_is : pos c.unsigned_abs-den.result ≡ den_of c.args.self.now = omega (arith, sizes, bottom, x.positive) in
+    let part_is : pos c.unsigned_abs-part.result ≡ c.div_mod_floor-whole.result.1 = omega (sizes, rest, h, x.positive) in
+    let den_is : pos c.unsigned_abs-den.result ≡ den_of c.args.self.now = omega (sizes, bottom, x.positive) in
     let equation = rw (← part_is, ← den_is) at h.division.equation in
     let reduced = remainder_reduced c.div_mod_floor-whole.result.0 (rw den_is x) equation in
     record { den = den_is; equation = equation; reduced = reduced }
@@ -31,9 +32,10 @@ near : (c : After-nearer-nearest) → IsLimited c.unsigned_abs-part.result c.uns
 near c = nearer_is_limited c.neighbours.ensures.neighbours c.neighbours.ensures.none_between c.nearer-nearest.ensures
 
 small : (c : After-nearer-nearest) → c.nearer-nearest.result.den < 2 ^ 63
-small c = omega (arith, ints, (near c).nearest.bounded, limit c)
+small c = omega (ints, (near c).nearest.bounded, limit c)
 
-sum : (c : After-numerator) → c.numerator.result ≡ c.div_mod_floor-whole.result.0 *ℤ pos c.nearer-nearest.result.den +ℤ pos c.nearer-nearest.result.num
+sum : (c : After-numerator)
+    → c.numerator.result ≡ c.div_mod_floor-whole.result.0 *ℤ pos c.nearer-nearest.result.den +ℤ pos c.nearer-nearest.result.num
 sum c = rw (to_z-of_z w64 c.div_mod_floor-whole.result.0 (search rules)) at c.numerator.ensures
 
 pub returns-then-self-max : goal.returns-then-self-max
@@ -41,9 +43,9 @@ returns-then-self-max c =
     let reduced = c.args.self.now.reduced in
     record {
       positive = reduced.positive;
-      bounded = omega (arith, ints);
+      bounded = omega ints;
       nearest = λ u v up most. (itself_is_nearest {u = u} reduced up).0;
-      tie = λ u v up most same. let least = (itself_is_nearest {u = u} reduced up).1 same in (least.0, λ one. omega (arith, linear, least.1 one));
+      tie = λ u v up most same. let least = (itself_is_nearest {u = u} reduced up).1 same in (least.0, λ one. omega (linear, least.1 one));
     }
 
 pub div_mod_floor-whole-requires-clause-quotient_fits : goal.div_mod_floor-whole-requires-clause-quotient_fits

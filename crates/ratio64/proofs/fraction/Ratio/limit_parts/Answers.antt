@@ -19,7 +19,7 @@ returns-then-max-limit c =
     let reduced = c.args.self.now.reduced in
     record {
       positive = reduced.positive;
-      bounded = (omega (arith, ints, c.max.ensures, c.if-max-limit.true, is), omega (arith, ints, c.max.ensures, c.if-max-limit.true, is));
+      bounded = (omega (ints, c.max.ensures, c.if-max-limit.true, is), omega (ints, c.max.ensures, c.if-max-limit.true, is));
       nearest = λ u v up v_most u_most. (itself_is_nearest {u = u} reduced up).0;
       tie = λ u v up v_most u_most same. let own = (itself_is_nearest {u = u} reduced up).1 same in (own.0, λ one. rw (own.1 one) (omega arith));
     }

@@ -8,4 +8,4 @@ returns-in_err-scale c = rw c.from_residual.ensures (λ few. c.in_err-scale.ensu
 pub invariant_of-result : goal.invariant_of-result
 invariant_of-result c =
     let own = c.wide_round_even_times.ensures in
-    record { few = few_places c.args.places c.in_ok-scale.ensures.0; below = rw (read c.wide_round_even_times.result own.below) own.below }
+    record { few = few_places c.args.places c.in_ok-scale.ensures.0; below = rw (read c.wide_round_even_times.result own.1) own.1 }

@@ -26,5 +26,6 @@ returns c =
     let own : Divides (den_of x) (pos (10 ^ c.args.places)) = search rules in
     let quotient : IsQuotient IsFloored (pos (10 ^ c.args.places)) (den_of x) c.div_floor.result = search rules in
     let product : c.product-units.result ≡ num_of x *ℤ c.div_floor.result = search rules in
-    let units : to_z w128 (of_z w128 c.product-units.result) ≡ num_of x *ℤ c.div_floor.result = read c.product-units.result c.product-units.ensures.below ∙ product in
+    let units : to_z w128 (of_z w128 c.product-units.result) ≡ num_of x *ℤ c.div_floor.result =
+    read c.product-units.result c.product-units.ensures.below ∙ product in
     ((few_places c.args.places c.in_ok-scale.ensures.0, scale_divides (num_of x) own), (refl, rw units (units_exact (num_of x) x.reduced.positive quotient own)))

@@ -1,4 +1,4 @@
-use Rattle.ratio64.proofs.Common.{refl, IsCeiled, IsQuotient}
+use Rattle.ratio64.proofs.Common.{refl}
 use Rattle.ratio64.proofs.RoundedProducts.{wide_quotient_fits, wide_rounded}
 use Rattle.ratio64.proofs.fraction.Ratio.wide_ceil_times.Goals as goal
 
@@ -7,6 +7,4 @@ div_ceil-requires-clause-quotient_fits c = λ q h. wide_quotient_fits c.times-nu
 
 pub returns : goal.returns
 returns c =
-    let own = c.div_ceil.ensures in
-    let is = wide_rounded c.times-num.ensures c.ranges.n refl (IsQuotient IsCeiled) c.div_ceil.result (λ m d up k. (k.remainder, k.division.division)) own.in_range own.ceiled in
-    record { ceiled = is.0; below = is.1 }
+    wide_rounded c.times-num.ensures c.ranges.n refl c.div_ceil.ensures.in_range c.div_ceil.ensures.ceiled (λ m d s k. k.division)

@@ -1,5 +1,5 @@
 use Rattle.std.proofs.Common.{rules}
-use Rattle.ratio64.proofs.Common.{◌≡◌, ◌^◌, ◌∙◌, arith, linear, places_of, pos, units_of}
+use Rattle.ratio64.proofs.Common.{◌≡◌, ◌^◌, ◌∙◌, linear, places_of, pos, units_of}
 use Rattle.ratio64.proofs.DecimalOrder.{compared, same_places}
 use Rattle.ratio64.proofs.DecimalTexts.{ten_up}
 use Rattle.std.specs.Ordering.{int_cmp, ordering_then}
@@ -19,4 +19,4 @@ returns c =
     let y = c.whole_and_rest-2 in
     let own : c.cmp-2.result ≡ ordering_then (int_cmp x.result.0 y.result.0) (int_cmp x.result.1 y.result.1) = search rules in
     let up = ten_up 18 in
-    rw (x.ensures.number, y.ensures.number) (own ∙ compared x.result.0 y.result.0 x.result.1 y.result.1 (pos (10 ^ 18)) (omega (arith, linear)) x.ensures.rest y.ensures.rest)
+    rw (x.ensures.number, y.ensures.number) (own ∙ compared x.result.0 y.result.0 x.result.1 y.result.1 (pos (10 ^ 18)) (omega linear) x.ensures.rest y.ensures.rest)
