@@ -1,6 +1,8 @@
 -- Choices, their ranks and order, the choice of a rank, and the choice of the next rank.
-use Rattle.applied.proofs.Common.{◌≡◌, ◌⊎◌, ◌↔◌, ◌<◌, ◌≤◌, ◌+◌, ◌-◌, ℕ, zero, suc, List, length, slice_index, slice_set, take, sum_by, IsStrictlyIncreasing, enumerate_from, arith, ap, inl, inr, refl, subst, sym, ◌∙◌, add-one, one-add, cases_lt, ext_get_or, get_or-set_other, get_or-set_same, length-set, take_all, All-from_get_or, get_or-enumerate_from, length-enumerate_from, sum_by-take-le, sum_by_more, coefficient, coefficient_zero, coefficient_grows, pascal, ChoiceOfRankIsOnly, RankIsBelow, IsBefore, IsChoice, IsChoiceOfRank, slice_index_or, get_or_default, get_or_past, none_above, IsFirstToRise, IsLastChoice}
-use Rattle.applied.specs.Ranking.{rank_of}
+use Rattle.std.specs.List.Sorted.{IsStrictlyIncreasing}
+use Rattle.std.proofs.lemmas.List.FromFn.{get_or-enumerate_from, length-enumerate_from}
+use Rattle.applied.proofs.Common.{◌≡◌, ◌⊎◌, ◌↔◌, ◌<◌, ◌≤◌, ◌+◌, ◌-◌, ℕ, zero, suc, List, length, slice_index, slice_set, take, sum_by, enumerate_from, arith, ap, inl, inr, refl, subst, sym, ◌∙◌, add-one, one-add, cases_lt, ext_get_or, get_or-set_other, get_or-set_same, length-set, take_all, All-from_get_or, sum_by-take-le, sum_by_more, coefficient, coefficient_zero, coefficient_grows, pascal, ChoiceOfRankIsOnly, RankIsBelow, IsChoice, slice_index_or, get_or_default, get_or_past, none_above}
+use Rattle.applied.specs.Ranking.{rank_of, IsBefore, IsChoiceOfRank, IsFirstToRise, IsLastChoice}
 
 -- ---- the rank of the first i numbers
 
@@ -27,7 +29,8 @@ unfolding rank_of_first rank_of
 rank_of_all xs k end = ap (sum_by term_of) (take_all k (enumerate_from 1 xs) (omega (arith, length-enumerate_from 1 xs)))
 
 -- it is below the number of choices of i numbers below m, if the last of them is below m
-rank_of_first_below : (xs : List ℕ) (i m : ℕ) → IsStrictlyIncreasing xs → i ≤ length xs → ((j : ℕ) → suc j ≡ i → slice_index xs j < m) → rank_of_first i xs < coefficient m i
+rank_of_first_below : (xs : List ℕ) (i m : ℕ) → IsStrictlyIncreasing xs → i ≤ length xs → ((j : ℕ) → suc j ≡ i → slice_index xs j < m)
+    → rank_of_first i xs < coefficient m i
 rank_of_first_below xs zero m up within last = omega (arith, coefficient_zero m, rank_of_none xs)
 rank_of_first_below xs (suc i) m up within last =
     let c = slice_index xs i in
@@ -85,7 +88,8 @@ none_written {n} below = record {
   };
 }
 
-pub one_more_written : {n k r i j bound rest c : ℕ} {ys : List ℕ} → j + 1 ≡ i → j < length ys → c < bound → coefficient c (j + 1) ≤ rest → rest < coefficient (c + 1) (j + 1)
+pub one_more_written : {n k r i j bound rest c : ℕ} {ys : List ℕ} → j + 1 ≡ i → j < length ys → c < bound → coefficient c (j + 1) ≤ rest
+    → rest < coefficient (c + 1) (j + 1)
     → IsWrittenFrom n k r i bound rest ys → IsWrittenFrom n k r j c (rest - coefficient c (j + 1)) (slice_set ys j c)
 one_more_written {i = i} {j = j} {bound = bound} {rest = rest} {c = c} {ys = ys} next within below part greatest h = record {
   below = rest_below c j rest part greatest;
@@ -125,12 +129,15 @@ compare (suc i) xs ys = elim (cases_lt (slice_index xs i) (slice_index ys i)) [
   ]
 ]
 
-before_first : (k : ℕ) (xs ys : List ℕ) → IsStrictlyIncreasing xs → k ≤ length xs → k ≤ length ys → IsBefore k xs ys → rank_of_first k xs < rank_of_first k ys
+before_first : (k : ℕ) (xs ys : List ℕ) → IsStrictlyIncreasing xs → k ≤ length xs → k ≤ length ys → IsBefore k xs ys
+    → rank_of_first k xs < rank_of_first k ys
 before_first zero xs ys up in_xs in_ys h = absurd (omega (arith, h.within))
 before_first (suc i) xs ys up in_xs in_ys h = elim (cases_lt h.place i) [
   | inl after ↦
-      let rest : IsBefore i xs ys = record { place = h.place; within = after; lesser = h.lesser; same_after = λ l p k. h.same_after l p (omega arith) } in
-      let here : coefficient (slice_index xs i) (suc i) ≡ coefficient (slice_index ys i) (suc i) = ap (λ (t : ℕ). coefficient t (suc i)) (h.same_after i after (omega arith)) in
+      let rest : IsBefore i xs ys =
+      record { place = h.place; within = after; lesser = h.lesser; same_after = λ l p k. h.same_after l p (omega arith) } in
+      let here : coefficient (slice_index xs i) (suc i) ≡ coefficient (slice_index ys i) (suc i) =
+      ap (λ (t : ℕ). coefficient t (suc i)) (h.same_after i after (omega arith)) in
       omega (arith, before_first i xs ys up (omega arith) (omega arith) rest, rank_of_more xs i (omega arith), rank_of_more ys i (omega arith))
   | inr last ↦
       -- whatever the numbers before it, a lesser number makes the rank less
@@ -144,7 +151,8 @@ before_less : {xs ys : List ℕ} {k : ℕ} → IsStrictlyIncreasing xs → lengt
 before_less {xs} {ys} {k} up xs_size ys_size h = omega (arith, before_first k xs ys up (omega arith) (omega arith) h, rank_of_all)
 
 -- a choice is before another exactly if its rank is less
-pub before_exactly : {n : ℕ} {xs ys : List ℕ} → IsChoice n xs → IsChoice n ys → length xs ≡ length ys → IsBefore (length ys) xs ys ↔ (rank_of xs < rank_of ys)
+pub before_exactly : {n : ℕ} {xs ys : List ℕ} → IsChoice n xs → IsChoice n ys → length xs ≡ length ys
+    → IsBefore (length ys) xs ys ↔ (rank_of xs < rank_of ys)
 before_exactly {n} {xs} {ys} x y size = (
   before_less x.increasing size refl,
   λ less. elim (compare (length ys) xs ys) [
@@ -168,9 +176,11 @@ choice_of_rank_is_only = λ n k r xs x ys y. elim (compare k ys xs) [
 -- ---- numbers that follow one another
 
 -- each number of a choice is below the one after it, or n at the end, and such numbers are a choice
-below_last : (n : ℕ) (xs : List ℕ) → ((j : ℕ) → j < length xs → slice_index xs j < slice_index_or xs (j + 1) n) → (more j : ℕ) → j + 1 + more ≡ length xs → slice_index xs j < n
+below_last : (n : ℕ) (xs : List ℕ) → ((j : ℕ) → j < length xs → slice_index xs j < slice_index_or xs (j + 1) n) → (more j : ℕ)
+    → j + 1 + more ≡ length xs → slice_index xs j < n
 below_last n xs above zero j size = omega (arith, above j (omega arith), get_or_past xs (j + 1) n (omega arith))
-below_last n xs above (suc more) j size = omega (arith, above j (omega arith), get_or_default xs (j + 1) n 0 (omega arith), below_last n xs above more (j + 1) (omega arith))
+below_last n xs above (suc more) j size =
+    omega (arith, above j (omega arith), get_or_default xs (j + 1) n 0 (omega arith), below_last n xs above more (j + 1) (omega arith))
 
 pub choice_by_neighbours : {n : ℕ} {xs : List ℕ} → ((j : ℕ) → j < length xs → slice_index xs j < slice_index_or xs (j + 1) n) → IsChoice n xs
 choice_by_neighbours {n} {xs} above = record {
@@ -200,7 +210,8 @@ pub record IsRaisedAt (i : ℕ) (xs ys : List ℕ) : Type 0 where
   pub here : slice_index ys i ≡ slice_index xs i + 1
   pub after : (j : ℕ) → i < j → slice_index ys j ≡ slice_index xs j
 
-pub raised_is : {i : ℕ} {xs ys : List ℕ} → i < length xs → length ys ≡ length (slice_set xs i (slice_index xs i + 1)) → ((j : ℕ) → j < i → slice_index ys j ≡ j)
+pub raised_is : {i : ℕ} {xs ys : List ℕ} → i < length xs → length ys ≡ length (slice_set xs i (slice_index xs i + 1))
+    → ((j : ℕ) → j < i → slice_index ys j ≡ j)
     → ((j : ℕ) → i ≤ j → slice_index ys j ≡ slice_index (slice_set xs i (slice_index xs i + 1)) j) → IsRaisedAt i xs ys
 raised_is {i} {xs} within size before after = grind (arith, length-set, slice_index, get_or-set_same, get_or-set_other)
 
@@ -210,7 +221,8 @@ rank_from_zero ys (suc i) within h =
     let none : coefficient (slice_index ys i) (suc i) ≡ 0 = rw (h i (omega arith)) (none_above i (suc i) (omega arith)) in
     omega (arith, rank_from_zero ys i (omega arith) (λ j k. h j (omega arith)), rank_of_more ys i (omega arith))
 
-raised_rank : {n i : ℕ} {xs ys : List ℕ} → IsFirstToRise n xs i → IsRaisedAt i xs ys → (k : ℕ) → i < k → k ≤ length xs → rank_of_first k ys ≡ rank_of_first k xs + 1
+raised_rank : {n i : ℕ} {xs ys : List ℕ} → IsFirstToRise n xs i → IsRaisedAt i xs ys → (k : ℕ) → i < k → k ≤ length xs
+    → rank_of_first k ys ≡ rank_of_first k xs + 1
 raised_rank first h zero above within = absurd (omega arith)
 raised_rank {n} {i} {xs} {ys} first h (suc k) above within = elim (cases_lt i k) [
   | inl later ↦
@@ -230,7 +242,8 @@ from_place xs up (suc i) within =
     omega (arith, from_place xs up i (omega arith), simp add-one at (up i (omega arith)))
 
 -- the number at the first place that can rise, one more, begins the choice of the next rank
-pub next_choice_is : {n i : ℕ} {xs ys : List ℕ} → IsChoice n xs → IsFirstToRise n xs i → IsRaisedAt i xs ys → IsChoiceOfRank n (length xs) (rank_of xs + 1) ys
+pub next_choice_is : {n i : ℕ} {xs ys : List ℕ} → IsChoice n xs → IsFirstToRise n xs i → IsRaisedAt i xs ys
+    → IsChoiceOfRank n (length xs) (rank_of xs + 1) ys
 next_choice_is {n} {i} {xs} {ys} choice first h = record {
   size = h.size;
   choice = record {

@@ -1,7 +1,7 @@
 -- Falling factorials as products of the numbers above one number up to another.
-use Rattle.applied.proofs.Common.{◌≡◌, ◌<◌, ◌≤◌, ◌+◌, ◌-◌, ◌*◌, ◌≤ℤ◌, ◌<ℤ◌, ◌+ℤ◌, ◌-ℤ◌, ◌*ℤ◌, fits_below, ℕ, ℤ, zero, suc, pos, unsigned_abs, arith, ap, inl, inr, refl, eq_of_mul-eq-mul_left, cases_lt, ints, IsRange, factorial_pos, linear, none_above, sizes, factorial_formula, factorial_of, falling_of, FallingByCoefficient, FallingFormula, ◌∙◌}
+use Rattle.applied.proofs.Common.{◌≡◌, ◌<◌, ◌≤◌, ◌+◌, ◌-◌, ◌*◌, ◌≤ℤ◌, ◌<ℤ◌, ◌+ℤ◌, ◌-ℤ◌, ◌*ℤ◌, fits_below, ℕ, ℤ, zero, suc, pos, unsigned_abs, arith, ap, inl, inr, refl, eq_of_mul-eq-mul_left, cases_lt, ints, IsRange, factorial_pos, linear, none_above, sizes, factorial_formula, FallingByCoefficient, FallingFormula, ◌∙◌}
 use Rattle.num_integer.specs.Coefficient.{factorial}
-use Rattle.applied.specs.Counting.{falling}
+use Rattle.applied.specs.Counting.{falling, factorial_of, falling_of}
 
 -- ---- over natural numbers
 
@@ -51,10 +51,10 @@ pub falling_is : (n k low : ℤ) → low ≡ n -ℤ k → falling_of n (n -ℤ l
 falling_is n k low e = grind arith
 
 pub falling_of_none : (n k : ℤ) → pos 0 ≤ℤ n → n <ℤ k → falling_of n k ≡ pos 0
-falling_of_none n k up less = ap pos (falling_none (unsigned_abs n) (unsigned_abs k) (omega (arith, sizes)))
+falling_of_none n k up less = ap pos (falling_none (unsigned_abs n) (unsigned_abs k) (omega sizes))
 
 pub others_fit : {fits : ℤ → Type 0} {low high n k : ℤ} → IsRange fits low high → fits n → pos 0 ≤ℤ k → k ≤ℤ n → fits (n -ℤ k)
-others_fit range n_fits k_up within = fits_below range n_fits (omega (arith, linear)) (omega (arith, linear))
+others_fit range n_fits k_up within = fits_below range n_fits (omega linear) (omega linear)
 
 -- ---- the loop
 
@@ -76,22 +76,22 @@ module _ {fits : ℤ → Type 0} {low high : ℤ} where
     next_is : product *ℤ (factor +ℤ pos 1) ≡ pos (falling (unsigned_abs low + suc h.count) (suc h.count))
     unfolding falling
     next_is =
-        let next : factor +ℤ pos 1 ≡ pos (suc (unsigned_abs low + h.count)) = omega (arith, sizes, h.at) in
+        let next : factor +ℤ pos 1 ≡ pos (suc (unsigned_abs low + h.count)) = omega (sizes, h.at) in
         let e : unsigned_abs low + suc h.count ≡ suc (unsigned_abs low + h.count) = omega arith in
-        rw (h.is, next, e) (omega (arith, ints))
+        rw (h.is, next, e) (omega ints)
 
     pub next_factor_fits : {least most : ℤ} → factor <ℤ high → IsRange fits least most → fits high → fits (factor +ℤ pos 1)
-    next_factor_fits more range high_fits = fits_below range high_fits (omega (arith, linear, h.at)) (omega (arith, linear))
+    next_factor_fits more range high_fits = fits_below range high_fits (omega (linear, h.at)) (omega linear)
 
     -- the next product fits if the last one does
     pub next_product_fits : {least most : ℤ} → factor <ℤ high → IsRange fits least most → fits (falling_of high (high -ℤ low))
         → fits (product *ℤ (factor +ℤ pos 1))
     next_product_fits more range last_fits =
         let rest = unsigned_abs (high -ℤ (factor +ℤ pos 1)) in
-        let top : unsigned_abs high ≡ unsigned_abs low + suc h.count + rest = omega (arith, sizes, h.at) in
-        let all : unsigned_abs (high -ℤ low) ≡ suc h.count + rest = omega (arith, sizes, h.at) in
-        rw next_is (fits_below range (rw (top, all) at last_fits) (omega (arith, ints))
-        (omega (arith, ints, falling_grows (unsigned_abs low) (suc h.count) rest)))
+        let top : unsigned_abs high ≡ unsigned_abs low + suc h.count + rest = omega (sizes, h.at) in
+        let all : unsigned_abs (high -ℤ low) ≡ suc h.count + rest = omega (sizes, h.at) in
+        rw next_is (fits_below range (rw (top, all) at last_fits) (omega ints)
+        (omega (ints, falling_grows (unsigned_abs low) (suc h.count) rest)))
 
     pub product_next : {next times : ℤ} → factor <ℤ high → next ≡ factor +ℤ pos 1 → times ≡ product *ℤ next → fits next → fits times
         → IsProductSoFar fits low next high times
@@ -99,7 +99,7 @@ module _ {fits : ℤ → Type 0} {low high : ℤ} where
       factor_in_range = next_fits;
       product_in_range = times_fits;
       count = suc h.count;
-      at = omega (arith, linear, h.at);
-      to_high = omega (arith, linear);
+      at = omega (linear, h.at);
+      to_high = omega linear;
       is = times_at ∙ rw next_at next_is;
     }

@@ -13,12 +13,13 @@ others_are_left zero other = refl
 others_are_left (suc n) other = refl
 
 -- the next one is first, and the others are as many as are left after it
-pub next_is_first : (left next other : ℤ) → pos 0 ≤ℤ left → left ≢ pos 0 → instalments_left (unsigned_abs left) next other ≡ next ∷ instalments_left (unsigned_abs (left -ℤ pos 1)) other other
+pub next_is_first : (left next other : ℤ) → pos 0 ≤ℤ left → left ≢ pos 0
+    → instalments_left (unsigned_abs left) next other ≡ next ∷ instalments_left (unsigned_abs (left -ℤ pos 1)) other other
 next_is_first (pos zero) next other up some = absurd (some refl)
 next_is_first (pos (suc n)) next other up some =
-    let fewer : unsigned_abs (pos (suc n) -ℤ pos 1) ≡ n = omega (arith, ints) in
+    let fewer : unsigned_abs (pos (suc n) -ℤ pos 1) ≡ n = omega ints in
     rw fewer (ap (λ (xs : List ℤ). next ∷ xs) (others_are_left n other))
-next_is_first (negsuc n) next other up some = absurd (omega (arith, ints))
+next_is_first (negsuc n) next other up some = absurd (omega ints)
 
 pub none_is_left : (left next other : ℤ) → left ≡ pos 0 → instalments_left (unsigned_abs left) next other ≡ []
 none_is_left left next other none = rw none refl
@@ -33,39 +34,39 @@ the_others zero first other up = absurd (omega arith)
 the_others (suc n) first other up = let fewer : suc n - 1 ≡ n = omega arith in rw fewer refl
 
 equal_sum : (n : ℕ) (x : ℤ) → signed_sum (replicate n x) ≡ pos n *ℤ x
-equal_sum zero x = omega (arith, products)
+equal_sum zero x = omega products
 equal_sum (suc n) x =
     let rest : signed_sum (replicate n x) ≡ pos n *ℤ x = equal_sum n x in
-    let step : pos (suc n) ≡ pos n +ℤ pos 1 = omega (arith, ints) in
-    rw (step, rest) (simp expand (omega (arith, products)))
+    let step : pos (suc n) ≡ pos n +ℤ pos 1 = omega ints in
+    rw (step, rest) (simp expand (omega products))
 
 -- ---- they are the quotient rounded toward zero, and the first has the remainder too
 
 module _ {amount count other rest : ℤ} (up : pos 0 <ℤ count) (h : IsTruncated amount count other rest) where
   of_positive : pos 0 ≤ℤ amount → (pos 0 ≤ℤ other) × (pos 0 ≤ℤ rest) × ((other +ℤ rest) ≤ℤ amount)
   of_positive from =
-      let rest_up : pos 0 ≤ℤ rest = omega (arith, sizes, h.sign) in
-      let other_up : pos 0 ≤ℤ other = by_lt_z other (pos 0) (λ below. absurd (omega (arith, products, sizes, h.division.equation, h.division.small, multiples_apart other (pos 0) count up below))) (λ fine. fine) in
-      let more = simp expand at (product_from_zero other (count -ℤ pos 1) other_up (omega (arith, linear))) in
-      (other_up, rest_up, omega (arith, products, h.division.equation, more))
+      let rest_up : pos 0 ≤ℤ rest = omega (sizes, h.sign) in
+      let other_up : pos 0 ≤ℤ other = by_lt_z other (pos 0) (λ below. absurd (omega (products, sizes, h.division.equation, h.division.small, multiples_apart other (pos 0) count up below))) (λ fine. fine) in
+      let more = simp expand at (product_from_zero other (count -ℤ pos 1) other_up (omega linear)) in
+      (other_up, rest_up, omega (products, h.division.equation, more))
 
   of_negative : amount ≤ℤ pos 0 → (other ≤ℤ pos 0) × (rest ≤ℤ pos 0) × (amount ≤ℤ (other +ℤ rest))
   of_negative to =
-      let rest_down : rest ≤ℤ pos 0 = omega (arith, sizes, h.sign) in
-      let other_down : other ≤ℤ pos 0 = by_lt_z (pos 0) other (λ above. absurd (omega (arith, products, sizes, h.division.equation, h.division.small, multiples_apart (pos 0) other count up above))) (λ fine. fine) in
-      let more = simp expand at (product_from_zero (pos 0 -ℤ other) (count -ℤ pos 1) (omega (arith, linear)) (omega (arith, linear))) in
-      (other_down, rest_down, omega (arith, products, h.division.equation, more))
+      let rest_down : rest ≤ℤ pos 0 = omega (sizes, h.sign) in
+      let other_down : other ≤ℤ pos 0 = by_lt_z (pos 0) other (λ above. absurd (omega (products, sizes, h.division.equation, h.division.small, multiples_apart (pos 0) other count up above))) (λ fine. fine) in
+      let more = simp expand at (product_from_zero (pos 0 -ℤ other) (count -ℤ pos 1) (omega linear) (omega linear)) in
+      (other_down, rest_down, omega (products, h.division.equation, more))
 
   -- the first fits as the amount does
   pub first_fits : {fits : ℤ → Type 0} {low high : ℤ} → IsRange fits low high → fits amount → fits (other +ℤ rest)
   first_fits range amount_fits = within_fits range amount_fits (by_lt_z amount (pos 0)
-      (λ below. let of = of_negative (omega (arith, linear)) in inr (omega (arith, linear), omega (arith, linear)))
-      (λ above. let of = of_positive above in inl (omega (arith, linear), omega (arith, linear))))
+      (λ below. let of = of_negative (omega linear) in inr (omega linear, omega linear))
+      (λ above. let of = of_positive above in inl (omega linear, omega linear)))
 
   pub instalments_are : {first : ℤ} → first ≡ other +ℤ rest → AreInstalments amount count (instalments_left (unsigned_abs count) first other)
   instalments_are {first} is =
-      let counted : count ≡ pos (unsigned_abs count - 1) +ℤ pos 1 = omega (arith, sizes) in
-      let list = the_others (unsigned_abs count) first other (omega (arith, sizes)) in
+      let counted : count ≡ pos (unsigned_abs count - 1) +ℤ pos 1 = omega sizes in
+      let list = the_others (unsigned_abs count) first other (omega sizes) in
       record {
         first = first;
         other = other;
@@ -73,39 +74,42 @@ module _ {amount count other rest : ℤ} (up : pos 0 <ℤ count) (h : IsTruncate
         counted = counted;
         equal = list;
         whole = rw list (
-            let sum : signed_sum (replicate (unsigned_abs count - 1) other) ≡ pos (unsigned_abs count - 1) *ℤ other = equal_sum (unsigned_abs count - 1) other in
+            let sum : signed_sum (replicate (unsigned_abs count - 1) other) ≡ pos (unsigned_abs count - 1) *ℤ other =
+            equal_sum (unsigned_abs count - 1) other in
             let times : count *ℤ other ≡ (pos (unsigned_abs count - 1) +ℤ pos 1) *ℤ other = ap (λ (t : ℤ). t *ℤ other) counted in
             let each = simp expand at times in
-            omega (arith, products, h.division.equation, sum, each, is));
-        of_positive = λ from. let of = of_positive from in (omega (arith, linear), omega (arith, sizes, h.division.small));
-        of_negative = λ to. let of = of_negative to in (omega (arith, linear), omega (arith, sizes, h.division.small));
+            omega (products, h.division.equation, sum, each, is));
+        of_positive = λ from. let of = of_positive from in (omega linear, omega (sizes, h.division.small));
+        of_negative = λ to. let of = of_negative to in (omega linear, omega (sizes, h.division.small));
       }
 
 -- ---- only one list is that of an amount and a count
 
-quotient_of : {amount count : ℤ} {xs : List ℤ} → pos 0 <ℤ count → (h : AreInstalments amount count xs) → IsTruncated amount count h.other (h.first -ℤ h.other)
+quotient_of : {amount count : ℤ} {xs : List ℤ} → pos 0 <ℤ count → (h : AreInstalments amount count xs)
+    → IsTruncated amount count h.other (h.first -ℤ h.other)
 quotient_of {amount} {count} {xs} up h =
     let whole : h.first +ℤ signed_sum (replicate h.others h.other) ≡ amount = rw h.equal at h.whole in
     let sum : signed_sum (replicate h.others h.other) ≡ pos h.others *ℤ h.other = equal_sum h.others h.other in
     let each = simp expand at (ap (λ (t : ℤ). t *ℤ h.other) h.counted) in
     by_lt_z amount (pos 0)
-    (λ below. let of = h.of_negative (omega (arith, linear)) in record {
-      division = record { equation = omega (arith, products, whole, sum, each); small = omega (arith, sizes) };
-      sign = elim (zero_or_not (h.first -ℤ h.other)) [ inl none ↦ inl none | inr some ↦ inr (inr (omega (arith, linear, some), below)) ];
+    (λ below. let of = h.of_negative (omega linear) in record {
+      division = record { equation = omega (products, whole, sum, each); small = omega sizes };
+      sign = elim (zero_or_not (h.first -ℤ h.other)) [ inl none ↦ inl none | inr some ↦ inr (inr (omega (linear, some), below)) ];
     })
     (λ above. let of = h.of_positive above in record {
-      division = record { equation = omega (arith, products, whole, sum, each); small = omega (arith, sizes) };
+      division = record { equation = omega (products, whole, sum, each); small = omega sizes };
       sign = elim (zero_or_not (h.first -ℤ h.other)) [
         | inl none ↦ inl none
-        | inr some ↦ inr (inl (omega (arith, linear, some), by_lt_z (pos 0) amount (λ fine. fine) (λ zero. absurd (some (omega (arith, linear, h.of_negative zero))))))
+        | inr some ↦ inr (inl (omega (linear, some), by_lt_z (pos 0) amount (λ fine. fine) (λ zero. absurd (some (omega (linear, h.of_negative zero))))))
       ];
     })
 
-pub instalments_are_only : {amount count : ℤ} {xs : List ℤ} → pos 0 <ℤ count → AreInstalments amount count xs → IsOnly (AreInstalments amount count) xs
+pub instalments_are_only : {amount count : ℤ} {xs : List ℤ} → pos 0 <ℤ count → AreInstalments amount count xs
+    → IsOnly (AreInstalments amount count) xs
 instalments_are_only up h ys k =
     let same = only_truncated (quotient_of up k) (quotient_of up h) in
-    let first : k.first ≡ h.first = omega (arith, linear, same.0, same.1) in
-    let others : k.others ≡ h.others = omega (arith, ints, h.counted, k.counted) in
+    let first : k.first ≡ h.first = omega (linear, same.0, same.1) in
+    let others : k.others ≡ h.others = omega (ints, h.counted, k.counted) in
     k.equal ∙ rw (first, others, same.0) (sym h.equal)
 
 -- ---- natural numbers
@@ -127,9 +131,10 @@ naturals (x ∷ xs) (y ∷ ys) e =
 pub instalments_are_natural : {amount count : ℕ} (xs : List ℕ) → 0 < count → AreInstalments (pos amount) (pos count) (map (λ k. pos k) xs)
     → xs ≡ (amount / count + amount % count) ∷ replicate (count - 1) (amount / count)
 instalments_are_natural {amount} {count} xs up h =
-    let nonzero : pos count ≢ pos 0 = λ e. absurd (omega (arith, ints)) in
-    let parts : (h.other ≡ pos (amount / count)) × (h.first -ℤ h.other ≡ pos (amount % count)) = only_truncated (quotient_of (omega (arith, ints)) h) (truncated_is (pos amount) (pos count) nonzero) in
-    let first : h.first ≡ pos (amount / count + amount % count) = omega (arith, ints, parts.0, parts.1) in
-    let others : h.others ≡ count - 1 = omega (arith, ints, h.counted) in
+    let nonzero : pos count ≢ pos 0 = λ e. absurd (omega ints) in
+    let parts : (h.other ≡ pos (amount / count)) × (h.first -ℤ h.other ≡ pos (amount % count)) =
+    only_truncated (quotient_of (omega ints) h) (truncated_is (pos amount) (pos count) nonzero) in
+    let first : h.first ≡ pos (amount / count + amount % count) = omega (ints, parts.0, parts.1) in
+    let others : h.others ≡ count - 1 = omega (ints, h.counted) in
     naturals xs ((amount / count + amount % count) ∷ replicate (count - 1) (amount / count))
     (h.equal ∙ rw (first, others, parts.0) (ap (λ (ys : List ℤ). pos (amount / count + amount % count) ∷ ys) (sym (replicated (count - 1) (amount / count)))))

@@ -34,8 +34,8 @@ page_range_is {page} {size} from_zero ordered to_items on back empty = record {
   exactly = λ item. (
     λ h.
         let there = on item h.0 h.1 in
-        (there.0, omega (arith, linear), (item -ℤ page *ℤ size, record { equation = omega (arith, linear); from_zero = omega (arith, linear); below = omega (arith, linear) })),
-    λ h. back item h.0 h.1 (omega (arith, linear, h.2.1.equation, h.2.1.from_zero)) (omega (arith, linear, h.2.1.equation, h.2.1.below)),
+        (there.0, omega linear, (item -ℤ page *ℤ size, record { equation = omega linear; from_zero = omega linear; below = omega linear })),
+    λ h. back item h.0 h.1 (omega (linear, h.2.1.equation, h.2.1.from_zero)) (omega (linear, h.2.1.equation, h.2.1.below)),
   );
   empty = empty;
 }
@@ -45,59 +45,63 @@ pub none_before : {page size items : ℤ} → pos 0 <ℤ size → pos 0 ≤ℤ i
 none_before {page} {size} up from_zero before = grind arith
 
 -- nor on a page after that of the last item
-pub none_after : {page size items full rest : ℤ} → pos 0 <ℤ size → pos 0 ≤ℤ items → IsFloored items size full rest → full <ℤ page → IsRangeOfPage page size items items items
+pub none_after : {page size items full rest : ℤ} → pos 0 <ℤ size → pos 0 ≤ℤ items → IsFloored items size full rest → full <ℤ page
+    → IsRangeOfPage page size items items items
 none_after {page} {size} {full = full} up from_zero division after =
     let below = floored_range up division in
     let over = multiples_apart full page size up after in
-    page_range_is from_zero (omega (arith, linear)) (omega (arith, linear)) (λ item h k. absurd (omega (arith, linear))) (λ item h k l m. absurd (omega (arith, linear))) (λ _. refl)
+    page_range_is from_zero (omega linear) (omega linear) (λ item h k. absurd (omega linear)) (λ item h k l m. absurd (omega linear)) (λ _. refl)
 
 -- any other page begins within the items
 pub begins_in : {page size items full rest : ℤ} → pos 0 <ℤ size → IsFloored items size full rest → pos 0 ≤ℤ page → page ≤ℤ full
     → (pos 0 ≤ℤ (page *ℤ size)) × ((page *ℤ size) ≤ℤ items)
 begins_in {page} {size} {full = full} up division from_zero to_full =
-    let most = product_at_most {v = size} {y = size} from_zero to_full (omega (arith, linear)) (omega (arith, linear)) in
-    (product_from_zero page size from_zero (omega (arith, linear)), omega (arith, linear, division.division.equation))
+    let most = product_at_most {v = size} {y = size} from_zero to_full (omega linear) (omega linear) in
+    (product_from_zero page size from_zero (omega linear), omega (linear, division.division.equation))
 
 -- it ends with the items, or has all its items
 module _ {page size items first left : ℤ} (within : (pos 0 ≤ℤ (page *ℤ size)) × ((page *ℤ size) ≤ℤ items)) (is : first ≡ page *ℤ size) (left_is : left ≡ items -ℤ first) where
   pub short_page : left <ℤ size → IsRangeOfPage page size items first items
   short_page less =
-      rw is (page_range_is within.0 within.1 (omega (arith, linear)) (λ item h k. (omega (arith, linear, within.0), h, omega (arith, linear)))
-      (λ item h k l m. (l, k)) (λ none. omega (arith, linear, within.1)))
+      rw is (page_range_is within.0 within.1 (omega linear) (λ item h k. (omega (linear, within.0), h, omega linear))
+      (λ item h k l m. (l, k)) (λ none. omega (linear, within.1)))
 
   pub whole_page : {end : ℤ} → pos 0 <ℤ size → size ≤ℤ left → end ≡ first +ℤ size → IsRangeOfPage page size items first end
   whole_page up enough end_is =
-      rw (end_is, is) (page_range_is within.0 (omega (arith, linear)) (omega (arith, linear)) (λ item h k. (omega (arith, linear, within.0), h, k))
-      (λ item h k l m. (l, m)) (λ none. absurd (omega (arith, linear))))
+      rw (end_is, is) (page_range_is within.0 (omega linear) (omega linear) (λ item h k. (omega (linear, within.0), h, k))
+      (λ item h k l m. (l, m)) (λ none. absurd (omega linear)))
 
 -- a range that is not empty lies within each other of the same page
-lies_within : {page size items first end f e : ℤ} → IsRangeOfPage page size items first end → IsRangeOfPage page size items f e → first <ℤ end → (f ≤ℤ first) × (end ≤ℤ e)
-lies_within {first = first} {end = end} h k some = grind (arith, linear)
+lies_within : {page size items first end f e : ℤ} → IsRangeOfPage page size items first end → IsRangeOfPage page size items f e → first <ℤ end
+    → (f ≤ℤ first) × (end ≤ℤ e)
+lies_within {first = first} {end = end} h k some = grind linear
 
 -- a page has one range
-pub only_page_range : {page size items first end : ℤ} → IsRangeOfPage page size items first end → IsOnly (λ (f, e). IsRangeOfPage page size items f e) (first, end)
+pub only_page_range : {page size items first end : ℤ} → IsRangeOfPage page size items first end
+    → IsOnly (λ (f, e). IsRangeOfPage page size items f e) (first, end)
 only_page_range {first = first} {end = end} h = λ (f, e) k.
     let same : (f ≡ first) × (e ≡ end) = by_lt_z first end
-    (λ some. let out = lies_within h k some in grind (arith, linear, lies_within k h))
-    (λ none. let here = h.empty none in grind (arith, linear, lies_within k h, k.empty, h.ordered, k.ordered, h.to_items, k.to_items)) in
+    (λ some. let out = lies_within h k some in grind (linear, lies_within k h))
+    (λ none. let here = h.empty none in grind (linear, lies_within k h, k.empty, h.ordered, k.ordered, h.to_items, k.to_items)) in
     rw (same.0, same.1) refl
 
 -- ---- where the parts begin
 
-even_cut : {parts items size longer : ℤ} → items ≡ size *ℤ parts +ℤ longer → pos 0 ≤ℤ longer → longer <ℤ parts → IsEvenCut parts items (cut_at size longer)
+even_cut : {parts items size longer : ℤ} → items ≡ size *ℤ parts +ℤ longer → pos 0 ≤ℤ longer → longer <ℤ parts
+    → IsEvenCut parts items (cut_at size longer)
 even_cut {parts} {items} {size} {longer} equation up below = record {
-  begins = omega (arith, products, clamps);
-  ends = omega (arith, linear, clamps, comm parts size);
+  begins = omega (products, clamps);
+  ends = omega (linear, clamps, comm parts size);
   sizes = λ part from_zero within.
-      let next : (part +ℤ pos 1) *ℤ size ≡ part *ℤ size +ℤ size = simp expand (omega (arith, products)) in
+      let next : (part +ℤ pos 1) *ℤ size ≡ part *ℤ size +ℤ size = simp expand (omega products) in
       by_lt_z part longer
       (λ early.
-      let one : cut_at size longer (part +ℤ pos 1) -ℤ cut_at size longer part ≡ size +ℤ pos 1 = omega (arith, linear, clamps) in
-      let more : (size +ℤ pos 1) *ℤ parts ≡ size *ℤ parts +ℤ parts = simp expand (omega (arith, products)) in
-      rw one (record { remainder = longer -ℤ part -ℤ parts; division = ceiled_by_range (omega (arith, linear)) (omega (arith, linear)) (omega (arith, linear)) }))
+      let one : cut_at size longer (part +ℤ pos 1) -ℤ cut_at size longer part ≡ size +ℤ pos 1 = omega (linear, clamps) in
+      let more : (size +ℤ pos 1) *ℤ parts ≡ size *ℤ parts +ℤ parts = simp expand (omega products) in
+      rw one (record { remainder = longer -ℤ part -ℤ parts; division = ceiled_by_range (omega linear) (omega linear) (omega linear) }))
       (λ late.
-      let none : cut_at size longer (part +ℤ pos 1) -ℤ cut_at size longer part ≡ size = omega (arith, linear, clamps) in
-      rw none (record { remainder = longer -ℤ part; division = ceiled_by_range (omega (arith, linear)) (omega (arith, linear)) (omega (arith, linear)) }));
+      let none : cut_at size longer (part +ℤ pos 1) -ℤ cut_at size longer part ≡ size = omega (linear, clamps) in
+      rw none (record { remainder = longer -ℤ part; division = ceiled_by_range (omega linear) (omega linear) (omega linear) }));
 }
 
 -- ---- the range of a part
@@ -106,33 +110,33 @@ even_cut {parts} {items} {size} {longer} equation up below = record {
 cut_within : {parts items size longer part : ℤ} → pos 0 <ℤ parts → pos 0 ≤ℤ items → IsFloored items parts size longer → pos 0 ≤ℤ part → part ≤ℤ parts
     → (pos 0 ≤ℤ (part *ℤ size)) × ((part *ℤ size) ≤ℤ cut_at size longer part) × (cut_at size longer part ≤ℤ items)
 cut_within {parts} {items} {size} {longer} {part} up from_zero division part_up within =
-    let size_up : pos 0 ≤ℤ size = grind (arith, products, multiples_apart size (pos 0) parts up) in
+    let size_up : pos 0 ≤ℤ size = grind (products, multiples_apart size (pos 0) parts up) in
     let begins = product_from_zero part size part_up size_up in
-    let most = product_at_most {u = part} {v = size} {x = parts} {y = size} part_up within size_up (omega (arith, linear)) in
-    (begins, omega (arith, linear, clamps), omega (arith, linear, clamps, comm parts size))
+    let most = product_at_most {u = part} {v = size} {x = parts} {y = size} part_up within size_up (omega linear) in
+    (begins, omega (linear, clamps), omega (linear, clamps, comm parts size))
 
 pub parts_positive : {part parts : ℤ} → pos 0 ≤ℤ part → part <ℤ parts → pos 0 <ℤ parts
-parts_positive part_up within = omega (arith, linear)
+parts_positive part_up within = omega linear
 
 -- so where a part begins fits, and so does the product that leads to it
 pub start_fits : {fits : ℤ → Type 0} {low high parts items size longer part at : ℤ} → IsRange fits low high → fits items → pos 0 ≤ℤ items
     → IsFloored items parts size longer → pos 0 ≤ℤ part → part <ℤ parts → pos 0 ≤ℤ at → at ≤ℤ parts → fits (at *ℤ size) × fits (cut_at size longer at)
 start_fits range items_fit from_zero division part_up below at_up within =
     let start = cut_within (parts_positive part_up below) from_zero division at_up within in
-    (fits_below range items_fit start.0 (omega (arith, linear, start.1, start.2)), fits_below range items_fit (omega (arith, linear, start.0, start.1)) start.2)
+    (fits_below range items_fit start.0 (omega (linear, start.1, start.2)), fits_below range items_fit (omega (linear, start.0, start.1)) start.2)
 
 pub part_range : {parts items size longer part : ℤ} → pos 0 ≤ℤ items → IsFloored items parts size longer → pos 0 ≤ℤ part → part <ℤ parts
     → IsRangeOfPart part parts items (cut_at size longer part) (cut_at size longer (part +ℤ pos 1))
 part_range {parts} {items} {size} {longer} {part} from_zero division part_up within =
-    let up : pos 0 <ℤ parts = omega (arith, linear) in
+    let up : pos 0 <ℤ parts = omega linear in
     let range = floored_range up division in
-    let size_up : pos 0 ≤ℤ size = grind (arith, products, multiples_apart size (pos 0) parts up) in
-    let first = cut_within up from_zero division part_up (omega (arith, linear)) in
-    let end = cut_within {part = part +ℤ pos 1} up from_zero division (omega (arith, linear)) (omega (arith, linear)) in
-    let next : (part +ℤ pos 1) *ℤ size ≡ part *ℤ size +ℤ size = simp expand (omega (arith, products)) in
+    let size_up : pos 0 ≤ℤ size = grind (products, multiples_apart size (pos 0) parts up) in
+    let first = cut_within up from_zero division part_up (omega linear) in
+    let end = cut_within {part = part +ℤ pos 1} up from_zero division (omega linear) (omega linear) in
+    let next : (part +ℤ pos 1) *ℤ size ≡ part *ℤ size +ℤ size = simp expand (omega products) in
     record {
-      from_zero = omega (arith, linear, first.0, first.1);
-      ordered = omega (arith, linear, clamps);
+      from_zero = omega (linear, first.0, first.1);
+      ordered = omega (linear, clamps);
       to_items = end.2;
       cut = cut_at size longer;
       even = even_cut division.division.equation range.0 range.1;
@@ -143,20 +147,22 @@ part_range {parts} {items} {size} {longer} {part} from_zero division part_up wit
 -- ---- the only range
 
 -- each even cut cuts at the same places
-same_cut : {parts items : ℤ} {c d : ℤ → ℤ} (part : ℕ) → pos part ≤ℤ parts → IsEvenCut parts items c → IsEvenCut parts items d → d (pos part) ≡ c (pos part)
+same_cut : {parts items : ℤ} {c d : ℤ → ℤ} (part : ℕ) → pos part ≤ℤ parts → IsEvenCut parts items c → IsEvenCut parts items d
+    → d (pos part) ≡ c (pos part)
 same_cut zero within h k = k.begins ∙ sym h.begins
 same_cut {c = c} {d = d} (suc part) within h k =
-    let before = same_cut part (omega (arith, linear)) h k in
-    let own = h.sizes (pos part) (omega (arith, linear)) (omega (arith, linear)) in
-    let sizes = (only_ceiled own.division (k.sizes (pos part) (omega (arith, linear)) (omega (arith, linear))).division).0 in
-    let next : pos (suc part) ≡ pos part +ℤ pos 1 = omega (arith, linear) in
-    rw next (omega (arith, linear))
+    let before = same_cut part (omega linear) h k in
+    let own = h.sizes (pos part) (omega linear) (omega linear) in
+    let sizes = (only_ceiled own.division (k.sizes (pos part) (omega linear) (omega linear)).division).0 in
+    let next : pos (suc part) ≡ pos part +ℤ pos 1 = omega linear in
+    rw next (omega linear)
 
 -- a part has one range
-pub only_part_range : {part parts items first end : ℤ} → pos 0 ≤ℤ part → part <ℤ parts → IsRangeOfPart part parts items first end → IsOnly (λ (f, e). IsRangeOfPart part parts items f e) (first, end)
+pub only_part_range : {part parts items first end : ℤ} → pos 0 ≤ℤ part → part <ℤ parts → IsRangeOfPart part parts items first end
+    → IsOnly (λ (f, e). IsRangeOfPart part parts items f e) (first, end)
 only_part_range {part = pos j} {first = first} {end = end} from_zero within h = λ (f, e) k.
-    let next : pos j +ℤ pos 1 ≡ pos (suc j) = omega (arith, linear) in
-    let begins : f ≡ first = k.begins ∙ same_cut j (omega (arith, linear)) h.even k.even ∙ sym h.begins in
-    let ends : e ≡ end = k.ends ∙ ap k.cut next ∙ same_cut (suc j) (omega (arith, linear)) h.even k.even ∙ sym (h.ends ∙ ap h.cut next) in
+    let next : pos j +ℤ pos 1 ≡ pos (suc j) = omega linear in
+    let begins : f ≡ first = k.begins ∙ same_cut j (omega linear) h.even k.even ∙ sym h.begins in
+    let ends : e ≡ end = k.ends ∙ ap k.cut next ∙ same_cut (suc j) (omega linear) h.even k.even ∙ sym (h.ends ∙ ap h.cut next) in
     rw (begins, ends) refl
-only_part_range {part = negsuc j} from_zero within h = absurd (omega (arith, linear))
+only_part_range {part = negsuc j} from_zero within h = absurd (omega linear)

@@ -1,22 +1,24 @@
 -- An amount divided in proportion to weights by largest remainders.
-use Rattle.applied.proofs.WeightedShares.{HaveSignTo, one_more_of_sign, same_of_sign, whole_of_sign}
 use Rattle.applied.proofs.Common.{◌≡◌, ◌⊎◌, ◌+◌, ◌*◌, ◌-◌, ◌<◌, ◌≤◌, ◌≤ℤ◌, ◌∷◌, ℕ, ℤ, pos, List, [], EachIndex, length, slice_index, slice_set, sum, sum_by, take, suc, inl, inr, refl, ◌∙◌, ap, arith, mul-le-mul_left, le_of_mul-le-mul_right, cond, leb, count_by, cases_lt, le-leb, lt-leb, get_or-set_other, get_or-set_same, length-set, take_all, take_more_set, count_by_more_no, count_by_more_yes, sum_by-cons, sum_by_more, sum_by_push, AreSharesByRemainder, AreSignedSharesByRemainder, IsNearShare, IsOnly, RoundsShare, count_from, remainder_of, rounded_down, signed_sum, SharesByRemainderAreOnly, length-map, map, map-set, set, unsigned_abs}
 
 -- ---- exact shares
 
 -- an exact share is its number rounded down and its remainder
-pub exact_parts : (amount total weight : ℕ) → 0 < total → (rounded_down amount total weight * total + remainder_of amount total weight ≡ amount * weight) × (remainder_of amount total weight < total)
+pub exact_parts : (amount total weight : ℕ) → 0 < total
+    → (rounded_down amount total weight * total + remainder_of amount total weight ≡ amount * weight) × (remainder_of amount total weight < total)
 exact_parts amount total weight up = (omega arith, omega arith)
 
 -- the exact shares together are the amount
-pub exact_sum : (amount total : ℕ) (weights : List ℕ) → 0 < total → sum_by (rounded_down amount total) weights * total + sum_by (remainder_of amount total) weights ≡ amount * sum weights
+pub exact_sum : (amount total : ℕ) (weights : List ℕ) → 0 < total
+    → sum_by (rounded_down amount total) weights * total + sum_by (remainder_of amount total) weights ≡ amount * sum weights
 exact_sum amount total [] up = omega arith
 exact_sum amount total (w ∷ ws) up =
     rw (sum_by-cons (rounded_down amount total) w ws, sum_by-cons (remainder_of amount total) w ws, sum_by-cons (λ (x : ℕ). x) w ws)
     (omega (arith, exact_sum amount total ws up, (exact_parts amount total w up).0))
 
 -- the first exact shares, rounded down, are at most the amount
-pub down_within : (amount total i : ℕ) (weights : List ℕ) → 0 < total → sum (take i weights) ≤ total → sum_by (rounded_down amount total) (take i weights) ≤ amount
+pub down_within : (amount total i : ℕ) (weights : List ℕ) → 0 < total → sum (take i weights) ≤ total
+    → sum_by (rounded_down amount total) (take i weights) ≤ amount
 down_within amount total i weights up within =
     le_of_mul-le-mul_right {m = sum_by (rounded_down amount total) (take i weights)} {n = amount} {k = total}
     (omega (arith, exact_sum amount total (take i weights) up, mul-le-mul_left amount within)) up
@@ -37,7 +39,8 @@ reached_more R bar weights i within = (
 )
 
 -- one weight before
-reached-cons : (R : ℕ → ℕ) (bar w : ℕ) (ws : List ℕ) → (bar ≤ R w → reached R bar (w ∷ ws) ≡ suc (reached R bar ws)) × (R w < bar → reached R bar (w ∷ ws) ≡ reached R bar ws)
+reached-cons : (R : ℕ → ℕ) (bar w : ℕ) (ws : List ℕ)
+    → (bar ≤ R w → reached R bar (w ∷ ws) ≡ suc (reached R bar ws)) × (R w < bar → reached R bar (w ∷ ws) ≡ reached R bar ws)
 reached-cons R bar w ws =
     let one = sum_by-cons (λ (x : ℕ). cond (leb bar (R x)) 1 0) w ws in (
       λ reaches. one ∙ ap (λ b. cond b 1 0 + reached R bar ws) (le-leb bar (R w) reaches) ∙ omega arith,
@@ -47,10 +50,12 @@ reached-cons R bar w ws =
 -- no remainder reaches the total
 pub none_reached : (amount total : ℕ) (weights : List ℕ) → 0 < total → count_from amount total total weights ≡ 0
 none_reached amount total [] up = refl
-none_reached amount total (w ∷ ws) up = (reached-cons (remainder_of amount total) total w ws).1 (exact_parts amount total w up).1 ∙ none_reached amount total ws up
+none_reached amount total (w ∷ ws) up =
+    (reached-cons (remainder_of amount total) total w ws).1 (exact_parts amount total w up).1 ∙ none_reached amount total ws up
 
 -- the remainders together are at most the total for each that is not 0
-remainders_within : (amount total : ℕ) (weights : List ℕ) → 0 < total → sum_by (remainder_of amount total) weights ≤ count_from amount total 1 weights * total
+remainders_within : (amount total : ℕ) (weights : List ℕ) → 0 < total
+    → sum_by (remainder_of amount total) weights ≤ count_from amount total 1 weights * total
 remainders_within amount total [] up = omega arith
 remainders_within amount total (w ∷ ws) up =
     let rest = remainders_within amount total ws up in
@@ -61,7 +66,8 @@ remainders_within amount total (w ∷ ws) up =
     ])
 
 -- the units that are over are at most one for each remainder that is not 0
-pub units_within : {amount total units : ℕ} (weights : List ℕ) → 0 < total → total ≡ sum weights → units + sum_by (rounded_down amount total) weights ≡ amount → units ≤ count_from amount total 1 weights
+pub units_within : {amount total units : ℕ} (weights : List ℕ) → 0 < total → total ≡ sum weights
+    → units + sum_by (rounded_down amount total) weights ≡ amount → units ≤ count_from amount total 1 weights
 units_within {amount} {total} {units} weights up is over =
     let whole : (units + sum_by (rounded_down amount total) weights) * total ≡ amount * total = rw over refl in
     le_of_mul-le-mul_right {m = units} {n = count_from amount total 1 weights} {k = total}
@@ -76,8 +82,10 @@ pub record AreRaisedTo (F R : ℕ → ℕ) (bar extra : ℕ) (weights : List ℕ
   pub whole : sum (take i shares) + left ≡ sum_by F (take i weights) + reached R bar (take i weights) + extra
   pub enough : 0 < left → left + reached R (bar - 1) (take i weights) ≡ extra + reached R bar (take i weights)
   pub rounded : (k : ℕ) → k < i → (slice_index shares k ≡ F (slice_index weights k)) ⊎ (slice_index shares k ≡ F (slice_index weights k) + 1)
-  pub raised : (k : ℕ) → k < i → slice_index shares k ≡ F (slice_index weights k) + 1 → (bar ≤ R (slice_index weights k) + 1) × (0 < R (slice_index weights k))
-  pub kept : (k : ℕ) → k < i → slice_index shares k ≡ F (slice_index weights k) → (R (slice_index weights k) < bar) × (0 < left → R (slice_index weights k) + 1 < bar)
+  pub raised : (k : ℕ) → k < i → slice_index shares k ≡ F (slice_index weights k) + 1
+      → (bar ≤ R (slice_index weights k) + 1) × (0 < R (slice_index weights k))
+  pub kept : (k : ℕ) → k < i → slice_index shares k ≡ F (slice_index weights k)
+      → (R (slice_index weights k) < bar) × (0 < left → R (slice_index weights k) + 1 < bar)
   pub order : (j k : ℕ) → j < i → k < i → slice_index shares j ≡ F (slice_index weights j) + 1 → slice_index shares k ≡ F (slice_index weights k)
       → (R (slice_index weights k) < R (slice_index weights j)) ⊎ ((R (slice_index weights k) ≡ R (slice_index weights j)) × (j < k))
 
@@ -133,7 +141,8 @@ raised_are_near {amount} {total} {weights = weights} {shares = shares} is up end
 -- ---- an amount has one list of shares
 
 -- if other numbers are no more together, they are the same or one of them is less
-less_somewhere : (xs ys : List ℕ) → length xs ≡ length ys → sum ys ≤ sum xs → (ys ≡ xs) ⊎ ((i : ℕ) × (i < length ys) × (slice_index ys i < slice_index xs i))
+less_somewhere : (xs ys : List ℕ) → length xs ≡ length ys → sum ys ≤ sum xs
+    → (ys ≡ xs) ⊎ ((i : ℕ) × (i < length ys) × (slice_index ys i < slice_index xs i))
 less_somewhere [] [] size within = inl refl
 less_somewhere [] (y ∷ ys) size within = absurd (omega arith)
 less_somewhere (x ∷ xs) [] size within = absurd (omega arith)
@@ -150,46 +159,3 @@ less_somewhere (x ∷ xs) (y ∷ ys) size within =
 
 pub shares_by_remainder_are_only : SharesByRemainderAreOnly
 shares_by_remainder_are_only = λ amount weights shares h. grind (arith, less_somewhere)
-
--- ---- signed shares
-
--- the first i shares have the sign of the amount, and their magnitudes are those of its magnitude
-pub record AreSignedRaisedTo (amount : ℤ) (magnitude total bar extra : ℕ) (weights : List ℕ) (i left : ℕ) (shares : List ℤ) : Type 0 where
-  pub is_magnitude : magnitude ≡ unsigned_abs amount
-  pub magnitudes : AreRaisedTo (rounded_down magnitude total) (remainder_of magnitude total) bar extra weights i left (map unsigned_abs shares)
-  pub signs : HaveSignTo amount i shares
-
-module _ {amount : ℤ} {magnitude total bar extra : ℕ} {weights : List ℕ} {shares : List ℤ} where
-  pub none_signed_raised : magnitude ≡ unsigned_abs amount → length shares ≡ length weights → AreSignedRaisedTo amount magnitude total bar extra weights 0 extra shares
-  none_signed_raised is size = grind (arith, length-map, unsigned_abs)
-
-  pub one_more_signed_raised : {i left : ℕ} (share : ℤ) (next : ℕ) → i < length weights → AreSignedRaisedTo amount magnitude total bar extra weights i left shares → 0 < bar → (0 < extra → 1 < bar)
-      → RoundsShare (rounded_down magnitude total (slice_index weights i)) (remainder_of magnitude total (slice_index weights i)) bar left (unsigned_abs share) next
-      → (pos 0 ≤ℤ amount → pos 0 ≤ℤ share) → (amount ≤ℤ pos 0 → share ≤ℤ pos 0)
-      → AreSignedRaisedTo amount magnitude total bar extra weights (i + 1) next (set shares i share)
-  one_more_signed_raised {i} share next within h up one rounds from_zero to_zero = record {
-    is_magnitude = h.is_magnitude;
-    magnitudes = rw (map-set unsigned_abs shares i share) (one_more_raised (unsigned_abs share) next within h.magnitudes up one rounds);
-    signs = one_more_of_sign _ _ shares share (omega (arith, h.magnitudes.one_each, length-map shares unsigned_abs)) from_zero to_zero h.signs;
-  }
-
-pub all_signed_raised : {amount : ℤ} {magnitude total bar extra i left : ℕ} {weights : List ℕ} {shares : List ℤ} → total ≡ sum weights → length weights ≤ i
-    → count_from magnitude total bar weights + extra + sum_by (rounded_down magnitude total) weights ≡ magnitude
-    → (0 < extra → count_from magnitude total bar weights + extra < count_from magnitude total (bar - 1) weights)
-    → AreSignedRaisedTo amount magnitude total bar extra weights i left shares → AreSignedSharesByRemainder amount weights shares
-all_signed_raised {amount} {weights = weights} {shares = shares} sum_is end units enough h =
-    let size : length shares ≡ length weights = omega (arith, h.magnitudes.one_each, length-map shares unsigned_abs) in
-    record {
-      magnitudes = rw (← h.is_magnitude) (all_raised sum_is end units enough h.magnitudes);
-      from_zero = λ sign k d within. (h.signs k d (omega arith)).0 sign;
-      to_zero = λ sign k d within. (h.signs k d (omega arith)).1 sign;
-    }
-
--- Together they are the amount.
-pub signed_by_remainder_are_whole : {amount : ℤ} {weights : List ℕ} {shares : List ℤ} → AreSignedSharesByRemainder amount weights shares → signed_sum shares ≡ amount
-signed_by_remainder_are_whole h = whole_of_sign (record { from_zero = h.from_zero; to_zero = h.to_zero }) h.magnitudes.whole
-
--- An amount has one list of signed shares by largest remainders.
-pub signed_by_remainder_are_only : {amount : ℤ} {weights : List ℕ} {shares : List ℤ} → AreSignedSharesByRemainder amount weights shares → IsOnly (AreSignedSharesByRemainder amount weights) shares
-signed_by_remainder_are_only h = λ other k.
-    same_of_sign (record { from_zero = h.from_zero; to_zero = h.to_zero }) (record { from_zero = k.from_zero; to_zero = k.to_zero }) (shares_by_remainder_are_only _ _ _ h.magnitudes _ k.magnitudes)

@@ -1,15 +1,17 @@
 -- Greatest common divisors and least common multiples of lists.
-use Rattle.applied.proofs.Common.{◌≡◌, ◌<◌, ◌+◌, ◌≤ℤ◌, ◌<ℤ◌, ◌∷◌, ◌++◌, ◌≢◌, append-nil, append_assoc, GcdOfFitsExactly, ℕ, ℤ, pos, negsuc, neg_ℤ, unsigned_abs, List, [], length, get_or, map, take, Option, Some, All, arith, inl, inr, refl, subst, sym, ints, map_more, All-head, All-nil, All-pop, All-push, All-tail, All-weaker, AnswersWhere, Divides, IsGreatestCommonDivisor, IsRange, Divides_antisym, Divides_refl, Divides_trans, Divides_zero, answers_as, gcd_fits_is, linear, no_minus_one, sizes, within_fits, zero_fits, zero_or_not, gcd_exists, GcdOfFits, IsGreatestCommonDivisorOf, take-map, HoldsAt, ◌∙◌, get_or-map, length-map, take_at, All-map, All-take, IsLeastCommonMultiple, EachFits, answer_only, divisor_at_most, fits_below, lcm_positive, one_divides, zero_divides, lcm_exists, IsLeastCommonMultipleOf, gcd_swap, only_lcm, gcd_divisor}
+use Rattle.num_integer.proofs.ForCallers.{Divides_refl, Divides_zero, gcd_divisor, gcd_fits_is, lcm_positive, no_minus_one, one_divides, only_lcm, zero_fits}
+use Rattle.applied.proofs.Common.{◌≡◌, ◌<◌, ◌+◌, ◌≤ℤ◌, ◌<ℤ◌, ◌∷◌, ◌++◌, ◌≢◌, append-nil, append_assoc, GcdOfFitsExactly, ℕ, ℤ, pos, negsuc, neg_ℤ, unsigned_abs, List, [], length, get_or, map, take, Option, Some, All, arith, inl, inr, refl, subst, sym, ints, map_more, All-head, All-nil, All-pop, All-push, All-tail, All-weaker, AnswersWhere, Divides, IsGreatestCommonDivisor, IsRange, Divides_antisym, Divides_trans, answers_as, linear, sizes, within_fits, zero_or_not, gcd_exists, GcdOfFits, IsGreatestCommonDivisorOf, take-map, HoldsAt, ◌∙◌, get_or-map, length-map, take_at, All-map, All-take, IsLeastCommonMultiple, EachFits, answer_only, divisor_at_most, fits_below, zero_divides, lcm_exists, IsLeastCommonMultipleOf, gcd_swap}
 use Rattle.applied.proofs.ReducedPairs.{gcd_with_magnitude}
 
 -- ---- the gcd of one number more
 
 -- the greatest common divisor of no numbers is 0
 pub gcd_of_none : IsGreatestCommonDivisorOf [] (pos 0)
-gcd_of_none = record { from_zero = omega (arith, ints); divides_each = All-nil (λ x. Divides (pos 0) x); greatest = λ d _. Divides_zero d }
+gcd_of_none = record { from_zero = omega ints; divides_each = All-nil (λ x. Divides (pos 0) x); greatest = λ d _. Divides_zero d }
 
 -- the gcd of a list with one number more at its end is the gcd of the list's gcd and this number
-pub gcd_of_more : {numbers : List ℤ} {g x h : ℤ} → IsGreatestCommonDivisorOf numbers g → IsGreatestCommonDivisor g x h → IsGreatestCommonDivisorOf (numbers ++ x ∷ []) h
+pub gcd_of_more : {numbers : List ℤ} {g x h : ℤ} → IsGreatestCommonDivisorOf numbers g → IsGreatestCommonDivisor g x h
+    → IsGreatestCommonDivisorOf (numbers ++ x ∷ []) h
 gcd_of_more {numbers} {g} {x} {h} before both = record {
   from_zero = both.from_zero;
   divides_each = All-push (λ y. Divides h y) numbers x
@@ -49,43 +51,48 @@ gcd_of_fits_exactly fits = λ low high numbers range each. (
         (both.0, (gcd_of_more own.0 both.1, (gcd_fits_is range own.1 x_fits).0 (λ one. absurd (no_minus_one range none one)) both.0 both.1)))
         [] numbers (pos 0) (gcd_of_none, zero_fits range) each in
         λ z is. subst fits (only_gcd_of g.1.0 is) g.1.1
-    | inr signed ↦ h ((range.between (negsuc 0)).1 (omega (arith, linear, range.low_end, range.positive)))
+    | inr signed ↦ h ((range.between (negsuc 0)).1 (omega (linear, range.low_end, range.positive)))
   ],
   λ h _. h,
 )
 
 -- ---- the result of `gcd_of`
 
-pub gcd_of_result : (fits : ℤ → Type 0) {numbers : List ℤ} {m g : ℤ} → IsGreatestCommonDivisorOf numbers m → g ≡ m → fits g → GcdOfFits fits numbers × (fits g × IsGreatestCommonDivisorOf numbers g)
+pub gcd_of_result : (fits : ℤ → Type 0) {numbers : List ℤ} {m g : ℤ} → IsGreatestCommonDivisorOf numbers m → g ≡ m → fits g
+    → GcdOfFits fits numbers × (fits g × IsGreatestCommonDivisorOf numbers g)
 gcd_of_result fits {numbers} is same g_fits =
     let own = rw (← same) at is in (λ _ z other. subst fits (only_gcd_of own other) g_fits, (g_fits, own))
 
 -- the negation of a negative divisor, if it fits
-pub checked_gcd_of : {X : Type 0} (value : X → ℤ) {fits : ℤ → Type 0} {low high : ℤ} {numbers : List ℤ} {d : ℤ} → IsRange fits low high → fits d → d <ℤ pos 0 → IsGreatestCommonDivisorOf numbers (pos (unsigned_abs d))
+pub checked_gcd_of : {X : Type 0} (value : X → ℤ) {fits : ℤ → Type 0} {low high : ℤ} {numbers : List ℤ} {d : ℤ} → IsRange fits low high → fits d
+    → d <ℤ pos 0 → IsGreatestCommonDivisorOf numbers (pos (unsigned_abs d))
     → (r : Option X) → AnswersWhere (fits (neg_ℤ d)) (λ x. fits (value x) × (value x ≡ neg_ℤ d)) r
     → AnswersWhere (GcdOfFits fits numbers) (λ x. fits (value x) × IsGreatestCommonDivisorOf numbers (value x)) r
 checked_gcd_of value {fits} {numbers = numbers} {d = d} range d_fits below is r =
-    let same : pos (unsigned_abs d) ≡ neg_ℤ d = omega (arith, sizes) in
+    let same : pos (unsigned_abs d) ≡ neg_ℤ d = omega sizes in
     let own = subst (IsGreatestCommonDivisorOf numbers) same is in
-    let minus_one : fits (negsuc 0) = within_fits range d_fits (inr (omega (arith, linear), omega (arith, linear))) in
+    let minus_one : fits (negsuc 0) = within_fits range d_fits (inr (omega linear, omega linear)) in
     answers_as r (λ negated_fits _ z other. subst fits (only_gcd_of own other) negated_fits, λ each. each minus_one (neg_ℤ d) own) (λ x found. (found.0, subst (IsGreatestCommonDivisorOf numbers) (sym found.1) own))
 
 -- if the magnitude of d is the gcd of the first i numbers, one number more has that of r
-pub gcd_of_next : {X : Type 0} (value : X → ℤ) (numbers : List X) (i : ℕ) (d r : ℤ) {x : X} → IsGreatestCommonDivisorOf (map value (take i numbers)) (pos (unsigned_abs d)) → i < length numbers → x ≡ get_or numbers i x
+pub gcd_of_next : {X : Type 0} (value : X → ℤ) (numbers : List X) (i : ℕ) (d r : ℤ) {x : X}
+    → IsGreatestCommonDivisorOf (map value (take i numbers)) (pos (unsigned_abs d)) → i < length numbers → x ≡ get_or numbers i x
     → IsGreatestCommonDivisor d (value x) (pos (unsigned_abs r)) → IsGreatestCommonDivisorOf (map value (take (i + 1) numbers)) (pos (unsigned_abs r))
-gcd_of_next value numbers i d r {x = x} before within at both = rw (map_more value numbers i x within, ← at) (gcd_of_more before (gcd_with_magnitude both))
+gcd_of_next value numbers i d r {x =
+    x} before within at both = rw (map_more value numbers i x within, ← at) (gcd_of_more before (gcd_with_magnitude both))
 
 -- a divisor of the number is the gcd of both, up to its sign
 pub gcd_of_multiple : {d x : ℤ} → Divides d x → IsGreatestCommonDivisor d x (pos (unsigned_abs d))
 gcd_of_multiple divides = gcd_swap (gcd_divisor divides)
 
 -- if the first numbers have the gcd 1, all of them do
-pub gcd_of_one : {X : Type 0} (value : X → ℤ) (numbers : List X) (i : ℕ) {d : ℤ} → d ≡ pos 1 → IsGreatestCommonDivisorOf (map value (take i numbers)) (pos (unsigned_abs d))
+pub gcd_of_one : {X : Type 0} (value : X → ℤ) (numbers : List X) (i : ℕ) {d : ℤ} → d ≡ pos 1
+    → IsGreatestCommonDivisorOf (map value (take i numbers)) (pos (unsigned_abs d))
     → IsGreatestCommonDivisorOf (map value numbers) (pos (unsigned_abs d))
 gcd_of_one value numbers i {d} one before =
     let first = rw (← take-map value i numbers, one) at before in
     rw one record {
-      from_zero = omega (arith, sizes);
+      from_zero = omega sizes;
       divides_each = λ k e within. one_divides _;
       greatest = λ e each. first.greatest e (All-take (λ x. Divides e x) i (map value numbers) each);
     }
@@ -94,10 +101,11 @@ gcd_of_one value numbers i {d} one before =
 
 -- the least common multiple of no numbers is 1
 pub lcm_of_none : IsLeastCommonMultipleOf [] (pos 1)
-lcm_of_none = grind (arith, ints, one_divides)
+lcm_of_none = grind (ints, one_divides)
 
 -- the lcm of a list with one number more at its end is the lcm of the list's lcm and this number
-pub lcm_of_more : {numbers : List ℤ} {l x m : ℤ} → IsLeastCommonMultipleOf numbers l → IsLeastCommonMultiple l x m → IsLeastCommonMultipleOf (numbers ++ x ∷ []) m
+pub lcm_of_more : {numbers : List ℤ} {l x m : ℤ} → IsLeastCommonMultipleOf numbers l → IsLeastCommonMultiple l x m
+    → IsLeastCommonMultipleOf (numbers ++ x ∷ []) m
 lcm_of_more {numbers} {l} {x} {m} before both = record {
   from_zero = both.from_zero;
   each_divides = All-push (λ y. Divides y m) numbers x
@@ -108,7 +116,8 @@ lcm_of_more {numbers} {l} {x} {m} before both = record {
 }
 
 -- the lcm of the first numbers of a list divides that of the list
-pub prefix_divides : {first : List ℤ} (rest : List ℤ) {m l : ℤ} → IsLeastCommonMultipleOf first m → IsLeastCommonMultipleOf (first ++ rest) l → Divides m l
+pub prefix_divides : {first : List ℤ} (rest : List ℤ) {m l : ℤ} → IsLeastCommonMultipleOf first m → IsLeastCommonMultipleOf (first ++ rest) l
+    → Divides m l
 prefix_divides {first} rest {m} {l} h k = h.least l (subst (All (λ x. Divides x l)) (take_at first rest (length first) refl) (All-take (λ x. Divides x l) (length first) (first ++ rest) k.each_divides))
 
 -- ---- each list has an lcm
@@ -126,13 +135,13 @@ pub positive_lcm_of : (numbers : List ℤ) → All (λ x. x ≢ pos 0) numbers �
 positive_lcm_of numbers nonzero = each_list (λ x. x ≢ pos 0) (λ first l. IsLeastCommonMultipleOf first l × (pos 0 <ℤ l))
     (λ first x l some own.
     let both = lcm_exists l x in
-    (both.0, (lcm_of_more own.0 both.1, lcm_positive both.1 (λ none. omega (arith, linear, own.1)) some)))
-    [] numbers (pos 1) (lcm_of_none, omega (arith, ints)) nonzero
+    (both.0, (lcm_of_more own.0 both.1, lcm_positive both.1 (λ none. omega (linear, own.1)) some)))
+    [] numbers (pos 1) (lcm_of_none, omega ints) nonzero
 
 -- a list with a 0 has the least common multiple 0
 pub lcm_of_zero : {numbers : List ℤ} (k : ℕ) → k < length numbers → HoldsAt (λ x. x ≡ pos 0) numbers k → IsLeastCommonMultipleOf numbers (pos 0)
 lcm_of_zero {numbers} k within zero = record {
-  from_zero = omega (arith, ints);
+  from_zero = omega ints;
   each_divides = λ i d inside. Divides_zero _;
   least = λ m each.
       let none : m ≡ pos 0 = zero_divides (rw (zero (pos 0)) at (each k (pos 0) within)) in
@@ -147,11 +156,13 @@ lcm_of_with_zero value (x ∷ numbers) k within zero =
 
 -- ---- the result of `lcm_of`
 
-pub lcm_of_result : (fits : ℤ → Type 0) {numbers : List ℤ} {l : ℤ} → fits l → IsLeastCommonMultipleOf numbers l → EachFits fits (IsLeastCommonMultipleOf numbers) × (fits l × IsLeastCommonMultipleOf numbers l)
+pub lcm_of_result : (fits : ℤ → Type 0) {numbers : List ℤ} {l : ℤ} → fits l → IsLeastCommonMultipleOf numbers l
+    → EachFits fits (IsLeastCommonMultipleOf numbers) × (fits l × IsLeastCommonMultipleOf numbers l)
 lcm_of_result fits {numbers} l_fits own = answer_only {P = IsLeastCommonMultipleOf numbers} own (λ y. only_lcm_of own) l_fits refl
 
 -- a multiple of the number is the lcm of both
-pub lcm_of_divisor_fits : (fits : ℤ → Type 0) {l x : ℤ} → fits l → pos 0 ≤ℤ l → Divides x l → EachFits fits (IsLeastCommonMultiple l x) × (fits l × IsLeastCommonMultiple l x l)
+pub lcm_of_divisor_fits : (fits : ℤ → Type 0) {l x : ℤ} → fits l → pos 0 ≤ℤ l → Divides x l
+    → EachFits fits (IsLeastCommonMultiple l x) × (fits l × IsLeastCommonMultiple l x l)
 lcm_of_divisor_fits fits {l} {x} l_fits up divides =
     let own : IsLeastCommonMultiple l x l = record { from_zero = up; left_divides = Divides_refl l; right_divides = divides; least = λ m h _. h } in
     answer_only {P = IsLeastCommonMultiple l x} own (λ y. only_lcm own) l_fits refl

@@ -21,7 +21,8 @@ pages_hold {items} {size} {last} up is =
     omega (arith, (div_ceil_times items size up).0, more)
 
 -- A page that begins within the items begins at its number times the page size, and ends where the next one begins, or with the items.
-pub range_of_begun_page : {page size items first end : ℕ} → 0 < size → page * size ≤ items → IsRangeOfPage (pos page) (pos size) (pos items) (pos first) (pos end)
+pub range_of_begun_page : {page size items first end : ℕ} → 0 < size → page * size ≤ items
+    → IsRangeOfPage (pos page) (pos size) (pos items) (pos first) (pos end)
     → (first ≡ page * size) × (end ≡ min ((page + 1) * size) items)
 range_of_begun_page {page} {size} up within h =
     let next : (page + 1) * size ≡ page * size + size = omega arith in

@@ -4,7 +4,8 @@ use Rattle.std.specs.List.{slice_get}
 use Rattle.std.specs.Option.{IsSomeAnd}
 
 -- What holds of each item of a list, at its place, and of one more item, holds of each item of the list with that one more.
-pub each_pushed : {A : Type 0} (P : ℕ → A → Type 0) (xs : List A) (y : A) → ((k : ℕ) → k < length xs → IsSomeAnd (slice_get xs k) (P k)) → P (length xs) y
+pub each_pushed : {A : Type 0} (P : ℕ → A → Type 0) (xs : List A) (y : A) → ((k : ℕ) → k < length xs → IsSomeAnd (slice_get xs k) (P k))
+    → P (length xs) y
     → (k : ℕ) → k < length xs + 1 → IsSomeAnd (slice_get (xs ++ y ∷ []) k) (P k)
 each_pushed P [] y all more zero below = more
 each_pushed P [] y all more (suc k) below = absurd (omega arith)

@@ -1,5 +1,7 @@
 -- Greatest common divisors up to their sign, and pairs of numbers divided by their greatest common divisor.
-use Rattle.applied.proofs.Common.{◌≡◌, ◌≢◌, ◌≤ℤ◌, ◌<ℤ◌, ◌-ℤ◌, ◌*ℤ◌, ◌<◌, ◌*◌, ◌/◌, ℤ, pos, negsuc, neg_ℤ, unsigned_abs, int_div, ◌∙◌, arith, inl, inr, refl, subst, sym, cases_lt, by_lt_z, Divides, IsGreatestCommonDivisor, EachFits, IsRange, Divides_trans, divides_magnitude, divisor_size, exact_quotient, expand, gcd_swap, linear, magnitude_divides, one_fits, only_gcd, other_quotient_fits, product_from_zero, products, sizes, truncated_is, within_fits, gcd_exists, ℕ, ap, Divides_antisym, cancel, comm, coprime_divides, divided_by_gcd, factor_positive, mul_neg, natural_exact_quotient, natural_gcd_positive, natural_quotients_coprime, product_positive, zero_divides, zero_or_not, ReducedPairIsOnly, HasSignOf, IsReducedPair}
+use Rattle.num_integer.proofs.ForCallers.{cancel, coprime_divides, divided_by_gcd, divides_magnitude, divisor_size, exact_quotient, factor_positive, magnitude_divides, mul_neg, natural_exact_quotient, natural_gcd_positive, natural_quotients_coprime, one_fits, product_positive}
+use Rattle.applied.specs.ReducedPairs.{HasSignOf, IsReducedPair}
+use Rattle.applied.proofs.Common.{◌≡◌, ◌≢◌, ◌≤ℤ◌, ◌<ℤ◌, ◌-ℤ◌, ◌*ℤ◌, ◌<◌, ◌*◌, ◌/◌, ℤ, pos, negsuc, neg_ℤ, unsigned_abs, int_div, ◌∙◌, arith, inl, inr, refl, subst, sym, cases_lt, by_lt_z, Divides, IsGreatestCommonDivisor, EachFits, IsRange, Divides_trans, expand, gcd_swap, linear, only_gcd, other_quotient_fits, product_from_zero, products, sizes, truncated_is, within_fits, gcd_exists, ℕ, ap, Divides_antisym, comm, zero_divides, zero_or_not, ReducedPairIsOnly}
 
 -- the first number may be its magnitude
 pub gcd_with_magnitude : {a b g : ℤ} → IsGreatestCommonDivisor a b g → IsGreatestCommonDivisor (pos (unsigned_abs a)) b g
@@ -20,10 +22,10 @@ module _ {fits : ℤ → Type 0} {low high a b : ℤ} (range : IsRange fits low 
       let size = divisor_size own.1.divides_left nonzero in
       elim (cases_lt (unsigned_abs own.0) (unsigned_abs a)) [
         | inl less ↦
-            let own_fits : fits own.0 = (range.between own.0).1 (omega (arith, sizes, range.low_end, (range.between a).0 a_fits, own.1.from_zero)) in
+            let own_fits : fits own.0 = (range.between own.0).1 (omega (sizes, range.low_end, (range.between a).0 a_fits, own.1.from_zero)) in
             absurd (none (λ z is. subst fits (only_gcd own.1 is) own_fits))
         | inr most ↦
-            let same : own.0 ≡ pos (unsigned_abs a) = omega (arith, sizes, own.1.from_zero) in
+            let same : own.0 ≡ pos (unsigned_abs a) = omega (sizes, own.1.from_zero) in
             subst (IsGreatestCommonDivisor a b) same own.1
       ]
 
@@ -36,8 +38,8 @@ module _ {fits : ℤ → Type 0} {low high a b : ℤ} (range : IsRange fits low 
 -- each part of a number fits
 part_fits : {fits : ℤ → Type 0} {low high n g part : ℤ} → IsRange fits low high → fits n → pos 0 <ℤ g → n ≡ g *ℤ part → fits part
 part_fits {g = g} {part = part} range n_fits up is = by_lt_z part (pos 0)
-    (λ down. let more = simp expand at (product_from_zero (g -ℤ pos 1) (pos 0 -ℤ part) (omega (arith, linear)) (omega (arith, linear))) in within_fits range n_fits (inr (omega (arith, products), omega (arith, linear))))
-    (λ fine. let more = simp expand at (product_from_zero (g -ℤ pos 1) part (omega (arith, linear)) fine) in within_fits range n_fits (inl (fine, omega (arith, products))))
+    (λ down. let more = simp expand at (product_from_zero (g -ℤ pos 1) (pos 0 -ℤ part) (omega linear) (omega linear)) in within_fits range n_fits (inr (omega products, omega linear)))
+    (λ fine. let more = simp expand at (product_from_zero (g -ℤ pos 1) part (omega linear) fine) in within_fits range n_fits (inl (fine, omega products)))
 
 module _ {n d : ℤ} (nonzero : d ≢ pos 0) (divides : Divides (pos (unsigned_abs d)) n) where
   -- the quotient is exact
@@ -45,13 +47,13 @@ module _ {n d : ℤ} (nonzero : d ≢ pos 0) (divides : Divides (pos (unsigned_a
   exact = exact_quotient nonzero (Divides_trans (divides_magnitude d) divides)
 
   pub part_by_positive : pos 0 ≤ℤ d → n ≡ pos (unsigned_abs d) *ℤ int_div n d
-  part_by_positive up = grind (arith, sizes, exact)
+  part_by_positive up = grind (sizes, exact)
 
   pub part_by_negative : d <ℤ pos 0 → n ≡ pos (unsigned_abs d) *ℤ neg_ℤ (int_div n d)
-  part_by_negative below = grind (arith, sizes, exact, expand, products)
+  part_by_negative below = grind (sizes, exact, expand, products)
 
   pub part_by_negative_fits : {fits : ℤ → Type 0} {low high : ℤ} → IsRange fits low high → fits n → d <ℤ pos 0 → fits (neg_ℤ (int_div n d))
-  part_by_negative_fits range n_fits below = part_fits {g = pos (unsigned_abs d)} range n_fits (omega (arith, sizes)) (part_by_negative below)
+  part_by_negative_fits range n_fits below = part_fits {g = pos (unsigned_abs d)} range n_fits (omega sizes) (part_by_negative below)
 
   pub operator_fits : {fits : ℤ → Type 0} {low high : ℤ} → IsRange fits low high → fits n → fits d → d ≢ negsuc 0 → fits (int_div n d)
   operator_fits range n_fits d_fits other = other_quotient_fits range n_fits d_fits other (truncated_is n d nonzero).division
@@ -74,7 +76,7 @@ reduced_by_gcd {a} {b} {g} {x} {y} up h first second =
       ratio = rw (first, second) (simp expand);
       first_sign = sign_of_part up first;
       second_sign = sign_of_part up second;
-      coprime = λ _. divided_by_gcd (λ none. omega (arith, linear)) times;
+      coprime = λ _. divided_by_gcd (λ none. omega linear) times;
     }
 
 -- each pair of numbers has a reduced pair
@@ -84,7 +86,7 @@ reduced_pair_exists a b =
     elim (zero_or_not own.0) [
       | inl none ↦ (a, b, reduced_zeros (zero_divides (rw none at own.1.divides_left)) (zero_divides (rw none at own.1.divides_right)))
       | inr nonzero ↦
-          let up : pos 0 <ℤ own.0 = omega (arith, linear, own.1.from_zero) in
+          let up : pos 0 <ℤ own.0 = omega (linear, own.1.from_zero) in
           (own.1.divides_left.factor, own.1.divides_right.factor, reduced_by_gcd up own.1 own.1.divides_left.product own.1.divides_right.product)
     ]
 
@@ -92,24 +94,24 @@ reduced_pair_exists a b =
 
 -- only 0 has the sign of 0
 zero_of_zero : {a x : ℤ} → HasSignOf a x → a ≡ pos 0 → x ≡ pos 0
-zero_of_zero {a} {x} h none = grind (arith, linear, h.positive.0, h.negative.0)
+zero_of_zero {a} {x} h none = grind (linear, h.positive.0, h.negative.0)
 
 -- numbers of one sign that divide each other are equal
 same_of_sign : {a x u : ℤ} → HasSignOf a x → HasSignOf a u → Divides x u → Divides u x → u ≡ x
 same_of_sign {a} {x} {u} h k there back =
     let on = Divides_trans (magnitude_divides x) (Divides_trans there (divides_magnitude u)) in
     let off = Divides_trans (magnitude_divides u) (Divides_trans back (divides_magnitude x)) in
-    let size = Divides_antisym (omega (arith, linear)) (omega (arith, linear)) on off in
+    let size = Divides_antisym (omega linear) (omega linear) on off in
     by_lt_z (pos 0) x
-    (λ up. omega (arith, sizes, k.positive.1 (h.positive.0 up)))
-    (λ not_up. by_lt_z x (pos 0) (λ down. omega (arith, sizes, k.negative.1 (h.negative.0 down))) (λ not_down. omega (arith, sizes)))
+    (λ up. omega (sizes, k.positive.1 (h.positive.0 up)))
+    (λ not_up. by_lt_z x (pos 0) (λ down. omega (sizes, k.negative.1 (h.negative.0 down))) (λ not_down. omega sizes))
 
 first_is_only : {a b x y u v : ℤ} → IsReducedPair a b x y → IsReducedPair a b u v → u ≡ x
 first_is_only {a} {b} {x} {y} {u} {v} h k = elim (zero_or_not a) [
   | inl none ↦ zero_of_zero k.first_sign none ∙ sym (zero_of_zero h.first_sign none)
   | inr some ↦
       let first = simp expand at (ap (λ (t : ℤ). t *ℤ u) h.ratio) in
-      let cross : x *ℤ v ≡ y *ℤ u = cancel a (x *ℤ v) (y *ℤ u) some (omega (arith, linear, simp expand at (ap (λ (t : ℤ). x *ℤ t) k.ratio))) in
+      let cross : x *ℤ v ≡ y *ℤ u = cancel a (x *ℤ v) (y *ℤ u) some (omega (linear, simp expand at (ap (λ (t : ℤ). x *ℤ t) k.ratio))) in
       same_of_sign h.first_sign k.first_sign (coprime_divides (gcd_swap (h.coprime (inl some))) (record { factor = v; product = sym cross }))
       (coprime_divides (gcd_swap (k.coprime (inl some))) (record { factor = y; product = comm v x ∙ cross ∙ comm y u }))
 ]
@@ -131,7 +133,8 @@ cross : (w h g x y : ℕ) → g * x ≡ w → g * y ≡ h → w * y ≡ h * x
 cross w h g x y first second = rw (← first, ← second) (omega arith)
 
 -- two natural numbers divided by their gcd, the second of which is not 0, are coprime and in the same ratio
-pub reduced_pair : {w h g : ℕ} → 0 < h → IsGreatestCommonDivisor (pos w) (pos h) (pos g) → IsGreatestCommonDivisor (pos (w / g)) (pos (h / g)) (pos 1) × (w * (h / g) ≡ h * (w / g))
+pub reduced_pair : {w h g : ℕ} → 0 < h → IsGreatestCommonDivisor (pos w) (pos h) (pos g)
+    → IsGreatestCommonDivisor (pos (w / g)) (pos (h / g)) (pos 1) × (w * (h / g) ≡ h * (w / g))
 reduced_pair {w} {h} {g} up is =
     let positive = natural_gcd_positive up is in (
       natural_quotients_coprime positive is,

@@ -1,5 +1,6 @@
 -- Sums of signed numbers, and totals that no type has.
-use Rattle.applied.proofs.Common.{◌≡◌, ◌<◌, ◌≤◌, ◌^◌, ◌+◌, ◌+ℤ◌, ◌∷◌, ◌++◌, wrapped, ℕ, ℤ, pos, unsigned_abs, List, [], length, get_or, map, take, arith, refl, map_more, take_all, IsRange, linear, signed_sum}
+use Rattle.applied.specs.Totals.{wrapped}
+use Rattle.applied.proofs.Common.{◌≡◌, ◌<◌, ◌≤◌, ◌^◌, ◌+◌, ◌+ℤ◌, ◌∷◌, ◌++◌, ℕ, ℤ, pos, unsigned_abs, List, [], length, get_or, map, take, arith, refl, map_more, take_all, IsRange, linear, signed_sum}
 
 -- ---- sums of lists
 
@@ -10,8 +11,8 @@ pub signed_sum_cons : (x : ℤ) (xs : List ℤ) → signed_sum (x ∷ xs) ≡ x 
 signed_sum_cons x xs = refl
 
 pub signed_sum_append : (xs ys : List ℤ) → signed_sum (xs ++ ys) ≡ signed_sum xs +ℤ signed_sum ys
-signed_sum_append [] ys = omega (arith, linear)
-signed_sum_append (x ∷ xs) ys = omega (arith, linear, signed_sum_append xs ys)
+signed_sum_append [] ys = omega linear
+signed_sum_append (x ∷ xs) ys = omega (linear, signed_sum_append xs ys)
 
 -- ---- totals
 
@@ -23,11 +24,12 @@ pub record IsTotalOf {X : Type 0} (value : X → ℤ) (items : List X) (i low ov
 
 module _ {X : Type 0} {value : X → ℤ} {items : List X} {i low over under : ℕ} (total : IsTotalOf value items i low over under) where
   -- with the next number the total is that of the first i + 1
-  pub total_more : {x : X} {v : ℤ} {next_low next_over next_under : ℕ} → i < length items → x ≡ get_or items i x → v ≡ value x → wrapped next_low next_over next_under ≡ wrapped low over under +ℤ v
+  pub total_more : {x : X} {v : ℤ} {next_low next_over next_under : ℕ} → i < length items → x ≡ get_or items i x → v ≡ value x
+      → wrapped next_low next_over next_under ≡ wrapped low over under +ℤ v
       → next_over ≤ over + 1 → next_under ≤ under + 1 → IsTotalOf value items (i + 1) next_low next_over next_under
   total_more {x} within at is sum over_more under_more = record {
     so_far = rw (map_more value items i x within, ← at, signed_sum_append (map value (take i items)) (value x ∷ []))
-        (omega (arith, linear, total.so_far, is, sum));
+        (omega (linear, total.so_far, is, sum));
     over_times = omega (arith, total.over_times);
     under_times = omega (arith, total.under_times);
   }

@@ -1,5 +1,5 @@
 -- Timetables: the next run, and how many runs there are before a time.
-use Rattle.applied.proofs.Common.{[], ◌≡◌, ◌↔◌, ◌≤ℤ◌, ◌<ℤ◌, ◌+ℤ◌, ◌-ℤ◌, ◌∷◌, ℤ, pos, List, Option, Some, None, MatchOption, FitsSigned, arith, by_lt_z, ints, linear, products, expand, w64, AreAllFrom, AreCongruent, Divides, FitsWith, IsCongruentUpTo, IsCountOfCongruent, IsLeastFrom}
+use Rattle.applied.proofs.Common.{[], ◌≡◌, ◌↔◌, ◌≤ℤ◌, ◌<ℤ◌, ◌+ℤ◌, ◌-ℤ◌, ◌∷◌, ℤ, pos, List, Option, Some, None, MatchOption, FitsSigned, by_lt_z, ints, linear, products, expand, w64, AreAllFrom, AreCongruent, Divides, FitsWith, IsCongruentUpTo, IsCountOfCongruent, IsLeastFrom}
 use Rattle.modular.specs.Congruences.{IsNextCongruent}
 use Rattle.modular.specs.Counts.{IsCountFrom}
 
@@ -22,27 +22,30 @@ module _ {P Q : ℤ → Type 0} (same : (u : ℤ) → P u ↔ Q u) where
 
 -- the number a step before a congruent one is congruent
 step_before : {period t phase : ℤ} → AreCongruent period t phase → AreCongruent period (t -ℤ period) phase
-step_before {period} {t} h = record { divides = record { factor = h.divides.factor -ℤ pos 1; product = simp expand (omega (arith, products, h.divides.product)) } }
+step_before {period} {t} h =
+    record { divides = record { factor = h.divides.factor -ℤ pos 1; product = simp expand (omega (products, h.divides.product)) } }
 
 -- The next congruent number is less than a step after the first one that it can be.
 pub next_congruent_below : {from phase period t : ℤ} → pos 0 <ℤ period → IsNextCongruent from phase period t → t <ℤ (from +ℤ period)
 next_congruent_below {from} {phase} {period} {t} up h =
-    by_lt_z t (from +ℤ period) (λ below. below) (λ above. absurd (omega (arith, linear, h.least (t -ℤ period) (omega (arith, linear)) (step_before h.holds))))
+    by_lt_z t (from +ℤ period) (λ below. below) (λ above. absurd (omega (linear, h.least (t -ℤ period) (omega linear) (step_before h.holds))))
 
 -- The next run at `i64`, by divisibility. There is none if no run that is not before `from` fits.
 pub next_run_by_divisors : (from phase period : ℤ) (r : Option ℤ) → pos 0 <ℤ period → FitsSigned w64 from
     → MatchOption r ((t : ℤ) × IsNextCongruent from phase period t × ¬ (FitsSigned w64 t)) (FitsWith (FitsSigned w64) (λ t. t) (IsNextCongruent from phase period))
     → MatchOption r ((u : ℤ) → from ≤ℤ u → FitsSigned w64 u → ¬ (Divides period (u -ℤ phase))) (λ t. (from ≤ℤ t) × (t <ℤ (from +ℤ period)) × Divides period (t -ℤ phase))
-next_run_by_divisors from phase period None up from_fits h = λ u later fits divides. h.2 (omega (arith, ints, fits, from_fits, h.1.from_there, h.1.least u later (record { divides = divides })))
+next_run_by_divisors from phase period None up from_fits h =
+    λ u later fits divides. h.2 (omega (ints, fits, from_fits, h.1.from_there, h.1.least u later (record { divides = divides })))
 next_run_by_divisors from phase period (Some t) up from_fits h = (h.1.from_there, next_congruent_below up h.1, h.1.holds.divides)
 
 -- ---- the number of runs before a time
 
 -- a congruent number at most the one before `end` is one before `end`
-congruent_before : {end before : ℤ} (phase period : ℤ) → before ≡ end -ℤ pos 1 → (u : ℤ) → IsCongruentUpTo before phase period u ↔ ((u <ℤ end) × Divides period (u -ℤ phase))
+congruent_before : {end before : ℤ} (phase period : ℤ) → before ≡ end -ℤ pos 1 → (u : ℤ)
+    → IsCongruentUpTo before phase period u ↔ ((u <ℤ end) × Divides period (u -ℤ phase))
 congruent_before phase period is u = (
-  λ h. (omega (arith, linear, h.to_there), h.congruent.divides),
-  λ h. record { to_there = omega (arith, linear, h.0); congruent = record { divides = h.1 } },
+  λ h. (omega (linear, h.to_there), h.congruent.divides),
+  λ h. record { to_there = omega (linear, h.0); congruent = record { divides = h.1 } },
 )
 
 -- How many runs are before `end`, if the call counts to the number before it.

@@ -8,12 +8,15 @@ pub record AreSharedTo (amount : ℕ) (weights : List ℕ) (total i ahead : ℕ)
   pub one_each : length shares ≡ length weights
   pub below : ahead < total
   pub place : sum (take i shares) * total ≡ amount * sum (take i weights) + ahead
-  pub near : (k : ℕ) → k ≤ i → (amount * sum (take k weights) ≤ sum (take k shares) * total) × (sum (take k shares) * total < amount * sum (take k weights) + total)
+  pub near : (k : ℕ) → k ≤ i
+      → (amount * sum (take k weights) ≤ sum (take k shares) * total) × (sum (take k shares) * total < amount * sum (take k weights) + total)
 
-pub none_shared : {amount total : ℕ} {weights shares : List ℕ} → length shares ≡ length weights → 0 < total → AreSharedTo amount weights total 0 0 shares
+pub none_shared : {amount total : ℕ} {weights shares : List ℕ} → length shares ≡ length weights → 0 < total
+    → AreSharedTo amount weights total 0 0 shares
 none_shared {amount} {total} {weights} {shares} size up = grind arith
 
-pub one_more_shared : {amount total i ahead next : ℕ} {weights shares : List ℕ} (share : ℕ) → i < length weights → share * total + ahead ≡ amount * slice_index weights i + next → next < total
+pub one_more_shared : {amount total i ahead next : ℕ} {weights shares : List ℕ} (share : ℕ) → i < length weights
+    → share * total + ahead ≡ amount * slice_index weights i + next → next < total
     → AreSharedTo amount weights total i ahead shares → AreSharedTo amount weights total (i + 1) next (slice_set shares i share)
 one_more_shared {amount} {total} {i} {ahead} {next} {weights} {shares} share within is below h =
     let written = ap sum (take_more_set shares i share (omega (arith, h.one_each))) ∙ sum_by_push (λ (x : ℕ). x) (take i shares) share in
@@ -26,7 +29,8 @@ one_more_shared {amount} {total} {i} {ahead} {next} {weights} {shares} share wit
       near = λ k upto. grind (arith, take-set-le k shares i share, h.near k, place);
     }
 
-pub all_shared : {amount total i ahead : ℕ} {weights shares : List ℕ} → total ≡ sum weights → length weights ≤ i → AreSharedTo amount weights total i ahead shares → AreShares amount weights shares
+pub all_shared : {amount total i ahead : ℕ} {weights shares : List ℕ} → total ≡ sum weights → length weights ≤ i
+    → AreSharedTo amount weights total i ahead shares → AreShares amount weights shares
 all_shared is end h = grind arith
 
 -- ---- what shares have
@@ -40,7 +44,8 @@ pub shares_are_whole : {amount : ℕ} {weights shares : List ℕ} → 0 < sum we
 shares_are_whole {amount} {weights} {shares} some h = grind (arith, take, length, take_all, le_refl, same_quotient, sum)
 
 -- Each is near its exact share.
-pub shares_are_near : {amount : ℕ} {weights shares : List ℕ} → AreShares amount weights shares → EachIndex weights (λ i. IsNearShare amount (slice_index weights i) (sum weights) (slice_index shares i))
+pub shares_are_near : {amount : ℕ} {weights shares : List ℕ} → AreShares amount weights shares
+    → EachIndex weights (λ i. IsNearShare amount (slice_index weights i) (sum weights) (slice_index shares i))
 shares_are_near {amount} {weights} {shares} h = λ i within.
     let weight = sum_by_more (λ (x : ℕ). x) weights i 0 within in
     let share = sum_by_more (λ (x : ℕ). x) shares i 0 (omega (arith, h.one_each)) in
@@ -63,38 +68,30 @@ shares_are_only {amount} {weights} {shares} h = λ other k.
 abbrev pub HaveSignTo : ℤ → ℕ → List ℤ → Type 0
 HaveSignTo amount i shares = (k : ℕ) (d : ℤ) → k < i → (pos 0 ≤ℤ amount → pos 0 ≤ℤ get_or shares k d) × (amount ≤ℤ pos 0 → get_or shares k d ≤ℤ pos 0)
 
-pub one_more_of_sign : (amount : ℤ) (i : ℕ) (shares : List ℤ) (share : ℤ) → i < length shares → (pos 0 ≤ℤ amount → pos 0 ≤ℤ share) → (amount ≤ℤ pos 0 → share ≤ℤ pos 0)
-    → HaveSignTo amount i shares → HaveSignTo amount (i + 1) (set shares i share)
-one_more_of_sign amount i shares share room up down h = λ k d upto.
-    grind (arith, get_or-set_other shares i k share d, get_or-set_same shares i share d room, h k d, up, down)
-
--- the first i shares have the sign of the amount, and their magnitudes are those of its magnitude
-pub record AreSignedTo (amount : ℤ) (weights : List ℕ) (total i ahead : ℕ) (shares : List ℤ) : Type 0 where
-  pub magnitudes : AreSharedTo (unsigned_abs amount) weights total i ahead (map unsigned_abs shares)
+-- the first i shares have the sign of the amount, and P holds of the magnitudes
+pub record AreSignedTo (P : List ℕ → Type 0) (amount : ℤ) (i : ℕ) (shares : List ℤ) : Type 0 where
+  pub magnitudes : P (map unsigned_abs shares)
   pub signs : HaveSignTo amount i shares
 
-pub none_signed : {amount : ℤ} {total : ℕ} {weights : List ℕ} {shares : List ℤ} → length shares ≡ length weights → 0 < total → AreSignedTo amount weights total 0 0 shares
+pub none_signed : {amount : ℤ} {total : ℕ} {weights : List ℕ} {shares : List ℤ} → length shares ≡ length weights → 0 < total
+    → AreSignedTo (AreSharedTo (unsigned_abs amount) weights total 0 0) amount 0 shares
 none_signed {shares = shares} size up = grind (arith, none_shared, length-map, unsigned_abs)
 
--- the number with the magnitude m and the sign of the amount
-module _ {amount share : ℤ} {m : ℕ} (from_zero : pos 0 ≤ℤ amount → share ≡ pos m) (below_zero : amount <ℤ pos 0 → share ≡ neg_ℤ (pos m)) where
-  pub signed_size : unsigned_abs share ≡ m
-  signed_size = by_lt_z amount (pos 0) (λ below. let is = below_zero below in omega (arith, ints, is)) (λ up. let is = from_zero up in omega (arith, ints, is))
-
-  pub signed_from_zero : pos 0 ≤ℤ amount → pos 0 ≤ℤ share
-  signed_from_zero up = let is = from_zero up in omega (arith, ints, is)
-
-  pub signed_to_zero : m ≤ unsigned_abs amount → amount ≤ℤ pos 0 → share ≤ℤ pos 0
-  signed_to_zero within down = by_lt_z amount (pos 0) (λ below. let is = below_zero below in omega (arith, ints, is)) (λ up. let is = from_zero up in omega (arith, ints, is, within))
-
-pub one_more_signed : {amount : ℤ} {total i ahead next : ℕ} {weights : List ℕ} {shares : List ℤ} (share : ℤ) → i < length weights
-    → unsigned_abs share * total + ahead ≡ unsigned_abs amount * slice_index weights i + next → next < total
-    → (pos 0 ≤ℤ amount → pos 0 ≤ℤ share) → (amount ≤ℤ pos 0 → share ≤ℤ pos 0)
-    → AreSignedTo amount weights total i ahead shares → AreSignedTo amount weights total (i + 1) next (set shares i share)
-one_more_signed {amount} {total} {i} {ahead} {next} {weights} {shares} share within is below up down h = record {
-  magnitudes = rw (map-set unsigned_abs shares i share) (one_more_shared (unsigned_abs share) within is below h.magnitudes);
-  signs = one_more_of_sign _ _ shares share (omega (arith, h.magnitudes.one_each, length-map shares unsigned_abs)) up down h.signs;
-}
+-- one more, with the magnitude m
+pub one_more_signed : {P Q : List ℕ → Type 0} {amount share : ℤ} {m i : ℕ} {shares : List ℤ}
+    → (pos 0 ≤ℤ amount → share ≡ pos m) → (amount <ℤ pos 0 → share ≡ neg_ℤ (pos m)) → m ≤ unsigned_abs amount → i < length (map unsigned_abs shares)
+    → (P (map unsigned_abs shares) → Q (set (map unsigned_abs shares) i m)) → AreSignedTo P amount i shares
+    → AreSignedTo Q amount (i + 1) (set shares i share)
+one_more_signed {amount = amount} {share} {m} {i} {shares} from_zero below_zero within room more h =
+    let of_sign : (unsigned_abs share ≡ m) × (pos 0 ≤ℤ amount → pos 0 ≤ℤ share) × (amount ≤ℤ pos 0 → share ≤ℤ pos 0) =
+    by_lt_z amount (pos 0)
+    (λ below. let is = below_zero below in (omega (ints, is), λ up. omega (ints, is), λ down. omega (ints, is)))
+    (λ rest. let is = from_zero rest in (omega (ints, is), λ up. omega (ints, is), λ down. omega (ints, is, within))) in
+    let inside : i < length shares = omega (arith, length-map shares unsigned_abs) in
+    record {
+      magnitudes = rw (map-set unsigned_abs shares i share, of_sign.0) (more h.magnitudes);
+      signs = λ k d upto. grind (arith, get_or-set_other shares i k share d, get_or-set_same shares i share d inside, h.signs k d, of_sign);
+    }
 
 -- the sum of numbers of one sign, by their magnitudes
 sum_of_sign : (numbers : List ℤ) → (All (λ x. pos 0 ≤ℤ x) numbers → signed_sum numbers ≡ pos (sum (map unsigned_abs numbers)))
@@ -104,37 +101,32 @@ sum_of_sign (x ∷ xs) =
     let rest = sum_of_sign xs in
     let more = sum_by-cons (λ (n : ℕ). n) (unsigned_abs x) (map unsigned_abs xs) in
     rw more (
-      λ h. let first : pos 0 ≤ℤ x = h 0 (pos 0) (omega arith) in omega (arith, ints, rest.0 (λ k d within. h (suc k) d (omega arith))),
-      λ h. let first : x ≤ℤ pos 0 = h 0 (pos 0) (omega arith) in omega (arith, ints, rest.1 (λ k d within. h (suc k) d (omega arith))),
+      λ h. let first : pos 0 ≤ℤ x = h 0 (pos 0) (omega arith) in omega (ints, rest.0 (λ k d within. h (suc k) d (omega arith))),
+      λ h. let first : x ≤ℤ pos 0 = h 0 (pos 0) (omega arith) in omega (ints, rest.1 (λ k d within. h (suc k) d (omega arith))),
     )
 
 -- the numbers have the sign of the amount
-pub record HaveSignOf (amount : ℤ) (numbers : List ℤ) : Type 0 where
-  pub from_zero : pos 0 ≤ℤ amount → All (λ x. pos 0 ≤ℤ x) numbers
-  pub to_zero : amount ≤ℤ pos 0 → All (λ x. x ≤ℤ pos 0) numbers
+abbrev pub HaveSignOf : ℤ → List ℤ → Type 0
+HaveSignOf amount numbers = (pos 0 ≤ℤ amount → All (λ x. pos 0 ≤ℤ x) numbers) × (amount ≤ℤ pos 0 → All (λ x. x ≤ℤ pos 0) numbers)
+
+pub all_signed : {P : List ℕ → Type 0} {amount : ℤ} {i : ℕ} {shares : List ℤ} → length shares ≤ i → AreSignedTo P amount i shares
+    → HaveSignOf amount shares
+all_signed end h = (λ sign k d within. (h.signs k d (omega arith)).0 sign, λ sign k d within. (h.signs k d (omega arith)).1 sign)
 
 -- Numbers of the sign of the amount are together the amount, if their magnitudes are its magnitude.
-pub whole_of_sign : {amount : ℤ} {shares : List ℤ} → HaveSignOf amount shares → sum (map unsigned_abs shares) ≡ unsigned_abs amount → signed_sum shares ≡ amount
-whole_of_sign {amount} {shares} h whole =
-    by_lt_z amount (pos 0) (λ less. omega (arith, ints, (sum_of_sign shares).1 (h.to_zero (omega (arith, ints)))))
-    (λ rest. omega (arith, ints, (sum_of_sign shares).0 (h.from_zero rest)))
+pub whole_of_sign : {amount : ℤ} (shares : List ℤ) → HaveSignOf amount shares → sum (map unsigned_abs shares) ≡ unsigned_abs amount
+    → signed_sum shares ≡ amount
+whole_of_sign {amount} shares h whole =
+    by_lt_z amount (pos 0) (λ less. omega (ints, (sum_of_sign shares).1 (h.1 (omega ints))))
+    (λ rest. omega (ints, (sum_of_sign shares).0 (h.0 rest)))
 
 -- Numbers of the sign of the amount are the same, if their magnitudes are.
-pub same_of_sign : {amount : ℤ} {shares other : List ℤ} → HaveSignOf amount shares → HaveSignOf amount other → map unsigned_abs other ≡ map unsigned_abs shares → other ≡ shares
+pub same_of_sign : {amount : ℤ} {shares other : List ℤ} → HaveSignOf amount shares → HaveSignOf amount other
+    → map unsigned_abs other ≡ map unsigned_abs shares → other ≡ shares
 same_of_sign {amount} {shares} {other} h k same =
     let size : length other ≡ length shares = sym (length-map other unsigned_abs) ∙ ap length same ∙ length-map shares unsigned_abs in
     ext_get_or (pos 0) other shares size (λ i within.
-    let magnitude : unsigned_abs (get_or other i (pos 0)) ≡ unsigned_abs (get_or shares i (pos 0)) =
-    sym (get_or-map unsigned_abs other i (pos 0) 0 within) ∙ ap (λ (xs : List ℕ). get_or xs i 0) same ∙ get_or-map unsigned_abs shares i (pos 0) 0 (omega arith) in
-    by_lt_z amount (pos 0)
-    (λ less. omega (arith, ints, magnitude, k.to_zero (omega (arith, ints)) i (pos 0) within, h.to_zero (omega (arith, ints)) i (pos 0) (omega arith)))
-    (λ rest. omega (arith, ints, magnitude, k.from_zero rest i (pos 0) within, h.from_zero rest i (pos 0) (omega arith))))
-
--- Together they are the amount.
-pub signed_shares_are_whole : {amount : ℤ} {weights : List ℕ} {shares : List ℤ} → 0 < sum weights → AreSignedShares amount weights shares → signed_sum shares ≡ amount
-signed_shares_are_whole some h = whole_of_sign (record { from_zero = h.from_zero; to_zero = h.to_zero }) (shares_are_whole some h.magnitudes)
-
--- An amount has one list of signed shares.
-pub signed_shares_are_only : {amount : ℤ} {weights : List ℕ} {shares : List ℤ} → AreSignedShares amount weights shares → IsOnly (AreSignedShares amount weights) shares
-signed_shares_are_only h = λ other k.
-    same_of_sign (record { from_zero = h.from_zero; to_zero = h.to_zero }) (record { from_zero = k.from_zero; to_zero = k.to_zero }) (shares_are_only h.magnitudes _ k.magnitudes)
+      let magnitude : unsigned_abs (get_or other i (pos 0)) ≡ unsigned_abs (get_or shares i (pos 0)) =
+        sym (get_or-map unsigned_abs other i (pos 0) 0 within) ∙ ap (λ (xs : List ℕ). get_or xs i 0) same ∙ get_or-map unsigned_abs shares i (pos 0) 0 (omega arith) in
+      by_lt_z amount (pos 0) (λ less. omega (ints, magnitude, k.1 (omega ints) i (pos 0) within, h.1 (omega ints) i (pos 0) (omega arith)))
+        (λ rest. omega (ints, magnitude, k.0 rest i (pos 0) within, h.0 rest i (pos 0) (omega arith))))

@@ -1,11 +1,21 @@
 -- An amount divided in proportion to weights.
-use Rattle.std.specs.Prelude.{◌≡◌, ◌⊎◌, ◌<◌, ◌≤◌, ◌+◌, ◌*◌, ◌/◌, ◌%◌, ◌≤ℤ◌, ◌+ℤ◌, ℕ, ℤ, pos, List, [], ◌∷◌, All, EachIndex, leb, length, map, slice_index, sum, take, unsigned_abs}
+use Rattle.std.specs.Prelude.{◌≡◌, ◌≢◌, ◌⊎◌, ◌↔◌, ◌<◌, ◌≤◌, ◌+◌, ◌*◌, ◌/◌, ◌%◌, ◌≤ℤ◌, ◌+ℤ◌, ℕ, ℤ, pos, List, [], ◌∷◌, All, EachIndex, Err, IsOk, OnErr, Result, leb, length, map, slice_index, sum, take, unsigned_abs}
 use Rattle.std.specs.List.{count_by}
+use Rattle.applied.specs.declared.shares.error.SharesError.{SharesError}
+use Rattle.applied.specs.declared.shares.error.SharesError.TheVariants.{DifferentLengths, ZeroWeights}
 
 -- There is one share for each weight, and the weights are not all 0.
 -- Examples: weights 1, 1, 1 and three shares; weights 0, 3 and two shares; not weights 1, 1, 1 and two shares; not weights 0, 0.
 abbrev pub CanBeShared : {A : Type 0} → List ℕ → List A → Type 0
 CanBeShared weights shares = (length shares ≡ length weights) × (0 < sum weights)
+
+-- The call succeeds exactly if there can be shares. Otherwise its error is the one whose condition holds, and the shares stay as they were.
+-- Examples: weights 1, 1, 1 and two shares: `DifferentLengths`; weights 0, 0 and two shares: `ZeroWeights`.
+abbrev pub AnswersShares : {A V : Type 0} → List ℕ → List A → List A → Result V SharesError → Type 0
+AnswersShares weights before after result = (IsOk result ↔ CanBeShared weights before)
+    × ((result ≡ Err DifferentLengths) ↔ (length before ≢ length weights))
+    × ((result ≡ Err ZeroWeights) ↔ ((length before ≡ length weights) × (sum weights ≡ 0)))
+    × OnErr result (after ≡ before)
 
 -- For each k, the sum of the first k shares is the exact share of the first k weights, rounded up. That exact share is amount · (sum of these
 -- weights) / (sum of all weights).

@@ -2,9 +2,9 @@
 
 #![tactic(auto, using(crate::proofs::WeightedShares::none_shared, crate::proofs::WeightedShares::none_signed))]
 
-ghost use Rattle.std.specs.Prelude.{◌≡◌, ◌≢◌, ◌↔◌, ◌<◌, ◌≤◌, ◌+◌, ◌*◌, ◌≤ℤ◌, pos, EachIndex, Err, IfOk, IsOk, OnErr, OnOk, length, slice_index, sum, unsigned_abs};
+ghost use Rattle.std.specs.Prelude.{◌≡◌, ◌<◌, ◌≤◌, ◌+◌, ◌*◌, EachIndex, IfOk, OnOk, slice_index, sum};
 ghost use Rattle.num_integer.specs.Only.{IsOnly};
-ghost use Rattle.applied.specs.Shares.{AreShares, AreSignedShares, CanBeShared, IsNearShare, signed_sum};
+ghost use Rattle.applied.specs.Shares.{AnswersShares, AreShares, AreSignedShares, CanBeShared, IsNearShare, signed_sum};
 
 mod equal;
 mod error;
@@ -33,17 +33,12 @@ pub use remainders::{shares_by_largest_remainder, signed_shares_by_largest_remai
 ///
 /// If it returns an error, it writes nothing.
 pub fn shares(amount: u64, weights: &[u64], shares: &mut [u64]) -> Result<(), SharesError>
-    ensures possible { IsOk result ↔ CanBeShared weights.now shares.old }
-    ensures different_lengths { (result ≡ Err SharesError.DifferentLengths)
-        ↔ (length shares.old ≢ length weights.now) }
-    ensures zero_weights { (result ≡ Err SharesError.ZeroWeights)
-        ↔ ((length shares.old ≡ length weights.now) × (sum weights.now ≡ 0)) }
+    ensures errors { AnswersShares weights.now shares.old shares.new result }
     ensures shares { OnOk result (AreShares amount weights.now shares.new) }
     ensures only { OnOk result (IsOnly (AreShares amount weights.now) shares.new) }
     ensures whole { OnOk result (sum shares.new ≡ amount) }
     ensures near { OnOk result (EachIndex weights.now (λ i. IsNearShare amount
         (slice_index weights.now i) (sum weights.now) (slice_index shares.new i))) }
-    ensures unchanged { OnErr result (shares.new ≡ shares.old) }
 {
     let total = total_to_share(weights, shares)?;
     let mut ahead = 0;
@@ -69,15 +64,10 @@ pub fn shares(amount: u64, weights: &[u64], shares: &mut [u64]) -> Result<(), Sh
 ///
 /// If it returns an error, it writes nothing.
 pub fn signed_shares(amount: i64, weights: &[u64], shares: &mut [i64]) -> Result<(), SharesError>
-    ensures possible { IsOk result ↔ CanBeShared weights.now shares.old }
-    ensures different_lengths { (result ≡ Err SharesError.DifferentLengths)
-        ↔ (length shares.old ≢ length weights.now) }
-    ensures zero_weights { (result ≡ Err SharesError.ZeroWeights)
-        ↔ ((length shares.old ≡ length weights.now) × (sum weights.now ≡ 0)) }
+    ensures errors { AnswersShares weights.now shares.old shares.new result }
     ensures shares { OnOk result (AreSignedShares amount weights.now shares.new) }
     ensures only { OnOk result (IsOnly (AreSignedShares amount weights.now) shares.new) }
     ensures whole { OnOk result (signed_sum shares.new ≡ amount) }
-    ensures unchanged { OnErr result (shares.new ≡ shares.old) }
 {
     let total = total_to_share(weights, shares)?;
     let mut ahead = 0;
@@ -91,13 +81,9 @@ pub fn signed_shares(amount: i64, weights: &[u64], shares: &mut [i64]) -> Result
 
 /// Returns the sum of the weights, or why there are no shares.
 pub(crate) fn total_to_share<S>(weights: &[u64], shares: &[S]) -> Result<u128, SharesError>
-    ensures possible { IsOk result ↔ CanBeShared weights.now shares.now }
+    ensures errors { AnswersShares weights.now shares.now shares.now result }
     ensures total { IfOk result (λ total. CanBeShared weights.now shares.now
         × (total ≡ sum weights.now)) }
-    ensures different_lengths { (result ≡ Err SharesError.DifferentLengths)
-        ↔ (length shares.now ≢ length weights.now) }
-    ensures zero_weights { (result ≡ Err SharesError.ZeroWeights)
-        ↔ ((length shares.now ≡ length weights.now) × (sum weights.now ≡ 0)) }
 {
     if shares.len() != weights.len() {
         return Err(SharesError::DifferentLengths);

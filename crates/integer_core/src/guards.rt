@@ -1,7 +1,7 @@
 //! Conditions that plain Rust tests, each with the reason that it panics with. In Rattle a caller has proved them, so none of these
 //! functions tests anything. Those of plain Rust are written by hand, in `rust/by_hand/src/integer_core/guards.rs`.
 
-ghost use Rattle.std.specs.Prelude.{◌≡◌, ◌+ℤ◌, ◌*ℤ◌, ◌≤ℤ◌, ◌<ℤ◌, pos, All, IsTrue, IsSome, IfSome};
+ghost use Rattle.std.specs.Prelude.{◌≡◌, ◌+ℤ◌, ◌*ℤ◌, ◌≤ℤ◌, pos, All, IsTrue, IsSome, IfSome};
 ghost use Rattle.integer_core.specs.Bezout.{HasPair};
 ghost use Rattle.integer_core.specs.Divisors.{GcdFits, IsLeastCommonMultiple};
 ghost use Rattle.integer_core.specs.Range.{EachFits};
@@ -66,9 +66,4 @@ pub fn check_lcm<T: Integer>(m: &T, n: &T, reason: &str)
 /// Says that no number is negative. In plain Rust it panics with the reason if one is.
 pub fn check_none_negative<T: Integer>(numbers: &[T], reason: &str)
     requires { All (λ x. pos 0 ≤ℤ T.value x) numbers.now }
-{}
-
-/// Says that the second number of each pair is positive. In plain Rust it panics with the reason if one is not.
-pub fn check_second_positive<T: Integer>(pairs: &[(T, T)], reason: &str)
-    requires { All (λ p. pos 0 <ℤ T.value p.1) pairs.now }
 {}

@@ -1,8 +1,8 @@
 //! An amount divided in proportion to weights by largest remainders.
 
-ghost use Rattle.std.specs.Prelude.{◌≡◌, ◌≢◌, ◌↔◌, ◌<◌, ◌≤◌, ◌+◌, ◌-◌, EachIndex, Err, IsOk, OnErr, OnOk, length, slice_index, sum, sum_by};
+ghost use Rattle.std.specs.Prelude.{◌≡◌, ◌<◌, ◌≤◌, ◌+◌, ◌-◌, EachIndex, OnOk, slice_index, sum, sum_by};
 ghost use Rattle.num_integer.specs.Only.{IsOnly};
-ghost use Rattle.applied.specs.Shares.{AreSharesByRemainder, AreSignedSharesByRemainder, CanBeShared, IsNearShare, RoundsShare, count_from, remainder_of, rounded_down, signed_sum};
+ghost use Rattle.applied.specs.Shares.{AnswersShares, AreSharesByRemainder, AreSignedSharesByRemainder, IsNearShare, RoundsShare, count_from, remainder_of, rounded_down, signed_sum};
 
 use crate::shares::{SharesError, total_to_share};
 use num_integer::Magnitudes;
@@ -33,16 +33,11 @@ pub fn shares_by_largest_remainder(
     weights: &[u64],
     shares: &mut [u64],
 ) -> Result<(), SharesError>
-    ensures possible { IsOk result ↔ CanBeShared weights.now shares.old }
-    ensures different_lengths { (result ≡ Err SharesError.DifferentLengths)
-        ↔ (length shares.old ≢ length weights.now) }
-    ensures zero_weights { (result ≡ Err SharesError.ZeroWeights)
-        ↔ ((length shares.old ≡ length weights.now) × (sum weights.now ≡ 0)) }
-    ensures shares { OnOk result (AreSharesByRemainder amount weights.now shares.new) }
-    ensures only { OnOk result (IsOnly (AreSharesByRemainder amount weights.now) shares.new) }
     ensures near { OnOk result (EachIndex weights.now (λ i. IsNearShare amount
         (slice_index weights.now i) (sum weights.now) (slice_index shares.new i))) }
-    ensures unchanged { OnErr result (shares.new ≡ shares.old) }
+    ensures errors { AnswersShares weights.now shares.old shares.new result }
+    ensures shares { OnOk result (AreSharesByRemainder amount weights.now shares.new) }
+    ensures only { OnOk result (IsOnly (AreSharesByRemainder amount weights.now) shares.new) }
 {
     let total = total_to_share(weights, shares)?;
     let (bar, extra) = bar_of(amount, weights, total);
@@ -74,15 +69,10 @@ pub fn signed_shares_by_largest_remainder(
     weights: &[u64],
     shares: &mut [i64],
 ) -> Result<(), SharesError>
-    ensures possible { IsOk result ↔ CanBeShared weights.now shares.old }
-    ensures different_lengths { (result ≡ Err SharesError.DifferentLengths)
-        ↔ (length shares.old ≢ length weights.now) }
-    ensures zero_weights { (result ≡ Err SharesError.ZeroWeights)
-        ↔ ((length shares.old ≡ length weights.now) × (sum weights.now ≡ 0)) }
+    ensures errors { AnswersShares weights.now shares.old shares.new result }
     ensures shares { OnOk result (AreSignedSharesByRemainder amount weights.now shares.new) }
     ensures only { OnOk result (IsOnly (AreSignedSharesByRemainder amount weights.now) shares.new) }
     ensures whole { OnOk result (signed_sum shares.new ≡ amount) }
-    ensures unchanged { OnErr result (shares.new ≡ shares.old) }
 {
     let total = total_to_share(weights, shares)?;
     let magnitude = amount.unsigned_abs();

@@ -1,10 +1,10 @@
 //! Checked division.
 
 ghost use Rattle.std.specs.Prelude.{◌≢◌, ◌<ℤ◌, pos, IsSome};
-ghost use Rattle.integer_core.specs.Division.{IsCeiled, IsFloored, IsQuotient, IsRemainder, IsTruncated};
-ghost use Rattle.integer_core.specs.Range.{EachFits};
+ghost use Rattle.integer_core.specs.Division.{IsCeiled, IsFloored, IsRemainder, IsTruncated};
 ghost use Rattle.num_integer.specs.Answers.{AnswersDivision, AnswersMultiple};
-ghost use Rattle.num_integer.specs.Checked.{AnswersWhere};
+ghost use Rattle.num_integer.specs.Checked.{AnswersWhere, FitsWith};
+ghost use Rattle.num_integer.specs.Rounding.{AnswersQuotient};
 
 use crate::fits_trait::Fits;
 use integer_core::operators::is_zero;
@@ -30,10 +30,7 @@ pub fn div_rem<T: Fits>(x: T, y: T) -> Option<(T, T)>
 pub fn div_floor<T: Fits>(x: T, y: T) -> Option<T>
     requires x_in_range { T.fits (T.value x) }
     requires y_in_range { T.fits (T.value y) }
-    ensures answer { AnswersWhere
-        ((T.value y ≢ pos 0) × EachFits T.fits (IsQuotient IsFloored (T.value x) (T.value y)))
-        (λ q. T.fits (T.value q) × IsQuotient IsFloored (T.value x) (T.value y) (T.value q))
-        result }
+    ensures answer { AnswersQuotient IsFloored T.fits T.value (T.value x) (T.value y) result }
     ensures positive { pos 0 <ℤ T.value y → IsSome result }
 {
     if x.quotient_fits(&y) {
@@ -50,7 +47,7 @@ pub fn mod_floor<T: Fits>(x: T, y: T) -> Option<T>
     requires y_in_range { T.fits (T.value y) }
     ensures { AnswersWhere
         (T.value y ≢ pos 0)
-        (λ r. T.fits (T.value r) × IsRemainder IsFloored (T.value x) (T.value y) (T.value r))
+        (FitsWith T.fits T.value (IsRemainder IsFloored (T.value x) (T.value y)))
         result }
 {
     if is_zero(y) {
@@ -81,10 +78,7 @@ pub fn div_mod_floor<T: Fits>(x: T, y: T) -> Option<(T, T)>
 pub fn div_ceil<T: Fits>(x: T, y: T) -> Option<T>
     requires x_in_range { T.fits (T.value x) }
     requires y_in_range { T.fits (T.value y) }
-    ensures answer { AnswersWhere
-        ((T.value y ≢ pos 0) × EachFits T.fits (IsQuotient IsCeiled (T.value x) (T.value y)))
-        (λ q. T.fits (T.value q) × IsQuotient IsCeiled (T.value x) (T.value y) (T.value q))
-        result }
+    ensures answer { AnswersQuotient IsCeiled T.fits T.value (T.value x) (T.value y) result }
     ensures positive { pos 0 <ℤ T.value y → IsSome result }
 {
     if x.quotient_fits(&y) {

@@ -5,7 +5,7 @@ ghost use Rattle.integer_core.specs.Bezout.{HasPair, IsBezoutAnswer};
 ghost use Rattle.integer_core.specs.Divisors.{GcdFits, IsGreatestCommonDivisor, IsLeastCommonMultiple};
 ghost use Rattle.integer_core.specs.Range.{EachFits};
 ghost use Rattle.num_integer.specs.Answers.{AnswersFitting};
-ghost use Rattle.num_integer.specs.Checked.{AnswersWhere};
+ghost use Rattle.num_integer.specs.Checked.{AnswersWhere, FitsWith};
 
 use crate::checked::operators::{negated, product};
 use crate::coefficients::positive_quotient;
@@ -22,7 +22,7 @@ pub fn gcd<T: Fits>(x: T, y: T) -> Option<T>
     requires y_in_range { T.fits (T.value y) }
     ensures answer { AnswersWhere
         (GcdFits T.fits (T.value x) (T.value y))
-        (λ g. T.fits (T.value g) × IsGreatestCommonDivisor (T.value x) (T.value y) (T.value g))
+        (FitsWith T.fits T.value (IsGreatestCommonDivisor (T.value x) (T.value y)))
         result }
     ensures positive { pos 0 <ℤ T.value y → IsSome result }
 {

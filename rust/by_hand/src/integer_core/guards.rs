@@ -122,11 +122,3 @@ pub(crate) fn check_lcm<T: Integer>(m: &T, n: &T, reason: &'static str) {
 pub(crate) fn check_none_negative<T: Integer>(numbers: &[T], reason: &'static str) {
     check(numbers.iter().all(|x| *x >= T::zero()), reason);
 }
-
-/// Panics if the second number of a pair is not positive.
-#[allow(dead_code)]
-#[inline]
-#[track_caller]
-pub(crate) fn check_second_positive<T: Integer>(pairs: &[(T, T)], reason: &'static str) {
-    check(pairs.iter().all(|pair| pair.1 > T::zero()), reason);
-}

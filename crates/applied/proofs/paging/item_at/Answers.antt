@@ -5,7 +5,7 @@ use Rattle.applied.proofs.paging.item_at.Goals as goal
 pub successor-requires-clause-sum_fits : goal.successor-requires-clause-sum_fits
 successor-requires-clause-sum_fits g c =
     let before = c.is_negative-2.ensures.0 c.if-is_negative.true in
-    within_fits g.met.T.Integer.range_law c.requires.in_range.0 (inr (omega (arith, linear, before), omega (arith, linear, before)))
+    within_fits g.met.T.Integer.range_law c.requires.in_range.0 (inr (omega (linear, before), omega (linear, before)))
 
 pub difference-requires-clause-difference_fits : goal.difference-requires-clause-difference_fits
 difference-requires-clause-difference_fits g c =
@@ -27,7 +27,7 @@ pub returns-in_ok-next_page-clause-place : goal.returns-in_ok-next_page-clause-p
 returns-in_ok-next_page-clause-place g c =
     let value = g.T.Number.value in
     let is : value c.in_ok-next_page.next_page +ℤ value c.difference.result ≡ value c.args.page *ℤ value c.args.page_size +ℤ value c.args.place =
-    rw (c.in_ok-next_page.ensures.1.1, c.successor.ensures.value, c.difference.ensures.value) (simp expand (omega (arith, products))) in
+    rw (c.in_ok-next_page.ensures.1.1, c.successor.ensures.value, c.difference.ensures.value) (simp expand (omega products)) in
     answers_only g.T.Number.fits (λ item. IsPlace item (value c.args.page_size) (value c.args.page) (value c.args.place)) value c.sum.result
     (record { equation = is; from_zero = c.requires.place_from_zero; below = c.requires.place_below }) (λ y k. is ∙ sym k.equation) c.sum.ensures
 

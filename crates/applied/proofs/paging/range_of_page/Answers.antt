@@ -1,4 +1,4 @@
-use Rattle.applied.proofs.Common.{arith, linear, fits_below, from_test, positive_quotient_fits, refl}
+use Rattle.applied.proofs.Common.{linear, fits_below, from_test, positive_quotient_fits, refl}
 use Rattle.applied.proofs.ItemRanges.{begins_in, none_after, none_before, only_page_range, short_page, whole_page}
 use Rattle.applied.proofs.paging.range_of_page.Goals as goal
 
@@ -25,14 +25,14 @@ pub difference-requires-clause-difference_fits : goal.difference-requires-clause
 difference-requires-clause-difference_fits g c =
     let within = begins_in c.requires.positive c.div_floor.ensures.floored.division (from_test c.is_negative-2.ensures c.if-is_negative.false) (from_test c.is_below.ensures c.if-is_below.false) in
     rw c.product-first.ensures.value (fits_below g.met.T.Integer.range_law c.requires.in_range.2
-    (omega (arith, linear, within.1)) (omega (arith, linear, within.0)))
+    (omega (linear, within.1)) (omega (linear, within.0)))
 
 pub sum-requires-clause-sum_fits : goal.sum-requires-clause-sum_fits
 sum-requires-clause-sum_fits g c =
     let within = begins_in c.requires.positive c.div_floor.ensures.floored.division (from_test c.is_negative-2.ensures c.if-is_negative.false) (from_test c.is_below.ensures c.if-is_below.false) in
     let enough = rw c.difference.ensures.value at (from_test c.is_below-2.ensures c.if-is_below-2.false) in
     fits_below g.met.T.Integer.range_law c.requires.in_range.2
-    (omega (arith, linear, within.0, c.product-first.ensures.value, c.requires.positive)) (omega (arith, linear, enough))
+    (omega (linear, within.0, c.product-first.ensures.value, c.requires.positive)) (omega (linear, enough))
 
 pub returns-then-is_below-2 : goal.returns-then-is_below-2
 returns-then-is_below-2 g c =

@@ -1,4 +1,4 @@
-use Rattle.applied.proofs.Common.{arith, linear, fits_below, positive_quotient_fits}
+use Rattle.applied.proofs.Common.{linear, fits_below, positive_quotient_fits}
 use Rattle.applied.proofs.ItemRanges.{only_part_range, part_range, parts_positive, start_fits}
 use Rattle.applied.proofs.paging.range_of_part.Goals as goal
 
@@ -10,21 +10,21 @@ div_mod_floor-size-requires-clause-quotient_fits g c = λ q h.
 pub start_of-first-requires : goal.start_of-first-requires
 start_of-first-requires g c =
     let first = start_fits g.met.T.Integer.range_law c.requires.in_range.2 c.requires.from_zero c.div_mod_floor-size.ensures.floored
-    c.requires.part_from_zero c.requires.part_below c.requires.part_from_zero (omega (arith, linear, c.requires.part_below)) in
+    c.requires.part_from_zero c.requires.part_below c.requires.part_from_zero (omega (linear, c.requires.part_below)) in
     let sizes = c.div_mod_floor-size.ensures.in_range in
     record { in_range = (c.requires.in_range.0, sizes.0, sizes.1); product_fits = first.0; start_fits = first.1 }
 
 pub successor-requires-clause-sum_fits : goal.successor-requires-clause-sum_fits
 successor-requires-clause-sum_fits g c =
     fits_below g.met.T.Integer.range_law c.requires.in_range.1
-    (omega (arith, linear, c.requires.part_from_zero)) (omega (arith, linear, c.requires.part_below))
+    (omega (linear, c.requires.part_from_zero)) (omega (linear, c.requires.part_below))
 
 pub start_of-requires : goal.start_of-requires
 start_of-requires g c =
     let next = start_fits {at = g.T.Number.value c.successor.result} g.met.T.Integer.range_law c.requires.in_range.2 c.requires.from_zero
     c.div_mod_floor-size.ensures.floored c.requires.part_from_zero c.requires.part_below
-    (omega (arith, linear, c.successor.ensures.value, c.requires.part_from_zero))
-    (omega (arith, linear, c.successor.ensures.value, c.requires.part_below)) in
+    (omega (linear, c.successor.ensures.value, c.requires.part_from_zero))
+    (omega (linear, c.successor.ensures.value, c.requires.part_below)) in
     let sizes = c.div_mod_floor-size.ensures.in_range in
     record { in_range = (c.successor.ensures.in_range, sizes.0, sizes.1); product_fits = next.0; start_fits = next.1 }
 

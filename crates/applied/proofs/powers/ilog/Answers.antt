@@ -7,7 +7,8 @@ pub loop-base-smaller : goal.loop-base-smaller
 loop-base-smaller g c = rw c.quotient-rest.ensures.value (divided_smaller _ _ c.requires.base c.loop-base.invariant.divided.positive)
 
 pub overflow_add-degree : goal.overflow_add-degree
-overflow_add-degree g c = omega (arith, few_divisions g.met.T.Integer.range_law c.requires.in_range.0 c.requires.positive c.requires.base c.loop-base.invariant.divided)
+overflow_add-degree g c =
+    omega (arith, few_divisions g.met.T.Integer.range_law c.requires.in_range.0 c.requires.positive c.requires.base c.loop-base.invariant.divided)
 
 pub loop-base-preserved : goal.loop-base-preserved
 loop-base-preserved g c = grind (arith, from_test, divided_next, c.is_below-in-loop-base.ensures, c.loop-base-test.true, c.quotient-rest.ensures.in_range, c.quotient-rest.ensures.value, c.requires.base, c.loop-base.invariant.divided)

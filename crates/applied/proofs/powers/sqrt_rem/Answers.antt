@@ -1,5 +1,5 @@
 -- The square of the root is at most n, so the product and the difference are in range.
-use Rattle.applied.proofs.Common.{arith, fits_below, linear}
+use Rattle.applied.proofs.Common.{fits_below, linear}
 use Rattle.applied.proofs.PowersAndRoots.{square_rest}
 use Rattle.applied.proofs.powers.sqrt_rem.Goals as goal
 
@@ -12,4 +12,4 @@ pub difference-requires-clause-difference_fits : goal.difference-requires-clause
 difference-requires-clause-difference_fits g c =
     let square = square_rest c.requires.from_zero c.sqrt-root.ensures.root in
     rw c.product.ensures.value (fits_below g.met.T.Integer.range_law c.requires.in_range
-    (omega (arith, linear, square.1)) (omega (arith, linear, square.0)))
+    (omega (linear, square.1)) (omega (linear, square.0)))

@@ -8,7 +8,7 @@ loop-i-init c = none_written c.requires.rank
 pub loop-i-preserved : goal.loop-i-preserved
 loop-i-preserved c =
     let found = c.greatest_within-bound.ensures in
-    let part : c.binomial-rest.result ≡ coefficient c.greatest_within-bound.result (c.loop-i.i - 1 + 1) = omega (arith, ints) in
+    let part : c.binomial-rest.result ≡ coefficient c.greatest_within-bound.result (c.loop-i.i - 1 + 1) = omega ints in
     rw part (one_more_written (omega arith) (omega arith) found.below found.within found.greatest c.loop-i.invariant)
 
 pub returns : goal.returns

@@ -6,6 +6,7 @@ abbrev pub invariant-loop-schedule : goal.invariant-loop-schedule
 invariant-loop-schedule g l = record {
   in_range : g.T.Number.fits (g.T.Number.value l.latest);
   from_there : g.T.Number.value l.fn.now ≤ℤ g.T.Number.value l.latest;
-  begun : (i : ℕ) (d : Schedule g.row.T.Denot) → i < l.schedule-index → g.T.Number.value (slice_index_or l.schedules i d).first ≤ℤ g.T.Number.value l.latest;
+  begun : (i : ℕ) (d : Schedule g.row.T.Denot) → i < l.schedule-index
+      → g.T.Number.value (slice_index_or l.schedules i d).first ≤ℤ g.T.Number.value l.latest;
   least : (u : ℤ) → g.T.Number.value l.fn.now ≤ℤ u → HaveBegun g.T.Number.value l.schedules u → g.T.Number.value l.latest ≤ℤ u;
 }

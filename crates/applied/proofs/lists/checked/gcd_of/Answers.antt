@@ -1,5 +1,5 @@
 -- The result of `signed_gcd_of` is negated if it is negative.
-use Rattle.applied.proofs.Common.{arith, from_test, sizes}
+use Rattle.applied.proofs.Common.{from_test, sizes}
 use Rattle.applied.proofs.ListDivisors.{checked_gcd_of, gcd_of_result}
 use Rattle.applied.proofs.lists.checked.gcd_of.Goals as goal
 
@@ -11,4 +11,4 @@ returns-then-is_negative g c =
 pub returns-else-is_negative : goal.returns-else-is_negative
 returns-else-is_negative g c =
     let up = from_test c.is_negative.ensures c.if-is_negative.false in
-    gcd_of_result g.T.Number.fits c.signed_gcd_of-divisor.ensures.magnitude (omega (arith, sizes)) c.signed_gcd_of-divisor.ensures.in_range
+    gcd_of_result g.T.Number.fits c.signed_gcd_of-divisor.ensures.magnitude (omega sizes) c.signed_gcd_of-divisor.ensures.in_range

@@ -3,7 +3,8 @@ use Rattle.applied.proofs.RollingHashes.{hash_more}
 use Rattle.applied.proofs.rolling_hash.RollingHash.hash.Goals as goal
 
 pub loop-byte-init : goal.loop-byte-init
-loop-byte-init c = record { below = record { from_zero = omega arith; below = omega (arith, ints, c.args.self.now.positive) }; congruent = congruent_refl (pos 0) }
+loop-byte-init c =
+    record { below = record { from_zero = omega arith; below = omega (ints, c.args.self.now.positive) }; congruent = congruent_refl (pos 0) }
 
 pub loop-byte-preserved : goal.loop-byte-preserved
 loop-byte-preserved c =

@@ -3,7 +3,8 @@ use Rattle.applied.proofs.Instalments.{each_left, first_fits, instalments_are, i
 use Rattle.applied.proofs.shares.equal.instalments.Goals as goal
 
 pub div_rem-other-requires-clause-quotient_fits : goal.div_rem-other-requires-clause-quotient_fits
-div_rem-other-requires-clause-quotient_fits g c = λ q h. positive_quotient_fits g.met.T.Integer.range_law c.requires.in_range.0 c.requires.in_range.1 c.requires.positive h.division.division
+div_rem-other-requires-clause-quotient_fits g c =
+    λ q h. positive_quotient_fits g.met.T.Integer.range_law c.requires.in_range.0 c.requires.in_range.1 c.requires.positive h.division.division
 
 pub sum-requires-clause-sum_fits : goal.sum-requires-clause-sum_fits
 sum-requires-clause-sum_fits g c = first_fits c.requires.positive c.div_rem-other.ensures.truncated g.met.T.Integer.range_law c.requires.in_range.0
