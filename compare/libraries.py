@@ -8,8 +8,7 @@ compared too. """
 import tomllib
 from collections.abc import Callable, Iterable, Iterator, Sequence
 from fractions import Fraction
-from itertools import combinations, groupby
-from operator import itemgetter
+from itertools import combinations
 
 from tools import ROOT
 from tools.bindings import by_python as model
@@ -214,7 +213,6 @@ OF_NUMBER: dict[str, Callable[[int], Numbers]] = {
 
 
 def date_lines() -> Iterator[Line]:
-    yield 32, "EleventhDays", Answered(((n,), day(n)) for n in range(-719162, 2932897, 11))
     for bits in (16, 32, 64):
         for call, of_one in OF_NUMBER.items():
             yield bits, call, Answered(((n,), of_one(n)) for n in signed(bits).spread(2048))
@@ -234,27 +232,39 @@ def ranked_choices() -> Iterator[tuple[Sequence[int], Numbers]]:
             yield from (((rank,), choice) for rank, choice in enumerate(choices))
 
 
-def table(name: str, key_type: str, calls: str, lines: Iterable[Line]) -> str:
-    """The lines of a library, under the types or the numbers of bits: three in a row."""
-    found = list(lines)
-    text = (f"\npub(crate) const {name}: [LibraryLine<{key_type}, {calls}>; {len(found)}] = "
+def table(name: str, doc: str, calls: str, lines: Iterable[Line]) -> str:
+    """The lines of a library: of each call what is found at each type or number of bits."""
+    found: dict[str, list[str]] = {}
+    for _, call, answered in lines:
+        found.setdefault(call, []).append(f"{answered.count} {answered.checksum}")
+    places = max(map(len, found.values()))
+    text = (f"\n/// {doc}\npub(crate) const {name}: [Line<{calls}, {places}>; {len(found)}] = "
             f"lines! {{ {calls}:\n")
-    for key, of_key in groupby(found, key=itemgetter(0)):
-        texts = [f"{call} {answered.count} {answered.checksum}" for _, call, answered in of_key]
-        rows = [", ".join(texts[first:first + 3]) for first in range(0, len(texts), 3)]
-        text += f"    {key}:\n        " + ",\n        ".join(rows) + ";\n"
+    for call, results in found.items():
+        rows = [", ".join(results[first:first + 4]) for first in range(0, len(results), 4)]
+        text += f"    {call}: " + ",\n        ".join(rows) + ";\n"
     return text + "};\n"
+
+
+def constant(name: str, doc: str, answered: Answered) -> str:
+    """What is found of one call."""
+    return (f"\n/// {doc}\npub(crate) const {name}: Answered = Answered({answered.count}, "
+            f"Checksum({answered.checksum}));\n")
 
 
 def made() -> dict[str, str]:
     """The file."""
-    choices = Answered(ranked_choices())
+    days = Answered(((n,), day(n)) for n in range(-719162, 2932897, 11))
     text = ((ROOT / "compare/libraries_head.rattle").read_text()
-            + table("RESIDUES", "Type", "Residues", residue_lines("modular"))
-            + table("FRACTIONS", "u32", "Fractions", fraction_lines())
-            + table("DATES", "u32", "Dates", date_lines())
-            + table("MODELS", "Type", "Models", residue_lines("applied", ("I64", "U64")))
-            + "\n/// All choices of the numbers below each number up to 14.\n"
-            + f"pub(crate) const CHOICES: Answered = Answered({choices.count}, "
-            f"Checksum({choices.checksum}));\n")
+            + table("RESIDUES", "At `i16`, `i64`, `u64`, `i128` and `u128`.", "Residues",
+                    residue_lines("modular"))
+            + "\n/// The numbers of bits of the lines below, and their places.\n"
+            + "pub(crate) const BITS: [(u32, usize); 3] = [(16, 0), (32, 1), (64, 2)];\n"
+            + table("FRACTIONS", "At 16, 32 and 64 bits.", "Fractions", fraction_lines())
+            + table("DATES", "At 16, 32 and 64 bits.", "Dates", date_lines())
+            + constant("ELEVENTH_DAYS", "Each eleventh day from year 1 to year 9999.", days)
+            + table("MODELS", "At `i64` and `u64`.", "Models",
+                    residue_lines("applied", ("I64", "U64")))
+            + constant("CHOICES", "All choices of the numbers below each number up to 14.",
+                       Answered(ranked_choices())))
     return {'crates/replay/src/tests/libraries.rt': text}

@@ -99,55 +99,27 @@ fn whole<T: Number>(x: T) -> Whole {
     }
 }
 
-#[derive(Clone, Copy, Debug, PartialEq)]
-pub enum Call {
-    DivRem,
-    DivFloor,
-    ModFloor,
-    DivModFloor,
-    DivCeil,
-    NextMultipleOf,
-    PrevMultipleOf,
-    IsMultipleOf,
-    Divides,
-    IsEvenIsOdd,
-    Gcd,
-    Lcm,
-    GcdLcm,
-    ExtendedGcd,
-    AverageFloor,
-    AverageCeil,
-    Binomial,
-    ExtendedGcdLcm,
-    Sqrt,
-    Cbrt,
-    NthRoot(u32),
-    Multinomial,
-    IterBinomial,
+/// Declares the calls: those of two operands, at every type, and the others.
+macro_rules! calls {
+    ($($of_pair:ident)+; $($other:ident)+) => {
+        #[derive(Clone, Copy, Debug, PartialEq)]
+        pub enum Call {
+            $($of_pair,)+
+            $($other,)+
+            NthRoot(u32),
+        }
+
+        pub const OF_PAIRS: &[Call] = &[$($of_pair),+];
+    };
+}
+
+calls! {
+    DivRem DivFloor ModFloor DivModFloor DivCeil NextMultipleOf PrevMultipleOf IsMultipleOf Divides IsEvenIsOdd
+    Gcd Lcm GcdLcm ExtendedGcd AverageFloor AverageCeil Binomial;
+    ExtendedGcdLcm Sqrt Cbrt Multinomial IterBinomial
 }
 
 use Call::*;
-
-/// The calls of two operands, at every type.
-pub const OF_PAIRS: [Call; 17] = [
-    DivRem,
-    DivFloor,
-    ModFloor,
-    DivModFloor,
-    DivCeil,
-    NextMultipleOf,
-    PrevMultipleOf,
-    IsMultipleOf,
-    Divides,
-    IsEvenIsOdd,
-    Gcd,
-    Lcm,
-    GcdLcm,
-    ExtendedGcd,
-    AverageFloor,
-    AverageCeil,
-    Binomial,
-];
 
 impl Call {
     /// The call's name in the list.

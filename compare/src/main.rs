@@ -93,9 +93,9 @@ impl<'a> Line<'a> {
         }
     }
 
-    fn text(&self, call: Call) -> String {
+    fn text(&self, call: Call) -> (String, String) {
         let (count, wide, Checksum(sum)) = (self.in_type, self.at_128_bits, self.checksum);
-        format!("{} {count} {wide} {sum}", call.name())
+        (call.name(), format!("{count} {wide} {sum}"))
     }
 }
 
@@ -149,14 +149,17 @@ fn rows<T: Number>(at: At) -> Line {
     line
 }
 
-/// The name of a type, and its lines.
-fn lines_of<'a, T: Number>(name: &'a str, shown: &Shown) -> (&'a str, Vec<String>) {
+/// The name of each call, and what is found of it at a type.
+type Found = Vec<(String, String)>;
+
+/// What is found at a type.
+fn lines_of<T: Number>(name: &str, shown: &Shown) -> Found {
     let high = T::max_value().to_u128().expect("it is positive");
     let low = T::min_value().to_i128().unwrap_or(0).unsigned_abs();
     let shape = Shape::between(low, high);
     let at = At { name, shape, shown };
     let of_pair = |call: Call| pairs::<T>(at, call).text(call);
-    let mut lines: Vec<String> = OF_PAIRS.into_iter().map(of_pair).collect();
+    let mut lines: Found = OF_PAIRS.iter().copied().map(of_pair).collect();
     if low > 0 {
         lines.push(of_pair(Call::ExtendedGcdLcm));
     }
@@ -168,7 +171,14 @@ fn lines_of<'a, T: Number>(name: &'a str, shown: &Shown) -> (&'a str, Vec<String
     }
     lines.push(lists::<T>(at).text(Call::Multinomial));
     lines.push(rows::<T>(at).text(Call::IterBinomial));
-    (name, lines)
+    lines
+}
+
+/// The same at a type of 64 bits, where the type of the size of a pointer has the same lines.
+fn lines_of_both<T: Number, P: Number>(names: [&str; 2], shown: &Shown) -> Found {
+    let lines = lines_of::<T>(names[0], shown);
+    assert_eq!(lines, lines_of::<P>(names[1], shown), "{names:?}");
+    lines
 }
 
 /// The text above the lines.
@@ -177,46 +187,48 @@ const HEAD: &str = "\
 
 use super::calls::Call;
 use super::lines::Line;
-use own_types::types::Type;
 
-/// The lines of types: a call, how many inputs have a result, how many more have one at `i128` alone, and the checksum.
+/// The lines: a call, and for each type how many inputs have a result, how many more have one at `i128` alone, by numbers of
+/// the type, and the checksum.
 macro_rules! lines {
-    ($($of:ident: $($call:ident $in_type:literal $at_128_bits:literal $checksum:literal),+;)+) => {
-        [$($(Line(Type::$of, Call::$call, $in_type, $at_128_bits, $checksum)),+),+]
+    ($($call:ident: $($in_type:literal $at_128_bits:literal $checksum:literal),+;)+) => {
+        [$((Call::$call, [$(($in_type, $at_128_bits, $checksum)),+])),+]
     };
-}";
+}
+
+/// At `i8`, `i16`, `i32`, `i64` and `isize`, and `i128`, and then at the unsigned types in the same order.";
 
 fn main() {
     set_hook(Box::new(|_| ()));
     let words: Vec<String> = std::env::args().skip(1).collect();
     let shown = Shown::of_words(&words);
     println!("{HEAD}");
-    let signed = [
+    print_table(&[
         lines_of::<i8>("I8", &shown),
         lines_of::<i16>("I16", &shown),
         lines_of::<i32>("I32", &shown),
-        lines_of::<i64>("I64", &shown),
+        lines_of_both::<i64, isize>(["I64", "Isize"], &shown),
         lines_of::<i128>("I128", &shown),
-        lines_of::<isize>("Isize", &shown),
-    ];
-    let unsigned = [
         lines_of::<u8>("U8", &shown),
         lines_of::<u16>("U16", &shown),
         lines_of::<u32>("U32", &shown),
-        lines_of::<u64>("U64", &shown),
+        lines_of_both::<u64, usize>(["U64", "Usize"], &shown),
         lines_of::<u128>("U128", &shown),
-        lines_of::<usize>("Usize", &shown),
-    ];
-    print_table("The lines of the signed types.", "SIGNED", &signed);
-    print_table("Those of the unsigned types.", "UNSIGNED", &unsigned);
+    ]);
 }
 
-/// Prints the lines, three in a row.
-fn print_table(doc: &str, name: &str, types: &[(&str, Vec<String>)]) {
-    println!("\n/// {doc}\npub(crate) static {name}: &[Line] = &lines! {{");
-    for (of, lines) in types {
-        let rows: Vec<String> = lines.chunks(3).map(|row| row.join(", ")).collect();
-        println!("    {of}:\n        {};", rows.join(",\n        "));
+/// Prints a line for each call, with what is found at each type, four types in a row. The first type has all calls.
+fn print_table(types: &[Found]) {
+    let (calls, count) = (&types[0], types.len());
+    println!("pub(crate) const LINES: [Line<Call, {count}>; {}] = lines! {{", calls.len());
+    for (call, _) in calls {
+        let found = |lines: &Found| {
+            let line = lines.iter().find(|(name, _)| name == call);
+            line.map_or("0 0 0".to_string(), |(_, text)| text.clone())
+        };
+        let results: Vec<String> = types.iter().map(found).collect();
+        let rows: Vec<String> = results.chunks(4).map(|row| row.join(", ")).collect();
+        println!("    {call}: {};", rows.join(",\n        "));
     }
     println!("}};");
 }

@@ -1,6 +1,9 @@
 //! Each day of the years from -800 to 800 and of the eras at both ends of `i64`, and months, weeks and Easter, against a
 //! count of days by years and months.
 
+#[macro_use]
+mod common;
+
 use cellarcove::calendar::{
     days_between, days_in_month, days_in_year, easter, first_weekday_on_or_after, is_leap_year,
     last_weekday_of_month, last_weekday_on_or_before, months_between, next_last_weekday,
@@ -68,19 +71,12 @@ fn each_day() {
         let found = Date::from_day_number(day);
         let parts = (found.year(), found.month(), found.day_of_month());
         assert_eq!(parts, (year, month, day_of_month), "{day}");
-        assert_eq!(
-            (found.day_number(), found),
-            (Some(day), date(year, month, day_of_month))
-        );
-        assert_eq!(
-            (weekday_of(day), found.weekday()),
-            (weekday_at(day), weekday_at(day))
-        );
-        assert_eq!(weekday_at(FIRST).plus_days(day - FIRST), weekday_at(day));
-        assert_eq!(
-            found.last_of_month(),
-            date(year, month, month_length(year, month))
-        );
+        returns! {
+            (found.day_number(), found) => (Some(day), date(year, month, day_of_month));
+            (weekday_of(day), found.weekday()) => (weekday_at(day), weekday_at(day));
+            weekday_at(FIRST).plus_days(day - FIRST) => weekday_at(day);
+            found.last_of_month() => date(year, month, month_length(year, month));
+        }
         if let Some(last) = last {
             assert_eq!((last.next(), found.previous()), (Some(found), Some(last)));
             assert!(last < found, "{day}");
@@ -129,14 +125,11 @@ fn each_day_of_its_week() {
             };
             week = IsoWeek::new(next.0, next.1).expect("the year has this week");
             weeks += 1;
-            assert_eq!(
-                (first.plus_weeks(weeks), week.plus_weeks(-weeks)),
-                (Some(week), Some(first))
-            );
-            assert_eq!(
-                (first.weeks_between(&week), week.weeks_between(&first)),
-                (Some(weeks), Some(-weeks))
-            );
+            returns! {
+                (first.plus_weeks(weeks), week.plus_weeks(-weeks)) => (Some(week), Some(first));
+                (first.weeks_between(&week), week.weeks_between(&first))
+                    => (Some(weeks), Some(-weeks));
+            }
         }
         let found = date(year, month, day_of_month);
         assert_eq!(found.iso_week(), Some(week), "{day}");
@@ -161,14 +154,10 @@ fn each_day_at_the_ends() {
     );
     for day in i64::MIN..i64::MIN + ERA {
         let mirrored = -1 - day;
-        assert_eq!(
-            (Date::from_day_number(day), first.day_number()),
-            (first, Some(day))
-        );
-        assert_eq!(
-            (Date::from_day_number(mirrored), last.day_number()),
-            (last, Some(mirrored))
-        );
+        returns! {
+            (Date::from_day_number(day), first.day_number()) => (first, Some(day));
+            (Date::from_day_number(mirrored), last.day_number()) => (last, Some(mirrored));
+        }
         first = first.next().expect("there is a next day");
         last = last.previous().expect("there is a day before");
     }

@@ -1,8 +1,11 @@
 //! A type of another crate that is not `Copy`: a number on the heap. Its crate depends on `cellarcove` alone.
 
-use cellarcove::num_traits::{Num, One, Signed, Zero};
+#[macro_use]
+mod common;
+
+use cellarcove::num_traits::Signed;
 use cellarcove::{ExtendedGcd, Integer, Roots};
-use std::ops::{Add, Div, Mul, Neg, Rem, Sub};
+use std::ops::Neg;
 
 #[derive(Debug, Clone, PartialEq, Eq, PartialOrd, Ord)]
 struct Boxed(Box<i64>);
@@ -11,49 +14,19 @@ fn boxed(number: i64) -> Boxed {
     Boxed(Box::new(number))
 }
 
-macro_rules! operators {
-    ($($name:ident $call:ident)*) => {$(
-        impl $name for Boxed {
-            type Output = Boxed;
-
-            fn $call(self, other: Boxed) -> Boxed {
-                boxed(self.0.$call(*other.0))
-            }
-        }
-    )*};
+impl Boxed {
+    fn number(&self) -> i64 {
+        *self.0
+    }
 }
 
-operators! { Add add Sub sub Mul mul Div div Rem rem }
+implements_num! { Boxed, i64, boxed }
 
 impl Neg for Boxed {
     type Output = Boxed;
 
     fn neg(self) -> Boxed {
         boxed(-*self.0)
-    }
-}
-
-impl Zero for Boxed {
-    fn zero() -> Boxed {
-        boxed(0)
-    }
-
-    fn is_zero(&self) -> bool {
-        *self.0 == 0
-    }
-}
-
-impl One for Boxed {
-    fn one() -> Boxed {
-        boxed(1)
-    }
-}
-
-impl Num for Boxed {
-    type FromStrRadixErr = std::num::ParseIntError;
-
-    fn from_str_radix(text: &str, radix: u32) -> Result<Boxed, Self::FromStrRadixErr> {
-        i64::from_str_radix(text, radix).map(boxed)
     }
 }
 

@@ -1,6 +1,9 @@
 //! Calls that return `None` outside the domain: residues at each modulus of a byte, and the tests of operators and pairs at
 //! all pairs of bytes, against computation in 32 bits. Fractions rounded to parts, against integers.
 
+#[macro_use]
+mod common;
+
 use cellarcove::modular::{self, checked as residues, CommonSolution};
 use cellarcove::ratio64::{Ratio, RatioError};
 use cellarcove::{checked, Fits};
@@ -92,26 +95,13 @@ fn as_the_plain_calls_at_a_positive_modulus() {
             );
         }
     }
-    assert_eq!(
-        residues::next_common_solution(0i8, (1, 2).into(), (1, 0).into()),
-        None
-    );
-    assert_eq!(
-        residues::next_common_solution_of(0i8, &[(1, 2).into(), (1, 0).into()]),
-        None
-    );
-    assert_eq!(
-        residues::next_common_solution_of(5i8, &[]),
-        Some(CommonSolution::At(5))
-    );
-    assert_eq!(
-        residues::chinese_remainder((1i8, 2).into(), (1, 0).into()),
-        None
-    );
-    assert_eq!(
-        residues::chinese_remainder((1i8, 4).into(), (3, 6).into()),
-        Some((9, 12).into())
-    );
+    returns! {
+        residues::next_common_solution(0i8, (1, 2).into(), (1, 0).into()) => None;
+        residues::next_common_solution_of(0i8, &[(1, 2).into(), (1, 0).into()]) => None;
+        residues::next_common_solution_of(5i8, &[]) => Some(CommonSolution::At(5));
+        residues::chinese_remainder((1i8, 2).into(), (1, 0).into()) => None;
+        residues::chinese_remainder((1i8, 4).into(), (3, 6).into()) => Some((9, 12).into());
+    }
 }
 
 #[test]

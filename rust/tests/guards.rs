@@ -1,13 +1,14 @@
 //! Guards that no call of `domains/forms.rs` misses, since a later one has the same reason: the methods of one's own type need not test
 //! their domains, and two moduli are tested before their multiple.
 
+#[macro_use]
+mod common;
+
 use cellarcove::applied::{layout, powers};
 use cellarcove::counted::power_modulo_counted;
 use cellarcove::modular::{chinese_remainder, product_modulo, Modular};
 use cellarcove::{sqrt, Integer, Roots};
-use num_traits::{Num, One, Zero};
 use std::fmt::Debug;
-use std::ops::{Add, Div, Mul, Rem, Sub};
 use std::panic::{catch_unwind, UnwindSafe};
 
 const MODULUS: &str = "the modulus is not positive";
@@ -17,43 +18,13 @@ const DEGREE: &str = "attempt to take a root of degree 0";
 #[derive(Debug, Clone, Copy, PartialEq, Eq, PartialOrd, Ord)]
 struct Bold(i64);
 
-macro_rules! operators {
-    ($($name:ident $call:ident)*) => {$(
-        impl $name for Bold {
-            type Output = Bold;
-
-            fn $call(self, other: Bold) -> Bold {
-                Bold(self.0.$call(other.0))
-            }
-        }
-    )*};
-}
-
-operators! { Add add Sub sub Mul mul Div div Rem rem }
-
-impl Zero for Bold {
-    fn zero() -> Bold {
-        Bold(0)
-    }
-
-    fn is_zero(&self) -> bool {
-        self.0 == 0
+impl Bold {
+    fn number(&self) -> i64 {
+        self.0
     }
 }
 
-impl One for Bold {
-    fn one() -> Bold {
-        Bold(1)
-    }
-}
-
-impl Num for Bold {
-    type FromStrRadixErr = std::num::ParseIntError;
-
-    fn from_str_radix(text: &str, radix: u32) -> Result<Bold, Self::FromStrRadixErr> {
-        i64::from_str_radix(text, radix).map(Bold)
-    }
-}
+implements_num! { Bold, i64, Bold }
 
 impl Integer for Bold {
     fn div_rem(&self, other: &Bold) -> (Bold, Bold) {

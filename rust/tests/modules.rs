@@ -1,5 +1,8 @@
 //! Each module once, with what is not as in Rattle: the readers of fields, and panics outside the domain.
 
+#[macro_use]
+mod common;
+
 use cellarcove::applied::schedules::{next_meeting, CommonSolution};
 use cellarcove::applied::{halving, layout, paging, powers, ranking, rolling_hash::RollingHash};
 use cellarcove::calendar::{easter, Date, Weekday};
@@ -31,18 +34,14 @@ fn fractions() {
 #[test]
 fn dates() {
     let date: Date = "2024-02-29".parse().expect("the date is one");
-    assert_eq!(
-        (date.year(), date.month(), date.day_of_month()),
-        (2024, 2, 29)
-    );
-    assert_eq!(date.day_number(), Some(19782));
-    assert_eq!(date.weekday(), Weekday::Thursday);
-    assert_eq!(
-        date.plus_months(12).map(|date| date.to_string()),
-        Some("2025-02-28".to_string())
-    );
-    assert_eq!(easter(2000).to_string(), "2000-04-23");
-    assert_eq!(Date::from_day_number(i64::MAX).day_number(), Some(i64::MAX));
+    returns! {
+        (date.year(), date.month(), date.day_of_month()) => (2024, 2, 29);
+        date.day_number() => Some(19782);
+        date.weekday() => Weekday::Thursday;
+        date.plus_months(12).map(|date| date.to_string()) => Some("2025-02-28".to_string());
+        easter(2000).to_string() => "2000-04-23";
+        Date::from_day_number(i64::MAX).day_number() => Some(i64::MAX);
+    }
 }
 
 #[test]
@@ -92,24 +91,17 @@ fn counts_and_operators() {
 #[allow(deprecated)]
 fn places_of_before() {
     assert!(cellarcove::coprime::is_coprime(8, 15) && cellarcove::ranking::is_choice(&[0, 2], 3));
-    assert_eq!(
-        cellarcove::counting::checked::factorial(5),
-        Some(cellarcove::counting::factorial(5))
-    );
-    assert_eq!(
-        cellarcove::halving::midpoint(3, 10),
-        cellarcove::average_floor(3, 10)
-    );
-    assert_eq!(cellarcove::layout::align_up(13, 8), Some(16));
-    assert_eq!(cellarcove::lists::checked::gcd_of(&[12, 18]), Some(6));
-    assert_eq!(cellarcove::paging::pages(10, 4), 3);
-    assert_eq!(cellarcove::powers::checked::sqrt_rem(10), Some((3, 1)));
-    assert_eq!(
-        cellarcove::rolling_hash::RollingHash::new(10, 97, 3),
-        RollingHash::new(10, 97, 3)
-    );
-    assert_eq!(cellarcove::rounding::checked::div_round(7, 2), Some(4));
-    assert_eq!(cellarcove::schedules::count(4, 15, (3, 6).into()), Some(2));
+    returns! {
+        cellarcove::counting::checked::factorial(5) => Some(cellarcove::counting::factorial(5));
+        cellarcove::halving::midpoint(3, 10) => cellarcove::average_floor(3, 10);
+        cellarcove::layout::align_up(13, 8) => Some(16);
+        cellarcove::lists::checked::gcd_of(&[12, 18]) => Some(6);
+        cellarcove::paging::pages(10, 4) => 3;
+        cellarcove::powers::checked::sqrt_rem(10) => Some((3, 1));
+        cellarcove::rolling_hash::RollingHash::new(10, 97, 3) => RollingHash::new(10, 97, 3);
+        cellarcove::rounding::checked::div_round(7, 2) => Some(4);
+        cellarcove::schedules::count(4, 15, (3, 6).into()) => Some(2);
+    }
     let error: cellarcove::shares::SharesError =
         cellarcove::applied::shares::SharesError::ZeroWeights;
     assert_eq!(cellarcove::shares::shares(1, &[0], &mut [0]), Err(error));
@@ -118,49 +110,20 @@ fn places_of_before() {
 /// Each call of a module named `checked` is in the first one too, and so with `counted`.
 #[test]
 fn one_import_of_checked_calls() {
-    assert_eq!(
-        checked::div_round(7, 2),
-        cellarcove::applied::rounding::checked::div_round(7, 2)
-    );
-    assert_eq!(
-        counted::power_modulo_counted(3, 4, 7),
-        cellarcove::modular::counted::power_modulo_counted(3, 4, 7)
-    );
-    assert_eq!(
-        (checked::div_round_even(5, 2), checked::div_round(7, 0)),
-        (Some(2), None)
-    );
-    assert_eq!(
-        (
-            checked::product_div_round(5, 1, 2),
-            checked::product_div_round_even(5, 1, 2)
-        ),
-        (Some(3), Some(2))
-    );
-    assert_eq!(
-        (checked::sum_of(&[2, -5]), checked::dot_product(&[(2, -5)])),
-        (Some(-3), Some(-10))
-    );
-    assert_eq!(
-        (checked::factorial(5u8), checked::falling(5u8, 2)),
-        (Some(120), Some(20))
-    );
-    assert_eq!(
-        (checked::gcd_of(&[12, 18]), checked::lcm_of(&[200u8, 201])),
-        (Some(6), None)
-    );
-    assert_eq!(
-        (checked::sqrt_rem(-1), checked::ilog(1000, 10)),
-        (None, Some(3))
-    );
-    assert_eq!(
-        (checked::residue(-1, 7), checked::residue(-1, 0)),
-        (Some(6), None)
-    );
-    assert_eq!(
-        checked::chinese_remainder((2, 3).into(), (3, 5).into()),
-        Some((8, 15).into())
-    );
+    returns! {
+        checked::div_round(7, 2) => cellarcove::applied::rounding::checked::div_round(7, 2);
+        counted::power_modulo_counted(3, 4, 7)
+            => cellarcove::modular::counted::power_modulo_counted(3, 4, 7);
+        (checked::div_round_even(5, 2), checked::div_round(7, 0)) => (Some(2), None);
+        (checked::product_div_round(5, 1, 2), checked::product_div_round_even(5, 1, 2))
+            => (Some(3), Some(2));
+        (checked::sum_of(&[2, -5]), checked::dot_product(&[(2, -5)])) => (Some(-3), Some(-10));
+        (checked::factorial(5u8), checked::falling(5u8, 2)) => (Some(120), Some(20));
+        (checked::gcd_of(&[12, 18]), checked::lcm_of(&[200u8, 201])) => (Some(6), None);
+        (checked::sqrt_rem(-1), checked::ilog(1000, 10)) => (None, Some(3));
+        (checked::residue(-1, 7), checked::residue(-1, 0)) => (Some(6), None);
+        checked::chinese_remainder((2, 3).into(), (3, 5).into()) => Some((8, 15).into());
+    }
 }
 
 /// What has no bound, holds any type.

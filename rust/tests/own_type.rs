@@ -1,15 +1,18 @@
 //! A type of another crate: the numbers from -100 to 100. It implements the eight methods of `Integer`, `parts` and `ends`
 //! of `Fits`, the two of `Average`, and `nth_root` of `Roots`.
 
+#[macro_use]
+mod common;
+
 use cellarcove::modular::{power_modulo, residue, Modular};
 use cellarcove::operators::sum;
 use cellarcove::{
     binomial, checked, multinomial, nth_root, sqrt, Average, ExtendedGcd, Fits, Integer,
     IterBinomial, Roots,
 };
-use num_traits::{Num, One, Signed, Zero};
+use num_traits::Signed;
 use std::cell::Cell;
-use std::ops::{Add, Div, Mul, Neg, Rem, Sub};
+use std::ops::Neg;
 use std::panic::catch_unwind;
 
 #[derive(Debug, Clone, Copy, PartialEq, Eq, PartialOrd, Ord)]
@@ -29,49 +32,19 @@ fn score(points: i32) -> Score {
     Score(points)
 }
 
-macro_rules! operators {
-    ($($name:ident $call:ident)*) => {$(
-        impl $name for Score {
-            type Output = Score;
-
-            fn $call(self, other: Score) -> Score {
-                score(self.0.$call(other.0))
-            }
-        }
-    )*};
+impl Score {
+    fn number(&self) -> i32 {
+        self.0
+    }
 }
 
-operators! { Add add Sub sub Mul mul Div div Rem rem }
+implements_num! { Score, i32, score }
 
 impl Neg for Score {
     type Output = Score;
 
     fn neg(self) -> Score {
         score(-self.0)
-    }
-}
-
-impl Zero for Score {
-    fn zero() -> Score {
-        Score(0)
-    }
-
-    fn is_zero(&self) -> bool {
-        self.0 == 0
-    }
-}
-
-impl One for Score {
-    fn one() -> Score {
-        Score(1)
-    }
-}
-
-impl Num for Score {
-    type FromStrRadixErr = std::num::ParseIntError;
-
-    fn from_str_radix(text: &str, radix: u32) -> Result<Score, Self::FromStrRadixErr> {
-        i32::from_str_radix(text, radix).map(score)
     }
 }
 
@@ -271,23 +244,13 @@ fn reason(call: fn() -> Score) -> String {
 /// Where a number does not fit, the operators of the type decide. Where a call has no meaning, it panics at any type.
 #[test]
 fn outside_the_domain() {
-    assert_eq!(
-        reason(|| binomial(Score(9), Score(4))),
-        "no score has 126 points"
-    );
-    assert_eq!(
-        reason(|| sum(Score(99), Score(2))),
-        "no score has 101 points"
-    );
-    assert_eq!(
-        reason(|| residue(Score(5), Score(-7))),
-        "the modulus is not positive"
-    );
-    assert_eq!(reason(|| binomial(Score(5), Score(-3))), "`k` is negative");
-    assert_eq!(
-        reason(|| multinomial(&[Score(3), Score(-1)])),
-        "a count is negative"
-    );
+    returns! {
+        reason(|| binomial(Score(9), Score(4))) => "no score has 126 points";
+        reason(|| sum(Score(99), Score(2))) => "no score has 101 points";
+        reason(|| residue(Score(5), Score(-7))) => "the modulus is not positive";
+        reason(|| binomial(Score(5), Score(-3))) => "`k` is negative";
+        reason(|| multinomial(&[Score(3), Score(-1)])) => "a count is negative";
+    }
 }
 
 /// `nth_root` calls the type's own method, which has no test. `sqrt` calls that of the trait, which

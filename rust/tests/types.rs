@@ -1,5 +1,8 @@
 //! What the types have beside the proved calls: operators, conversions, formats and iterators.
 
+#[macro_use]
+mod common;
+
 use cellarcove::calendar::Date;
 use cellarcove::ratio64::{Decimal, ParseRatioError, Ratio, RatioError, TryFromRatioError};
 use cellarcove::IterBinomial;
@@ -93,31 +96,15 @@ fn each_operator_takes_an_integer() {
 #[test]
 fn an_operator_panics_with_the_reason() {
     let (least, most, tiny) = (ratio(i64::MIN, 1), ratio(i64::MAX, 1), ratio(1, i64::MAX));
-    assert_eq!(
-        reason(|| most + most),
-        "the sum of the fractions does not fit"
-    );
-    assert_eq!(
-        reason(|| least - most),
-        "the difference of the fractions does not fit"
-    );
-    assert_eq!(
-        reason(|| tiny * tiny),
-        "the product of the fractions does not fit"
-    );
-    assert_eq!(
-        reason(|| most / tiny),
-        "the quotient of the fractions does not fit"
-    );
-    assert_eq!(
-        reason(|| most / Ratio::zero()),
-        "attempt to divide a fraction by zero"
-    );
-    assert_eq!(reason(|| -least), "the negated fraction does not fit");
-    assert_eq!(
-        reason(|| [most, most].iter().sum::<Ratio>()),
-        "the sum of the fractions does not fit"
-    );
+    returns! {
+        reason(|| most + most) => "the sum of the fractions does not fit";
+        reason(|| least - most) => "the difference of the fractions does not fit";
+        reason(|| tiny * tiny) => "the product of the fractions does not fit";
+        reason(|| most / tiny) => "the quotient of the fractions does not fit";
+        reason(|| most / Ratio::zero()) => "attempt to divide a fraction by zero";
+        reason(|| -least) => "the negated fraction does not fit";
+        reason(|| [most, most].iter().sum::<Ratio>()) => "the sum of the fractions does not fit";
+    }
     let mut kept = most;
     assert_eq!(
         reason(std::panic::AssertUnwindSafe(|| kept += most)),
@@ -139,51 +126,23 @@ fn sums_and_products() {
 
 #[test]
 fn conversions() {
-    assert_eq!(
-        [Ratio::from(-5i8), Ratio::from(-5i16), Ratio::from(-5i32)],
-        [ratio(-5, 1); 3]
-    );
-    assert_eq!(
-        [Ratio::from(5u8), Ratio::from(5u16), Ratio::from(5u32)],
-        [ratio(5, 1); 3]
-    );
-    assert_eq!(
-        (
-            i8::try_from(ratio(-128, 1)),
-            i8::try_from(ratio(128, 1)).is_err()
-        ),
-        (Ok(-128), true)
-    );
-    assert_eq!(
-        (
-            u64::try_from(ratio(7, 1)),
-            u64::try_from(ratio(-7, 1)).is_err()
-        ),
-        (Ok(7), true)
-    );
-    assert_eq!(
-        (
-            i64::try_from(ratio(i64::MIN, 1)),
-            i128::try_from(ratio(1, 2)).is_err()
-        ),
-        (Ok(i64::MIN), true)
-    );
+    returns! {
+        [Ratio::from(-5i8), Ratio::from(-5i16), Ratio::from(-5i32)] => [ratio(-5, 1); 3];
+        [Ratio::from(5u8), Ratio::from(5u16), Ratio::from(5u32)] => [ratio(5, 1); 3];
+        (i8::try_from(ratio(-128, 1)), i8::try_from(ratio(128, 1)).is_err()) => (Ok(-128), true);
+        (u64::try_from(ratio(7, 1)), u64::try_from(ratio(-7, 1)).is_err()) => (Ok(7), true);
+        (i64::try_from(ratio(i64::MIN, 1)), i128::try_from(ratio(1, 2)).is_err())
+            => (Ok(i64::MIN), true);
+    }
     assert!(i64::try_from(ratio(1, i64::MAX)).is_err());
-    assert_eq!(Ratio::try_from(i64::MAX as u64), Ok(ratio(i64::MAX, 1)));
-    assert_eq!(Ratio::try_from(1u64 << 63), Err(RatioError::NotFitting));
-    assert_eq!(
-        Ratio::try_from(i128::from(i64::MIN)),
-        Ok(ratio(i64::MIN, 1))
-    );
-    assert_eq!(
-        Ratio::try_from(i128::from(i64::MIN) - 1),
-        Err(RatioError::NotFitting)
-    );
-    assert_eq!(Ratio::try_from(u128::MAX), Err(RatioError::NotFitting));
-    assert_eq!(
-        (Ratio::try_from(7usize), Ratio::try_from(-7isize)),
-        (Ok(ratio(7, 1)), Ok(ratio(-7, 1)))
-    );
+    returns! {
+        Ratio::try_from(i64::MAX as u64) => Ok(ratio(i64::MAX, 1));
+        Ratio::try_from(1u64 << 63) => Err(RatioError::NotFitting);
+        Ratio::try_from(i128::from(i64::MIN)) => Ok(ratio(i64::MIN, 1));
+        Ratio::try_from(i128::from(i64::MIN) - 1) => Err(RatioError::NotFitting);
+        Ratio::try_from(u128::MAX) => Err(RatioError::NotFitting);
+        (Ratio::try_from(7usize), Ratio::try_from(-7isize)) => (Ok(ratio(7, 1)), Ok(ratio(-7, 1)));
+    }
     let error: TryFromRatioError = usize::try_from(ratio(1, 2)).unwrap_err();
     assert_eq!(error.to_string(), "the fraction is no integer of the type");
     assert_eq!((ratio(6, -4).numer(), ratio(6, -4).denom()), (-3, 2));
@@ -373,19 +332,9 @@ fn days_from_one_date_to_another() {
         0
     );
     let last = Date::new(i64::MAX, 12, 31).unwrap();
-    assert_eq!(
-        (
-            last.previous().unwrap().days_until(last).count(),
-            last.days_until(last).next()
-        ),
-        (1, None)
-    );
-    assert_eq!(
-        Date::new(i64::MIN, 1, 1)
-            .unwrap()
-            .days_until(last)
-            .size_hint()
-            .1,
-        None
-    );
+    returns! {
+        (last.previous().unwrap().days_until(last).count(), last.days_until(last).next())
+            => (1, None);
+        Date::new(i64::MIN, 1, 1).unwrap().days_until(last).size_hint().1 => None;
+    }
 }

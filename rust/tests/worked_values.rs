@@ -1,5 +1,8 @@
 //! Worked values of `modular` and `applied` at each native type, most of them at the ends of the type.
 
+#[macro_use]
+mod common;
+
 use cellarcove::applied::halving::midpoint;
 use cellarcove::applied::layout::{align_up, padding};
 use cellarcove::applied::paging::{pages, place_of, range_of_page, range_of_part};
@@ -140,277 +143,166 @@ fn residues() {
 
 #[test]
 fn congruences() {
-    assert_eq!(solutions(6u8, 4, 10), Some((4, 5)));
-    assert_eq!(solutions(0u8, 1, 5), None);
-    assert_eq!(solutions(5u8, 0, 1), Some((0, 1)));
-    assert_eq!(solutions(200u8, 40, 240), Some((5, 6)));
-    assert_eq!(solutions(6i8, 3, 10), None);
-    assert_eq!(solutions(-3i8, 2, 7), Some((4, 7)));
-    assert_eq!(solutions(0i8, 0, 5), Some((0, 1)));
-    assert_eq!(
-        solutions(6000000000000000002u64, 4, 10000000000000000000),
-        Some((4000000000000000002, 5000000000000000000))
-    );
-    assert_eq!(
-        chinese_remainder((1i64, 4).into(), (3, 6).into()),
-        Some((9, 12).into())
-    );
-    assert_eq!(chinese_remainder((1i64, 4).into(), (2, 6).into()), None);
-    assert_eq!(
-        chinese_remainder((2i64, 3).into(), (3, 5).into()),
-        Some((8, 15).into())
-    );
-    assert_eq!(
-        chinese_remainder((-1i64, 4).into(), (5, 9).into()),
-        Some((23, 36).into())
-    );
-    assert_eq!(
-        chinese_remainder((7i64, 1).into(), (3, 1).into()),
-        Some((0, 1).into())
-    );
-    assert_eq!(
-        chinese_remainder((3i64, 100).into(), (53, 120).into()),
-        None
-    );
-    assert_eq!(
-        chinese_remainder((5i64, 6).into(), (1, 4).into()),
-        Some((5, 12).into())
-    );
-    assert_eq!(
-        chinese_remainder((100i64, 200).into(), (20, 80).into()),
-        Some((100, 400).into())
-    );
-    assert_eq!(
-        chinese_remainder((i64::MIN, i64::MAX).into(), (-1, 1).into()),
-        Some((i64::MAX - 1, i64::MAX).into())
-    );
-    assert_eq!(
-        chinese_remainder((5u64, 4294967291).into(), (7, 4294967279).into()),
-        Some((3074457330585873085, 18446743979220271189).into())
-    );
-    assert_eq!(next_congruent(10i64, 1, 4), Some(13));
-    assert_eq!(next_congruent(-10i64, 1, 4), Some(-7));
-    assert_eq!(next_congruent(13i64, 1, 4), Some(13));
-    assert_eq!(next_congruent(i64::MAX, i64::MAX, 5), Some(i64::MAX));
-    assert_eq!(
-        next_congruent(i64::MIN, i64::MAX, i64::MAX),
-        Some(i64::MIN + 1)
-    );
-    assert_eq!(next_congruent(i64::MAX, 0, 2), None);
-    assert_eq!(next_congruent(i64::MAX - 1, 0, 2), Some(i64::MAX - 1));
-    assert_eq!(next_congruent(120i8, 1, 9), Some(127));
-    assert_eq!(next_congruent(120i8, 2, 9), None);
-    assert_eq!(previous_congruent(10i64, 1, 4), Some(9));
-    assert_eq!(previous_congruent(-10i64, 1, 4), Some(-11));
-    assert_eq!(previous_congruent(9i64, 1, 4), Some(9));
-    assert_eq!(previous_congruent(i64::MIN, i64::MIN, 5), Some(i64::MIN));
-    assert_eq!(
-        previous_congruent(i64::MAX, i64::MIN, i64::MAX),
-        Some(i64::MAX - 1)
-    );
-    assert_eq!(previous_congruent(i64::MIN, 1, 2), None);
-    assert_eq!(previous_congruent(i64::MIN + 1, 1, 2), Some(i64::MIN + 1));
-    assert_eq!(previous_congruent(3u8, 4, 9), None);
-    assert_eq!(previous_congruent(4u8, 4, 9), Some(4));
-    assert_eq!(count_congruent(-128i8, 127, 0, 2), None);
-    assert_eq!(count_congruent(-128i8, 127, 0, 3), Some(85));
-    assert_eq!(count_congruent(-127i8, 127, 0, 2), Some(127));
-    assert_eq!(count_congruent(-127i8, 127, 1, 2), None);
-    assert_eq!(count_congruent(1i8, 10, 1, 4), Some(3));
-    assert_eq!(count_congruent(1i8, 0, 0, 1), Some(0));
-    assert_eq!(count_congruent(127i8, -128, 0, 1), Some(0));
-    assert_eq!(count_congruent(127i8, 127, 1, 2), Some(1));
-    assert_eq!(count_congruent(127i8, 127, 0, 2), Some(0));
-    assert_eq!(count_congruent(-128i8, -128, -128, 127), Some(1));
-    assert_eq!(count_congruent(0u64, u64::MAX, 0, 1), None);
-    assert_eq!(count_congruent(1u64, u64::MAX, 0, 1), Some(u64::MAX));
-    assert_eq!(count_congruent(i64::MIN, i64::MAX, 0, 2), None);
-    assert_eq!(
-        count_congruent(i64::MIN, i64::MAX, 0, 3),
-        Some(6148914691236517205)
-    );
-    assert_eq!(count_congruent(i128::MIN, i128::MAX, 0, i128::MAX), Some(3));
+    returns! {
+        solutions(6u8, 4, 10) => Some((4, 5));
+        solutions(0u8, 1, 5) => None;
+        solutions(5u8, 0, 1) => Some((0, 1));
+        solutions(200u8, 40, 240) => Some((5, 6));
+        solutions(6i8, 3, 10) => None;
+        solutions(-3i8, 2, 7) => Some((4, 7));
+        solutions(0i8, 0, 5) => Some((0, 1));
+        solutions(6000000000000000002u64, 4, 10000000000000000000)
+            => Some((4000000000000000002, 5000000000000000000));
+        chinese_remainder((1i64, 4).into(), (3, 6).into()) => Some((9, 12).into());
+        chinese_remainder((1i64, 4).into(), (2, 6).into()) => None;
+        chinese_remainder((2i64, 3).into(), (3, 5).into()) => Some((8, 15).into());
+        chinese_remainder((-1i64, 4).into(), (5, 9).into()) => Some((23, 36).into());
+        chinese_remainder((7i64, 1).into(), (3, 1).into()) => Some((0, 1).into());
+        chinese_remainder((3i64, 100).into(), (53, 120).into()) => None;
+        chinese_remainder((5i64, 6).into(), (1, 4).into()) => Some((5, 12).into());
+        chinese_remainder((100i64, 200).into(), (20, 80).into()) => Some((100, 400).into());
+        chinese_remainder((i64::MIN, i64::MAX).into(), (-1, 1).into())
+            => Some((i64::MAX - 1, i64::MAX).into());
+        chinese_remainder((5u64, 4294967291).into(), (7, 4294967279).into())
+            => Some((3074457330585873085, 18446743979220271189).into());
+        next_congruent(10i64, 1, 4) => Some(13);
+        next_congruent(-10i64, 1, 4) => Some(-7);
+        next_congruent(13i64, 1, 4) => Some(13);
+        next_congruent(i64::MAX, i64::MAX, 5) => Some(i64::MAX);
+        next_congruent(i64::MIN, i64::MAX, i64::MAX) => Some(i64::MIN + 1);
+        next_congruent(i64::MAX, 0, 2) => None;
+        next_congruent(i64::MAX - 1, 0, 2) => Some(i64::MAX - 1);
+        next_congruent(120i8, 1, 9) => Some(127);
+        next_congruent(120i8, 2, 9) => None;
+        previous_congruent(10i64, 1, 4) => Some(9);
+        previous_congruent(-10i64, 1, 4) => Some(-11);
+        previous_congruent(9i64, 1, 4) => Some(9);
+        previous_congruent(i64::MIN, i64::MIN, 5) => Some(i64::MIN);
+        previous_congruent(i64::MAX, i64::MIN, i64::MAX) => Some(i64::MAX - 1);
+        previous_congruent(i64::MIN, 1, 2) => None;
+        previous_congruent(i64::MIN + 1, 1, 2) => Some(i64::MIN + 1);
+        previous_congruent(3u8, 4, 9) => None;
+        previous_congruent(4u8, 4, 9) => Some(4);
+        count_congruent(-128i8, 127, 0, 2) => None;
+        count_congruent(-128i8, 127, 0, 3) => Some(85);
+        count_congruent(-127i8, 127, 0, 2) => Some(127);
+        count_congruent(-127i8, 127, 1, 2) => None;
+        count_congruent(1i8, 10, 1, 4) => Some(3);
+        count_congruent(1i8, 0, 0, 1) => Some(0);
+        count_congruent(127i8, -128, 0, 1) => Some(0);
+        count_congruent(127i8, 127, 1, 2) => Some(1);
+        count_congruent(127i8, 127, 0, 2) => Some(0);
+        count_congruent(-128i8, -128, -128, 127) => Some(1);
+        count_congruent(0u64, u64::MAX, 0, 1) => None;
+        count_congruent(1u64, u64::MAX, 0, 1) => Some(u64::MAX);
+        count_congruent(i64::MIN, i64::MAX, 0, 2) => None;
+        count_congruent(i64::MIN, i64::MAX, 0, 3) => Some(6148914691236517205);
+        count_congruent(i128::MIN, i128::MAX, 0, i128::MAX) => Some(3);
+    }
 }
 
 #[test]
 fn next_common_solutions() {
-    assert_eq!(
-        next_common_solution(10i8, (1, 4).into(), (3, 6).into()),
-        At(21)
-    );
-    assert_eq!(
-        next_common_solution(21i8, (1, 4).into(), (3, 6).into()),
-        At(21)
-    );
-    assert_eq!(
-        next_common_solution(-20i8, (1, 4).into(), (3, 6).into()),
-        At(-15)
-    );
-    assert_eq!(
-        next_common_solution(10i8, (1, 4).into(), (2, 6).into()),
-        Never
-    );
-    assert_eq!(
-        next_common_solution(118i8, (1, 4).into(), (3, 6).into()),
-        Beyond
-    );
-    assert_eq!(
-        next_common_solution(-128i8, (5, 10).into(), (0, 13).into()),
-        At(-65)
-    );
-    assert_eq!(
-        next_common_solution(-64i8, (5, 10).into(), (0, 13).into()),
-        At(65)
-    );
-    assert_eq!(
-        next_common_solution(66i8, (5, 10).into(), (0, 13).into()),
-        Beyond
-    );
-    assert_eq!(
-        next_common_solution(-128i8, (2, 10).into(), (2, 13).into()),
-        At(-128)
-    );
-    assert_eq!(
-        next_common_solution(-127i8, (2, 10).into(), (2, 13).into()),
-        At(2)
-    );
-    assert_eq!(
-        next_common_solution(-128i8, (7, 127).into(), (7, 126).into()),
-        At(7)
-    );
-    assert_eq!(
-        next_common_solution(127i8, (0, 1).into(), (-1, 1).into()),
-        At(127)
-    );
-    assert_eq!(
-        next_common_solution(0u128, (5, u128::MAX).into(), (5, u128::MAX - 1).into()),
-        At(5)
-    );
-    assert_eq!(
-        next_common_solution(6u128, (5, u128::MAX).into(), (5, u128::MAX - 1).into()),
-        Beyond
-    );
+    returns! {
+        next_common_solution(10i8, (1, 4).into(), (3, 6).into()) => At(21);
+        next_common_solution(21i8, (1, 4).into(), (3, 6).into()) => At(21);
+        next_common_solution(-20i8, (1, 4).into(), (3, 6).into()) => At(-15);
+        next_common_solution(10i8, (1, 4).into(), (2, 6).into()) => Never;
+        next_common_solution(118i8, (1, 4).into(), (3, 6).into()) => Beyond;
+        next_common_solution(-128i8, (5, 10).into(), (0, 13).into()) => At(-65);
+        next_common_solution(-64i8, (5, 10).into(), (0, 13).into()) => At(65);
+        next_common_solution(66i8, (5, 10).into(), (0, 13).into()) => Beyond;
+        next_common_solution(-128i8, (2, 10).into(), (2, 13).into()) => At(-128);
+        next_common_solution(-127i8, (2, 10).into(), (2, 13).into()) => At(2);
+        next_common_solution(-128i8, (7, 127).into(), (7, 126).into()) => At(7);
+        next_common_solution(127i8, (0, 1).into(), (-1, 1).into()) => At(127);
+        next_common_solution(0u128, (5, u128::MAX).into(), (5, u128::MAX - 1).into()) => At(5);
+        next_common_solution(6u128, (5, u128::MAX).into(), (5, u128::MAX - 1).into()) => Beyond;
+    }
 }
 
 #[test]
 fn pages_parts_offsets_and_middles() {
-    assert_eq!(pages(10i64, 4), 3);
-    assert_eq!(place_of(10i64, 4), (2, 2));
-    assert_eq!(pages(8i64, 4), 2);
-    assert_eq!(place_of(8i64, 4), (2, 0));
-    assert_eq!(pages(0i64, 4), 0);
-    assert_eq!(place_of(0i64, 4), (0, 0));
-    assert_eq!(pages(i64::MAX, 2), 4611686018427387904);
-    assert_eq!(place_of(i64::MAX, 2), (4611686018427387903, 1));
-    assert_eq!(pages(-3i64, 2), -1);
-    assert_eq!(place_of(-3i64, 2), (-2, 1));
-    assert_eq!(pages(-1i64, 4), 0);
-    assert_eq!(place_of(-1i64, 4), (-1, 3));
-    assert_eq!(pages(-9i64, 4), -2);
-    assert_eq!(place_of(-9i64, 4), (-3, 3));
-    assert_eq!(pages(10u8, 4), 3);
-    assert_eq!(align_up(13i64, 8), Some(16));
-    assert_eq!(padding(13i64, 8), 3);
-    assert_eq!(align_up(-13i64, 8), Some(-8));
-    assert_eq!(padding(-13i64, 8), 5);
-    assert_eq!(align_up(16i64, 8), Some(16));
-    assert_eq!(padding(16i64, 8), 0);
-    assert_eq!(align_up(i64::MIN, 8), Some(i64::MIN));
-    assert_eq!(padding(i64::MIN, 8), 0);
-    assert_eq!(align_up(i64::MAX, 16), None);
-    assert_eq!(padding(i64::MAX, 16), 1);
-    assert_eq!(align_up(0i64, 1), Some(0));
-    assert_eq!(padding(0i64, 1), 0);
-    assert_eq!(align_up(250u8, 8), None);
-    assert_eq!(padding(u64::MAX, 8), 1);
-    assert_eq!(midpoint(2i64, 5), 3);
-    assert_eq!(midpoint(5i64, 2), 3);
-    assert_eq!(midpoint(-5i64, -2), -4);
-    assert_eq!(midpoint(-2i64, -5), -4);
-    assert_eq!(midpoint(i64::MAX - 1, i64::MAX), i64::MAX - 1);
-    assert_eq!(midpoint(i64::MAX, i64::MAX - 1), i64::MAX - 1);
-    assert_eq!(midpoint(i64::MIN, i64::MAX), -1);
-    assert_eq!(midpoint(i64::MAX, i64::MIN), -1);
-    assert_eq!(midpoint(7i64, 7), 7);
-    assert_eq!(midpoint(7u8, 7), 7);
-    assert_eq!(midpoint(u8::MAX - 1, u8::MAX), u8::MAX - 1);
-    assert_eq!(midpoint(-1i8, 0), -1);
-    assert_eq!(range_of_page(25u8, 10, u8::MAX), (250, u8::MAX));
-    assert_eq!(range_of_page(u8::MAX, 1, u8::MAX), (u8::MAX, u8::MAX));
-    assert_eq!(range_of_page(6553u16, 10, u16::MAX), (65530, u16::MAX));
-    assert_eq!(
-        range_of_page(429496729u32, 10, u32::MAX),
-        (4294967290, u32::MAX)
-    );
-    assert_eq!(
-        range_of_page(1844674407370955161u64, 10, u64::MAX),
-        (18446744073709551610, u64::MAX)
-    );
-    assert_eq!(
-        range_of_page(1844674407370955162u64, 10, u64::MAX),
-        (u64::MAX, u64::MAX)
-    );
-    assert_eq!(
-        range_of_page(u64::MAX, u64::MAX, u64::MAX),
-        (u64::MAX, u64::MAX)
-    );
-    assert_eq!(range_of_page(0u64, u64::MAX, u64::MAX), (0, u64::MAX));
-    assert_eq!(
-        range_of_page(1usize, usize::MAX, usize::MAX),
-        (usize::MAX, usize::MAX)
-    );
-    assert_eq!(range_of_page(0usize, 4, 10), (0, 4));
-    assert_eq!(range_of_page(2usize, 4, 10), (8, 10));
-    assert_eq!(range_of_page(3usize, 4, 10), (10, 10));
-    assert_eq!(range_of_page(usize::MAX, 4, 10), (10, 10));
-    assert_eq!(range_of_page(12i8, 10, 127), (120, 127));
-    assert_eq!(range_of_page(-128i8, 127, 127), (127, 127));
-    assert_eq!(range_of_page(3276i16, 10, i16::MAX), (32760, i16::MAX));
-    assert_eq!(
-        range_of_page(1i32, i32::MAX, i32::MAX),
-        (i32::MAX, i32::MAX)
-    );
-    assert_eq!(range_of_page(0i64, i64::MAX, i64::MAX), (0, i64::MAX));
-    assert_eq!(range_of_page(i64::MIN, 1, i64::MAX), (i64::MAX, i64::MAX));
-    assert_eq!(
-        range_of_page(1i128, i128::MAX - 1, i128::MAX),
-        (i128::MAX - 1, i128::MAX)
-    );
-    assert_eq!(range_of_page(-1isize, 1, 0), (0, 0));
-    assert_eq!(range_of_part(1u8, 2, u8::MAX), (128, u8::MAX));
-    assert_eq!(
-        range_of_part(u8::MAX - 2, u8::MAX - 1, u8::MAX),
-        (u8::MAX - 1, u8::MAX)
-    );
-    assert_eq!(range_of_part(0u16, 1, u16::MAX), (0, u16::MAX));
-    assert_eq!(range_of_part(2u32, 4, u32::MAX), (2147483648, 3221225472));
-    assert_eq!(
-        range_of_part(u64::MAX - 1, u64::MAX, u64::MAX),
-        (u64::MAX - 1, u64::MAX)
-    );
-    assert_eq!(range_of_part(u64::MAX - 1, u64::MAX, 1), (1, 1));
-    assert_eq!(
-        range_of_part(6u64, 7, u64::MAX),
-        (15811494920322472813, u64::MAX)
-    );
-    assert_eq!(range_of_part(0usize, usize::MAX, 0), (0, 0));
-    assert_eq!(range_of_part(1i8, 2, 127), (64, 127));
-    assert_eq!(range_of_part(2i16, 3, i16::MAX), (21845, i16::MAX));
-    assert_eq!(range_of_part(0i32, i32::MAX, i32::MAX), (0, 1));
-    assert_eq!(
-        range_of_part(1i64, 2, i64::MAX),
-        (4611686018427387904, i64::MAX)
-    );
-    assert_eq!(range_of_part(0i128, 1, i128::MAX), (0, i128::MAX));
-    assert_eq!(range_of_part(0isize, 1, 0), (0, 0));
-    assert_eq!(
-        range_of_page(1u128, u128::MAX - 1, u128::MAX),
-        (u128::MAX - 1, u128::MAX)
-    );
-    assert_eq!(
-        range_of_part(0u128, 2, u128::MAX),
-        (0, 170141183460469231731687303715884105728)
-    );
+    returns! {
+        pages(10i64, 4) => 3;
+        place_of(10i64, 4) => (2, 2);
+        pages(8i64, 4) => 2;
+        place_of(8i64, 4) => (2, 0);
+        pages(0i64, 4) => 0;
+        place_of(0i64, 4) => (0, 0);
+        pages(i64::MAX, 2) => 4611686018427387904;
+        place_of(i64::MAX, 2) => (4611686018427387903, 1);
+        pages(-3i64, 2) => -1;
+        place_of(-3i64, 2) => (-2, 1);
+        pages(-1i64, 4) => 0;
+        place_of(-1i64, 4) => (-1, 3);
+        pages(-9i64, 4) => -2;
+        place_of(-9i64, 4) => (-3, 3);
+        pages(10u8, 4) => 3;
+        align_up(13i64, 8) => Some(16);
+        padding(13i64, 8) => 3;
+        align_up(-13i64, 8) => Some(-8);
+        padding(-13i64, 8) => 5;
+        align_up(16i64, 8) => Some(16);
+        padding(16i64, 8) => 0;
+        align_up(i64::MIN, 8) => Some(i64::MIN);
+        padding(i64::MIN, 8) => 0;
+        align_up(i64::MAX, 16) => None;
+        padding(i64::MAX, 16) => 1;
+        align_up(0i64, 1) => Some(0);
+        padding(0i64, 1) => 0;
+        align_up(250u8, 8) => None;
+        padding(u64::MAX, 8) => 1;
+        midpoint(2i64, 5) => 3;
+        midpoint(5i64, 2) => 3;
+        midpoint(-5i64, -2) => -4;
+        midpoint(-2i64, -5) => -4;
+        midpoint(i64::MAX - 1, i64::MAX) => i64::MAX - 1;
+        midpoint(i64::MAX, i64::MAX - 1) => i64::MAX - 1;
+        midpoint(i64::MIN, i64::MAX) => -1;
+        midpoint(i64::MAX, i64::MIN) => -1;
+        midpoint(7i64, 7) => 7;
+        midpoint(7u8, 7) => 7;
+        midpoint(u8::MAX - 1, u8::MAX) => u8::MAX - 1;
+        midpoint(-1i8, 0) => -1;
+        range_of_page(25u8, 10, u8::MAX) => (250, u8::MAX);
+        range_of_page(u8::MAX, 1, u8::MAX) => (u8::MAX, u8::MAX);
+        range_of_page(6553u16, 10, u16::MAX) => (65530, u16::MAX);
+        range_of_page(429496729u32, 10, u32::MAX) => (4294967290, u32::MAX);
+        range_of_page(1844674407370955161u64, 10, u64::MAX) => (18446744073709551610, u64::MAX);
+        range_of_page(1844674407370955162u64, 10, u64::MAX) => (u64::MAX, u64::MAX);
+        range_of_page(u64::MAX, u64::MAX, u64::MAX) => (u64::MAX, u64::MAX);
+        range_of_page(0u64, u64::MAX, u64::MAX) => (0, u64::MAX);
+        range_of_page(1usize, usize::MAX, usize::MAX) => (usize::MAX, usize::MAX);
+        range_of_page(0usize, 4, 10) => (0, 4);
+        range_of_page(2usize, 4, 10) => (8, 10);
+        range_of_page(3usize, 4, 10) => (10, 10);
+        range_of_page(usize::MAX, 4, 10) => (10, 10);
+        range_of_page(12i8, 10, 127) => (120, 127);
+        range_of_page(-128i8, 127, 127) => (127, 127);
+        range_of_page(3276i16, 10, i16::MAX) => (32760, i16::MAX);
+        range_of_page(1i32, i32::MAX, i32::MAX) => (i32::MAX, i32::MAX);
+        range_of_page(0i64, i64::MAX, i64::MAX) => (0, i64::MAX);
+        range_of_page(i64::MIN, 1, i64::MAX) => (i64::MAX, i64::MAX);
+        range_of_page(1i128, i128::MAX - 1, i128::MAX) => (i128::MAX - 1, i128::MAX);
+        range_of_page(-1isize, 1, 0) => (0, 0);
+        range_of_part(1u8, 2, u8::MAX) => (128, u8::MAX);
+        range_of_part(u8::MAX - 2, u8::MAX - 1, u8::MAX) => (u8::MAX - 1, u8::MAX);
+        range_of_part(0u16, 1, u16::MAX) => (0, u16::MAX);
+        range_of_part(2u32, 4, u32::MAX) => (2147483648, 3221225472);
+        range_of_part(u64::MAX - 1, u64::MAX, u64::MAX) => (u64::MAX - 1, u64::MAX);
+        range_of_part(u64::MAX - 1, u64::MAX, 1) => (1, 1);
+        range_of_part(6u64, 7, u64::MAX) => (15811494920322472813, u64::MAX);
+        range_of_part(0usize, usize::MAX, 0) => (0, 0);
+        range_of_part(1i8, 2, 127) => (64, 127);
+        range_of_part(2i16, 3, i16::MAX) => (21845, i16::MAX);
+        range_of_part(0i32, i32::MAX, i32::MAX) => (0, 1);
+        range_of_part(1i64, 2, i64::MAX) => (4611686018427387904, i64::MAX);
+        range_of_part(0i128, 1, i128::MAX) => (0, i128::MAX);
+        range_of_part(0isize, 1, 0) => (0, 0);
+        range_of_page(1u128, u128::MAX - 1, u128::MAX) => (u128::MAX - 1, u128::MAX);
+        range_of_part(0u128, 2, u128::MAX) => (0, 170141183460469231731687303715884105728);
+    }
 }
 
 #[test]
@@ -468,27 +360,17 @@ fn next_common_solutions_of_several() {
     );
     // No type has the common multiple of these moduli.
     let (m, n, k) = (u128::MAX, u128::MAX - 1, u128::MAX - 2);
-    assert_eq!(
-        next_common_solution_of(0, &[(5, m).into(), (5, n).into(), (5, k).into()]),
-        At(5)
-    );
-    assert_eq!(
-        next_common_solution_of(6, &[(5, m).into(), (5, n).into(), (5, k).into()]),
-        Beyond
-    );
-    assert_eq!(
-        next_common_solution_of(0, &[(5, m).into(), (5, n).into(), (4, n).into()]),
-        Never
-    );
+    returns! {
+        next_common_solution_of(0, &[(5, m).into(), (5, n).into(), (5, k).into()]) => At(5);
+        next_common_solution_of(6, &[(5, m).into(), (5, n).into(), (5, k).into()]) => Beyond;
+        next_common_solution_of(0, &[(5, m).into(), (5, n).into(), (4, n).into()]) => Never;
+    }
     let (least, m) = (i64::MIN, i64::MAX);
-    assert_eq!(
-        next_common_solution_of(least, &[(-1, m).into(), (-1, m - 1).into(), (-1, 7).into()]),
-        At(-1)
-    );
-    assert_eq!(
-        next_common_solution_of(least, &[(0, m).into(), (-1, m - 1).into()]),
-        At(-m)
-    );
+    returns! {
+        next_common_solution_of(least, &[(-1, m).into(), (-1, m - 1).into(), (-1, 7).into()])
+            => At(-1);
+        next_common_solution_of(least, &[(0, m).into(), (-1, m - 1).into()]) => At(-m);
+    }
 }
 
 macro_rules! residues_at_the_ends {

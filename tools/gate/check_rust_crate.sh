@@ -52,7 +52,7 @@ own_type() {
     printf '[package]\nname = "own"\nedition = "2021"\n[dependencies]\ncellarcove = { path = "../rust" }\n' \
         >"$work/own/Cargo.toml"
     touch "$work/own/src/lib.rs"
-    cp rust/tests/boxed_type.rs "$work/own/tests"
+    cp -r rust/tests/boxed_type.rs rust/tests/common "$work/own/tests"
     at own cargo test --test boxed_type
 }
 
@@ -119,9 +119,9 @@ check_dependents() {
     echo "the packages above took $((SECONDS - begin)) seconds"
 }
 
-# The lines of a list: type, call, number of inputs and checksum.
+# The lines of a list: call, and at each type the number of inputs and the checksum.
 sums() {
-    grep -oE '^ +[IU][a-z0-9]+:$|[A-Z][A-Za-z]+( [0-9]+){3}' "$1" | awk '/:/ { type = $1; next } { print type, $1, $2 + $3, $4 }'
+    grep -oE '[A-Z][A-Za-z]+:|[0-9]+ [0-9]+ [0-9]+' "$1" | awk '/:/ { call = $1; next } { print call, $1 + $2, $3 }'
 }
 
 checksums() {

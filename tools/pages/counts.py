@@ -56,8 +56,10 @@ def texts(pattern: str) -> str:
 def in_files() -> dict[str, int]:
     """The counts of the repository."""
     tests = ROOT / 'crates/replay/src/tests'
-    of_rust = re.findall(r'\b[A-Z]\w+ (\d+) (\d+) \d+[,;]', (tests / 'list.rt').read_text())
-    of_python = re.findall(r'\b[A-Z]\w+ (\d+) \d+[,;]|Answered\((\d+),',
+    of_rust = re.findall(r'\b(\d+) (\d+) \d+[,;]', (tests / 'list.rt').read_text())
+    # at 64 bits also of the type of the size of a pointer
+    of_rust += [*of_rust[3::10], *of_rust[8::10]]
+    of_python = re.findall(r'\b(\d+) \d+[,;]|Answered\((\d+),',
                            (tests / 'libraries.rt').read_text())
     coq = re.findall(r'Of (\d+) definitions .*?reaches, (\d+) have', texts('docs/COQ.md'), re.S)
     return {

@@ -126,7 +126,7 @@ pub same_of_sign : {amount : ℤ} {shares other : List ℤ} → HaveSignOf amoun
 same_of_sign {amount} {shares} {other} h k same =
     let size : length other ≡ length shares = sym (length-map other unsigned_abs) ∙ ap length same ∙ length-map shares unsigned_abs in
     ext_get_or (pos 0) other shares size (λ i within.
-      let magnitude : unsigned_abs (get_or other i (pos 0)) ≡ unsigned_abs (get_or shares i (pos 0)) =
-        sym (get_or-map unsigned_abs other i (pos 0) 0 within) ∙ ap (λ (xs : List ℕ). get_or xs i 0) same ∙ get_or-map unsigned_abs shares i (pos 0) 0 (omega arith) in
-      by_lt_z amount (pos 0) (λ less. omega (ints, magnitude, k.1 (omega ints) i (pos 0) within, h.1 (omega ints) i (pos 0) (omega arith)))
-        (λ rest. omega (ints, magnitude, k.0 rest i (pos 0) within, h.0 rest i (pos 0) (omega arith))))
+    let magnitude : unsigned_abs (get_or other i (pos 0)) ≡ unsigned_abs (get_or shares i (pos 0)) =
+    sym (get_or-map unsigned_abs other i (pos 0) 0 within) ∙ ap (λ (xs : List ℕ). get_or xs i 0) same ∙ get_or-map unsigned_abs shares i (pos 0) 0 (omega arith) in
+    by_lt_z amount (pos 0) (λ less. omega (ints, magnitude, k.1 (omega ints) i (pos 0) within, h.1 (omega ints) i (pos 0) (omega arith)))
+    (λ rest. omega (ints, magnitude, k.0 rest i (pos 0) within, h.0 rest i (pos 0) (omega arith))))

@@ -1,2 +1,2 @@
-pub mod Common
-pub mod Words
+mod Computed
+mod Forms

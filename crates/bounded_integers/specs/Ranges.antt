@@ -1,10 +1,11 @@
 -- The ranges of bounded integers, and lemmas that prove the laws of their types.
-use Rattle.std.specs.Prelude.{◌≡◌, ◌≢◌, ◌⊎◌, ◌^◌, ◌≤◌, ◌<◌, ◌≤ℤ◌, ◌<ℤ◌, ◌-ℤ◌, ℕ, ℤ, pos, neg_ℤ}
+use Rattle.std.specs.Prelude.{◌≡◌, ◌⊎◌, ◌^◌, ◌≤◌, ◌<◌, ◌≤ℤ◌, ◌<ℤ◌, ◌-ℤ◌, ℕ, ℤ, pos, neg_ℤ, FitsSigned}
 use Rattle.std.proofs.Common.{arith, inl, inr, refl}
 use Rattle.std.proofs.lemmas.Int.{ints}
-use Rattle.num_integer.specs.Between.{Between, between_range, positive_divisor_law, sub_fits_law}
+use Rattle.std.specs.Int.{w64}
+use Rattle.num_integer.specs.Between.{Between, between_range}
 use Rattle.num_integer.specs.Range.{IsRange}
-use Rattle.num_traits.specs.Laws.{CanDivideIn}
+use Rattle.num_integer.specs.RootOf.{IsWithin64Bits}
 
 -- A type of bounded integers may have this range: low is 0, -high or -high - 1, and above the smallest `i64`; high is positive and fits an `i64`.
 -- Examples: 0 to 100; -7 to 7; -8 to 7; not 1 to 12; not -7 to 100.
@@ -48,11 +49,14 @@ zero_inside range = (low_below range, omega (arith, ints, range.positive))
 pub one_inside : {low high : ℤ} → IsBoundedRange low high → Between low high (pos 1)
 one_inside range = (omega (arith, ints, low_below range), range.positive)
 
--- a number of the range minus a number from 0 to itself is in the range
-pub sub_inside : {low high x y : ℤ} → IsBoundedRange low high → Between low high x → pos 0 ≤ℤ y → y ≤ℤ x → Between low high (x -ℤ y)
-sub_inside {low} {high} {x} {y} range = sub_fits_law low high x y (low_below range)
+-- 64 bits hold its ends, and the smallest number with the other sign
+pub ends_fit : {low high : ℤ} → IsBoundedRange low high → FitsSigned w64 low × FitsSigned w64 high × FitsSigned w64 (neg_ℤ low)
+ends_fit range = (omega (arith, ints, range.above, low_below range), omega (arith, ints, range.below, range.positive), omega (arith, ints, range.above, low_below range))
 
--- a number of the range may be divided by a positive one of it
-pub positive_divisor_inside : {low high x y : ℤ} → IsBoundedRange low high → Between low high x → Between low high y → pos 0 <ℤ y
-    → CanDivideIn (Between low high) (λ z. z ≢ pos 0) x y
-positive_divisor_inside {low} {high} {x} {y} range = positive_divisor_law low high x y (low_below range) (omega (arith, ints, range.positive))
+-- a range that a type of at most 64 bits holds has at most 64 bits
+pub within_width : {fits : ℤ → Type 0} {low high least most : ℤ} → IsRange fits least most → fits low × fits high × fits (neg_ℤ low)
+    → IsWithin64Bits least most → IsWithin64Bits low high
+within_width {low = low} {high = high} native ends width =
+    let from = (native.between low).0 ends.0 in
+    let to = (native.between high).0 ends.1 in
+    grind (arith, ints, from, to, width)

@@ -1,16 +1,11 @@
-//! A range, and an integer of it.
+//! A range, and the form of its integers.
 
-ghost use Rattle.std.specs.Prelude.{◌≡◌, ℤ, neg_ℤ, MatchResult};
-ghost use Rattle.std.specs.Cmp.{partial_order_from_own_ties};
-ghost use Rattle.std.specs.Cmp.Rules.{comparing};
-ghost use Rattle.std.specs.Ordering.{int_cmp, int_eq, on, as_partial_cmp};
+ghost use Rattle.std.specs.Prelude.{◌≡◌, ℤ, neg_ℤ, pos, refl, MatchResult};
 ghost use Rattle.std.proofs.Common.{rules};
 ghost use Rattle.num_integer.specs.Between.{Between};
-ghost use Rattle.bounded_integers.specs.Ranges.{IsBoundedRange};
+ghost use Rattle.bounded_integers.specs.Ranges.{IsBoundedRange, ends_fit, one_inside, range_of, zero_inside};
 
-use crate::BoundedError;
-use num_integer::guards::check;
-use std::cmp::Ordering;
+use crate::{BoundedError, Form, Own, SignedForm};
 use std::marker::PhantomData;
 
 /// The range of a type of [`Bounded`]: its smallest and its largest number. There are three shapes: from 0 to `HIGH`, from `-HIGH`
@@ -75,110 +70,96 @@ pub trait SignedRange: Range {
     ghost sign_law: { Self.LOW ≡ neg_ℤ Self.HIGH };
 }
 
-/// An integer of the range `R`. An operator gives the integer that it gives on integers, and requires that it is in
-/// range. `Percent::new(100) - Percent::new(1)` is `Percent::new(99)`.
-pub struct Bounded<R: Range> {
+/// An integer of the range `R`, stored as an `i64`: the form of [`Bounded`]. `<Ranged<PercentRange> as Form>::bounds()` is `(0, 100)`.
+pub struct Ranged<R: Range> {
     pub number: i64,
-    pub(crate) range: PhantomData<R>,
+    range: PhantomData<R>,
     ghost in_range: { Between R.LOW R.HIGH number },
 }
 
+/// An integer of the range `R`, which the type has by its name. An operator gives the integer that it gives on integers, and
+/// requires that it is in range. `Percent::new(100) - Percent::new(1)` is `Percent::new(99)`.
+pub type Bounded<R> = Own<Ranged<R>>;
+
 /// Marks an integer with its range, which has one of the three shapes by its law. In plain Rust, it doesn't compile at a range of
 /// another shape.
-pub(crate) fn lawful<R: Range>() -> PhantomData<R> {
+fn lawful<R: Range>() -> PhantomData<R> {
     PhantomData
 }
 
-impl<R: Range> Bounded<R> {
-    /// Returns the integer. `Percent::try_from` tests it. `Percent::new(7).to_string()` is `"7"`.
-    ///
-    /// # Panics
-    ///
-    /// In plain Rust, if the number is out of range.
-    pub fn new(number: i64) -> Self
-        requires in_range { Between R.LOW R.HIGH number }
-        ensures { result.number ≡ number }
-    {
-        check(
-            R::LOW <= number && number <= R::HIGH,
-            "the number is out of range",
-        );
-        Bounded {
-            number,
-            range: lawful(),
-        }
-    }
-
-    /// Returns the number. `Percent::new(7).number()` is `7`.
-    pub fn number(&self) -> i64
-        ensures value { result ≡ self.now.number }
-        ensures in_range { Between R.LOW R.HIGH result }
-    {
-        self.number
-    }
-}
-
-/// `Percent::try_from(7)` is `Ok(Percent::new(7))`, and `Percent::try_from(101)` is `Err(BoundedError)`.
-impl<R: Range> TryFrom<i64> for Bounded<R> {
-    type Error = BoundedError;
-
-    ghost try_from_gives = { λ number result.
-        MatchResult result (λ x. x.number ≡ number) (λ _. ¬ (Between R.LOW R.HIGH number)) };
-
-    fn try_from(number: i64) -> Result<Self, BoundedError> {
-        if R::LOW <= number && number <= R::HIGH {
-            Ok(Bounded {
-                number,
-                range: lawful(),
-            })
-        } else {
-            Err(BoundedError)
-        }
-    }
-}
-
-impl<R: Range> Clone for Bounded<R> {
+impl<R: Range> Clone for Ranged<R> {
     fn clone(&self) -> Result<Self, std::alloc::AllocError> {
         Ok(*self)
     }
 }
 
-impl<R: Range> Copy for Bounded<R> {}
+impl<R: Range> Copy for Ranged<R> {}
 
-impl<R: Range> PartialEq for Bounded<R> {
-    ghost eq = { on (λ x. x.number) int_eq };
+impl<R: Range> Form for Ranged<R> {
+    type Number = i64;
 
-    ghost laws = { Prim.search (comparing, rules) };
+    ghost low = { R.LOW };
 
-    fn eq(&self, other: &Self) -> bool {
-        self.number == other.number
+    ghost high = { R.HIGH };
+
+    ghost meaning = { λ x. x.number };
+
+    ghost zero = { record { number = pos 0; range = record {}; in_range = zero_inside R.range_law } };
+
+    ghost one = { record { number = pos 1; range = record {}; in_range = one_inside R.range_law } };
+
+    fn stored_zero() -> Ranged<R> {
+        Ranged {
+            number: 0,
+            range: lawful(),
+        }
     }
-}
 
-impl<R: Range> Eq for Bounded<R> {
-    ghost laws = { Prim.search (comparing, rules) };
-}
-
-impl<R: Range> Ord for Bounded<R> {
-    ghost cmp = { on (λ x. x.number) int_cmp };
-
-    ghost total = { Prim.search (comparing, rules) };
-
-    ghost matches_partial_cmp = { Prim.search (comparing, rules) };
-
-    ghost matches_eq = { Prim.search (comparing, rules) };
-
-    fn cmp(&self, other: &Self) -> Ordering {
-        self.number.cmp(&other.number)
+    fn stored_one() -> Ranged<R> {
+        Ranged {
+            number: 1,
+            range: lawful(),
+        }
     }
+
+    fn to_number(&self) -> i64 {
+        self.number
+    }
+
+    fn store(number: i64) -> Ranged<R> {
+        Ranged {
+            number,
+            range: lawful(),
+        }
+    }
+
+    fn bounds() -> (i64, i64) {
+        (R::LOW, R::HIGH)
+    }
+
+    ghost zero_law = { refl };
+
+    ghost one_law = { refl };
+
+    ghost number_law = { Prim.search rules };
+
+    ghost form_law = { range_of R.range_law };
+
+    ghost ends_law = { ends_fit R.range_law };
 }
 
-impl<R: Range> PartialOrd for Bounded<R> {
-    ghost partial_cmp = { as_partial_cmp (on (λ x. x.number) int_cmp) };
+impl<R: SignedRange> SignedForm for Ranged<R> {
+    ghost sign_law = { R.sign_law };
+}
 
-    ghost laws = { partial_order_from_own_ties (Prim.search (comparing, rules)) (Prim.search (comparing, rules)) };
+/// `Percent::try_from(7)` is `Ok(Percent::new(7))`, and `Percent::try_from(101)` is `Err(BoundedError)`.
+impl<R: Range> TryFrom<i64> for Own<Ranged<R>> {
+    type Error = BoundedError;
 
-    fn partial_cmp(&self, other: &Self) -> Option<Ordering> {
-        Some(self.cmp(other))
+    ghost try_from_gives = { λ number result.
+        MatchResult result (λ x. x.form.number ≡ number) (λ _. ¬ (Between R.LOW R.HIGH number)) };
+
+    fn try_from(number: i64) -> Result<Self, BoundedError> {
+        Own::try_new(number)
     }
 }

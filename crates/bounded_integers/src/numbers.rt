@@ -1,70 +1,67 @@
 //! The traits of `num_traits`.
 
 ghost use Rattle.std.specs.Prelude.{◌≢◌, ⊤, pos, refl, IsErr};
-ghost use Rattle.num_integer.specs.Between.{Between, between_law};
-ghost use Rattle.num_traits.specs.Ints.{signed-eq};
-ghost use Rattle.bounded_integers.specs.Ranges.{one_inside, positive_divisor_inside, sub_inside, zero_inside};
+ghost use Rattle.std.proofs.Common.{rules};
+ghost use Rattle.num_integer.proofs.ForCallers.{zero_fits};
+ghost use Rattle.num_integer.specs.Between.{Between, between_law, positive_divisor_law, sub_fits_law};
 
-use crate::bounded::lawful;
-use crate::{Bounded, Range, SignedRange};
+use crate::{Form, Own, SignedForm};
 use num_traits::{Num, Number, One, Signed, Zero};
 
-impl<R: Range> Number for Bounded<R> {
+impl<F: Form> Number for Own<F> {
     ghost exact = { ⊤ };
 
-    ghost value = { λ x. x.number };
+    ghost value = { λ x. F.meaning x.form };
 
-    ghost fits = { Between R.LOW R.HIGH };
+    ghost fits = { Between F.low F.high };
 
     ghost nonzero = { λ z. z ≢ pos 0 };
 
     ghost wrap = { λ z. z };
 
-    ghost eq_law = { λ a b _. signed-eq a.number b.number };
+    ghost eq_law = { Prim.search rules };
 
     ghost order_law = { λ a b _. refl };
 
-    ghost between_law = { λ x y z _. between_law R.LOW R.HIGH x y z };
+    ghost between_law = { λ x y z _. between_law F.low F.high x y z };
 
     ghost nonzero_law = { λ x _ f. (λ h. h, λ h. h) };
 }
 
-impl<R: Range> Zero for Bounded<R> {
-    ghost zero = { record { number = pos 0; range = record {}; in_range = zero_inside R.range_law } };
+impl<F: Form> Zero for Own<F> {
+    ghost zero = { record { form = F.zero } };
 
-    fn zero() -> Bounded<R> {
-        Bounded {
-            number: 0,
-            range: lawful(),
+    fn zero() -> Own<F> {
+        Own {
+            form: F::stored_zero(),
         }
     }
 
     fn is_zero(&self) -> bool {
-        self.number == 0
+        *self == Own::zero()
     }
 
-    ghost zero_law = { λ _. refl };
+    ghost zero_law = { λ _. F.zero_law };
 
-    ghost zero_fits_law = { λ _. zero_inside R.range_law };
+    ghost zero_fits_law = { Prim.search rules };
 
     ghost can_add_law = { λ a b h. h tt };
 
     ghost add_law = { λ a b r h _ _. h };
 }
 
-impl<R: Range> One for Bounded<R> {
-    ghost one = { record { number = pos 1; range = record {}; in_range = one_inside R.range_law } };
+impl<F: Form> One for Own<F> {
+    ghost one = { record { form = F.one } };
 
-    fn one() -> Bounded<R> {
-        Bounded {
-            number: 1,
-            range: lawful(),
+    fn one() -> Own<F> {
+        Own {
+            form: F::stored_one(),
         }
     }
 
-    ghost one_law = { λ _. refl };
+    ghost one_law = { λ _. F.one_law };
 
-    ghost one_fits_law = { λ _. one_inside R.range_law };
+    ghost one_fits_law = { Prim.search rules };
 
     ghost can_mul_law = { λ a b h. h tt };
 
@@ -72,12 +69,12 @@ impl<R: Range> One for Bounded<R> {
 }
 
 /// `from_str_radix` returns an error for every string. `FromStr` parses strings.
-impl<R: Range> Num for Bounded<R> {
+impl<F: Form> Num for Own<F> {
     type FromStrRadixErr = ();
 
     ghost from_str_radix_gives = { λ _ _ r. IsErr r };
 
-    fn from_str_radix(_text: &str, _radix: u32) -> Result<Bounded<R>, ()> {
+    fn from_str_radix(_text: &str, _radix: u32) -> Result<Own<F>, ()> {
         Err(())
     }
 
@@ -85,38 +82,42 @@ impl<R: Range> Num for Bounded<R> {
 
     ghost sub_law = { λ a b r h _ _. h };
 
-    ghost sub_fits_law = { λ x y _. sub_inside R.range_law };
+    ghost sub_fits_law = { λ x y _. sub_fits_law F.low F.high x y (zero_fits F.form_law).0 };
 
     ghost can_div_law = { λ a b h. h tt };
 
     ghost div_law = { λ a b r h _. h };
 
-    ghost positive_divisor_law = { λ x y _. positive_divisor_inside R.range_law };
+    ghost positive_divisor_law = { λ x y _.
+        positive_divisor_law F.low F.high x y (zero_fits F.form_law).0 (zero_fits F.form_law).1 };
 
     ghost can_rem_law = { λ a b h. (h tt).0 };
 
     ghost rem_law = { λ a b r h _. h };
 }
 
-impl<R: SignedRange> Signed for Bounded<R> {
-    fn abs(&self) -> Bounded<R> {
-        Bounded::new(self.number.abs())
+impl<F: SignedForm> Signed for Own<F>
+where
+    F::Number: Signed,
+{
+    fn abs(&self) -> Own<F> {
+        self.answer(self, self.number().abs())
     }
 
-    fn abs_sub(&self, other: &Bounded<R>) -> Bounded<R> {
-        Bounded::new(self.number.abs_sub(&other.number))
+    fn abs_sub(&self, other: &Own<F>) -> Own<F> {
+        self.answer(other, self.number().abs_sub(&other.number()))
     }
 
-    fn signum(&self) -> Bounded<R> {
-        Bounded::new(self.number.signum())
+    fn signum(&self) -> Own<F> {
+        self.answer(self, self.number().signum())
     }
 
     fn is_positive(&self) -> bool {
-        self.number > 0
+        self.number().is_positive()
     }
 
     fn is_negative(&self) -> bool {
-        self.number < 0
+        self.number().is_negative()
     }
 
     ghost can_neg_law = { λ a h. tt };

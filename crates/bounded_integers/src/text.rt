@@ -4,18 +4,18 @@ ghost use Rattle.std.specs.Prelude.{Some};
 ghost use Rattle.std.specs.Fmt.{signed_decimal, styled_signed_decimal};
 ghost use Rattle.bounded_integers.specs.Texts.{ReadsBounded};
 
-use crate::{Bounded, BoundedError, Range};
+use crate::{BoundedError, Own, Range, Ranged};
 use std::fmt;
 use std::str::FromStr;
 
 /// Prints the number, under each format as an `i64` is printed. `Percent::new(7).to_string()` is `"7"`.
-impl<R: Range> fmt::Display for Bounded<R> {
-    ghost output = { λ x. Some (signed_decimal x.number) };
+impl<R: Range> fmt::Display for Own<Ranged<R>> {
+    ghost output = { λ x. Some (signed_decimal x.form.number) };
 
-    ghost styled_output = { λ x spec. Some (styled_signed_decimal spec x.number) };
+    ghost styled_output = { λ x spec. Some (styled_signed_decimal spec x.form.number) };
 
     fn fmt<W: fmt::Write>(&self, f: &mut fmt::Formatter<W>) -> fmt::Result {
-        self.number.fmt(f)
+        self.form.number.fmt(f)
     }
 }
 
@@ -25,10 +25,10 @@ impl<R: Range> fmt::Display for Bounded<R> {
 /// # Errors
 ///
 /// - [`BoundedError`] if the string is not an integer of the range.
-impl<R: Range> FromStr for Bounded<R> {
+impl<R: Range> FromStr for Own<Ranged<R>> {
     type Err = BoundedError;
 
-    ghost from_str_gives = { λ text result. ReadsBounded R.LOW R.HIGH (λ x. x.number) text result };
+    ghost from_str_gives = { λ text result. ReadsBounded R.LOW R.HIGH (λ x. x.form.number) text result };
 
     fn from_str(text: &str) -> Result<Self, BoundedError> {
         let number = text.parse::<i64>().map_err(|_| BoundedError)?;

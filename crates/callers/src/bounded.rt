@@ -56,36 +56,36 @@ pub type Cents = Bounded<CentsRange>;
 /// the interval is 0. The first one is at midnight, and the next ones are an interval apart.
 pub fn next_departure(from: Minutes, interval: Minutes) -> Option<Minutes>
     ensures { MatchOption result
-        (¬ ((interval.number ≢ pos 0) × EachFits (Between (pos 0) (pos 1439)) (IsMultiple IsCeiled from.number interval.number)))
-        (λ minute. IsMultiple IsCeiled from.number interval.number minute.number) }
+        (¬ ((interval.form.number ≢ pos 0) × EachFits (Between (pos 0) (pos 1439)) (IsMultiple IsCeiled from.form.number interval.form.number)))
+        (λ minute. IsMultiple IsCeiled from.form.number interval.form.number minute.form.number) }
 {
     checked::next_multiple_of(from, interval)
 }
 
 /// Returns the number of minutes after which two lines leave together again, or `None` if that is a day or more.
 pub fn minutes_to_meeting(a: Minutes, b: Minutes) -> Option<Minutes>
-    ensures { IfSome result (λ minutes. IsLeastCommonMultiple a.number b.number minutes.number) }
+    ensures { IfSome result (λ minutes. IsLeastCommonMultiple a.form.number b.form.number minutes.form.number) }
 {
     checked::lcm(a, b)
 }
 
 /// Returns the largest step of which both are multiples.
 pub fn common_step_of(a: Minutes, b: Minutes) -> Minutes
-    ensures { IsGreatestCommonDivisor a.number b.number result.number }
+    ensures { IsGreatestCommonDivisor a.form.number b.form.number result.form.number }
 {
     a.gcd(&b)
 }
 
 /// Returns the minute in the middle, rounded down.
 pub fn middle(from: Minutes, end: Minutes) -> Minutes
-    ensures { IsAverageFloor from.number end.number result.number }
+    ensures { IsAverageFloor from.form.number end.form.number result.form.number }
 {
     from.average_floor(&end)
 }
 
 /// Reads a minute that a user has written.
 pub fn minute_of(number: i64) -> Option<Minutes>
-    ensures { MatchOption result (¬ (Between (pos 0) (pos 1439) number)) (λ minute. minute.number ≡ number) }
+    ensures { MatchOption result (¬ (Between (pos 0) (pos 1439) number)) (λ minute. minute.form.number ≡ number) }
 {
     Minutes::try_from(number).ok()
 }
@@ -93,33 +93,33 @@ pub fn minute_of(number: i64) -> Option<Minutes>
 /// Returns the balance after a payment, or `None` if it is out of range.
 pub fn balance_after(balance: Cents, payment: Cents) -> Option<Cents>
     ensures { MatchOption result
-        (¬ (Between (negsuc 999999999999) (pos 1000000000000) (balance.number -ℤ payment.number)))
-        (λ after. after.number ≡ balance.number -ℤ payment.number) }
+        (¬ (Between (negsuc 999999999999) (pos 1000000000000) (balance.form.number -ℤ payment.form.number)))
+        (λ after. after.form.number ≡ balance.form.number -ℤ payment.form.number) }
 {
     checked::difference(balance, payment)
 }
 
 /// Returns the amount of money that is owed after a credit. It is the amount with the other sign.
 pub fn owed(credit: Cents) -> Cents
-    ensures { result.number ≡ neg_ℤ credit.number }
+    ensures { result.form.number ≡ neg_ℤ credit.form.number }
 {
     -credit
 }
 
 /// Returns the price of an item and of its delivery. Each is at most a million, so the sum is in range.
 pub fn with_delivery(price: Cents, delivery: Cents) -> Cents
-    requires price { Between (pos 0) (pos 100000000) price.number }
-    requires delivery { Between (pos 0) (pos 100000000) delivery.number }
-    ensures { result.number ≡ price.number +ℤ delivery.number }
+    requires price { Between (pos 0) (pos 100000000) price.form.number }
+    requires delivery { Between (pos 0) (pos 100000000) delivery.form.number }
+    ensures { result.form.number ≡ price.form.number +ℤ delivery.form.number }
 {
     price + delivery
 }
 
 /// Splits an amount into equal parts, rounded down, and what is left.
 pub fn equal_parts(amount: Cents, people: Cents) -> (Cents, Cents)
-    requires { pos 0 <ℤ people.number }
-    ensures parts { IsQuotient IsFloored amount.number people.number result.0.number }
-    ensures whole { amount.number ≡ (result.0.number *ℤ people.number) +ℤ result.1.number }
+    requires { pos 0 <ℤ people.form.number }
+    ensures parts { IsQuotient IsFloored amount.form.number people.form.number result.0.form.number }
+    ensures whole { amount.form.number ≡ (result.0.form.number *ℤ people.form.number) +ℤ result.1.form.number }
 {
     amount.div_mod_floor(&people)
 }

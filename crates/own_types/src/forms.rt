@@ -4,7 +4,8 @@ ghost use Rattle.std.specs.Prelude.{◌≡◌, pos, negsuc, neg_ℤ, refl};
 ghost use Rattle.std.proofs.Common.{rules, inl, inr};
 ghost use Rattle.num_integer.specs.Between.{Between, between_range};
 
-use super::form::{Form, Own, SignedForm};
+use crate::Marked;
+use bounded_integers::{Form, Own, SignedForm};
 
 /// From -7 to 7, stored negated.
 #[derive(Clone, Copy)]
@@ -26,15 +27,15 @@ impl Form for NegatedForm {
 
     ghost one = { record { negation = negsuc 0; in_range = (record { le = tt }, record { le = tt }) } };
 
-    fn zero() -> NegatedForm {
+    fn stored_zero() -> NegatedForm {
         NegatedForm { negation: 0 }
     }
 
-    fn one() -> NegatedForm {
+    fn stored_one() -> NegatedForm {
         NegatedForm { negation: -1 }
     }
 
-    fn number(&self) -> i64 {
+    fn to_number(&self) -> i64 {
         -i64::from(self.negation)
     }
 
@@ -44,8 +45,8 @@ impl Form for NegatedForm {
         }
     }
 
-    fn ends() -> (u128, u128) {
-        (7, 7)
+    fn bounds() -> (i64, i64) {
+        (-7, 7)
     }
 
     ghost zero_law = { refl };
@@ -73,23 +74,21 @@ pub struct MarkedForm {
     ghost in_range: { Between (negsuc 99) (pos 100) number },
 }
 
-impl Own<MarkedForm> {
-    /// The same number with this byte.
-    pub fn with_mark(self, mark: u8) -> Own<MarkedForm>
-        ensures { result.form.number ≡ self.form.number }
-    {
-        Own {
-            form: MarkedForm {
-                number: self.form.number,
-                mark,
-            },
-        }
+/// The same number with this byte.
+pub fn with_mark(x: Marked, mark: u8) -> Marked
+    ensures { result.form.number ≡ x.form.number }
+{
+    Own {
+        form: MarkedForm {
+            number: x.form.number,
+            mark,
+        },
     }
+}
 
-    /// The byte.
-    pub fn mark(&self) -> u8 {
-        self.form.mark
-    }
+/// The byte of a number.
+pub fn mark_of(x: Marked) -> u8 {
+    x.form.mark
 }
 
 impl Form for MarkedForm {
@@ -105,15 +104,15 @@ impl Form for MarkedForm {
 
     ghost one = { record { number = pos 1; mark = 0; in_range = (record { le = tt }, record { le = tt }) } };
 
-    fn zero() -> MarkedForm {
+    fn stored_zero() -> MarkedForm {
         MarkedForm { number: 0, mark: 0 }
     }
 
-    fn one() -> MarkedForm {
+    fn stored_one() -> MarkedForm {
         MarkedForm { number: 1, mark: 0 }
     }
 
-    fn number(&self) -> i64 {
+    fn to_number(&self) -> i64 {
         i64::from(self.number)
     }
 
@@ -124,15 +123,15 @@ impl Form for MarkedForm {
         }
     }
 
-    fn answer(&self, other: &MarkedForm, number: i64) -> MarkedForm {
+    fn store_answer(&self, other: &MarkedForm, number: i64) -> MarkedForm {
         MarkedForm {
             number: number as i8,
             mark: self.mark.max(other.mark).saturating_add(1),
         }
     }
 
-    fn ends() -> (u128, u128) {
-        (100, 100)
+    fn bounds() -> (i64, i64) {
+        (-100, 100)
     }
 
     ghost zero_law = { refl };
@@ -171,15 +170,15 @@ impl Form for TokensForm {
 
     ghost one = { record { number = 1; in_range = (record { le = tt }, record { le = tt }) } };
 
-    fn zero() -> TokensForm {
+    fn stored_zero() -> TokensForm {
         TokensForm { number: 0 }
     }
 
-    fn one() -> TokensForm {
+    fn stored_one() -> TokensForm {
         TokensForm { number: 1 }
     }
 
-    fn number(&self) -> u128 {
+    fn to_number(&self) -> u128 {
         self.number
     }
 
@@ -187,7 +186,7 @@ impl Form for TokensForm {
         TokensForm { number }
     }
 
-    fn ends() -> (u128, u128) {
+    fn bounds() -> (u128, u128) {
         (0, 1_000_000_000_000_000_000_000_000_000_000)
     }
 

@@ -5,14 +5,12 @@
 //! which they store a number, and the built-in type that computes.
 #![tactic(auto)]
 
-pub mod form;
 pub mod forms;
 pub mod ranges;
 pub mod signed_magnitude;
 pub mod types;
 
-pub use bounded_integers::{Bounded, Percent};
-pub use form::{Form, Own, SignedForm};
+pub use bounded_integers::{Bounded, Own, Percent};
 
 /// From -7 to 7.
 pub type Small = Bounded<ranges::SmallRange>;

@@ -3,8 +3,7 @@
 ghost use Rattle.std.specs.Prelude.{IfSome};
 
 use crate::signed_magnitude::{SignedMagnitude, to_i128};
-use crate::{Form, Own};
-use bounded_integers::{Bounded, Range};
+use bounded_integers::{Form, Own};
 use num_integer::counted::GcdCounted;
 use num_integer::{Average, Fits};
 use num_traits::FromPrimitive;
@@ -106,26 +105,12 @@ impl<T: BuiltIn> Tested for T {
     }
 }
 
-impl<R: Range> Tested for Bounded<R> {
-    fn from_signed_magnitude(n: SignedMagnitude) -> Option<Bounded<R>> {
-        let number = i64::try_from(to_i128(n)?).ok()?;
-        Bounded::try_from(number).ok()
-    }
-}
-
 impl<F: Form> Tested for Own<F>
 where
     F::Number: FromPrimitive,
 {
     fn from_signed_magnitude(n: SignedMagnitude) -> Option<Own<F>> {
         let number = F::Number::from_i128(to_i128(n)?)?;
-        let (negative, magnitude) = number.parts();
-        let (low, high) = F::ends();
-        let bound = if negative { low } else { high };
-        if magnitude <= bound {
-            Some(Own::new(number))
-        } else {
-            None
-        }
+        Own::try_new(number).ok()
     }
 }

@@ -55,8 +55,11 @@ fn pairs<T: Copy>(items: &[T]) -> Vec<(T, T)> {
         .collect()
 }
 
-fn row(name: &'static str, here: Pass, there: Pass) -> Row {
-    Row { name, here, there }
+/// Rows: a name, the inputs and the call here, and those there.
+macro_rules! rows {
+    ($($name:literal: $ours:expr, $here:expr; $theirs:expr, $there:expr;)*) => {
+        vec![$(Row { name: $name, here: pass($ours, $here), there: pass($theirs, $there) }),*]
+    };
 }
 
 /// The date so many days later, one by one.
@@ -83,88 +86,30 @@ fn rows() -> Vec<Row> {
         .eq(texts.iter().cloned()));
     let (our_pairs, their_pairs) = (pairs(&ours), pairs(&theirs));
 
-    vec![
-        row(
-            "Date::new",
-            pass(&parts, |p| Date::new(p.0, p.1, p.2)),
-            pass(&parts, |p| {
-                NaiveDate::from_ymd_opt(p.0 as i32, p.1.into(), p.2.into())
-            }),
-        ),
-        row(
-            "from_day_number",
-            pass(&days, |d| Date::from_day_number(*d)),
-            pass(&days, from_days),
-        ),
-        row(
-            "day_number",
-            pass(&ours, Date::day_number),
-            pass(&theirs, NaiveDate::num_days_from_ce),
-        ),
-        row(
-            "next",
-            pass(&ours, Date::next),
-            pass(&theirs, NaiveDate::succ_opt),
-        ),
-        row(
-            "next, one after the other",
-            pass(&[INPUTS], |n| {
-                counted(Date::from_day_number(0), *n, Date::next)
-            }),
-            pass(&[INPUTS], move |n| counted(epoch, *n, NaiveDate::succ_opt)),
-        ),
-        row(
-            "day_of_year",
-            pass(&ours, Date::day_of_year),
-            pass(&theirs, NaiveDate::ordinal),
-        ),
-        row(
-            "weekday",
-            pass(&ours, Date::weekday),
-            pass(&theirs, NaiveDate::weekday),
-        ),
-        row(
-            "iso_week",
-            pass(&ours, Date::iso_week),
-            pass(&theirs, |d| (d.iso_week().year(), d.iso_week().week())),
-        ),
-        row(
-            "from_iso_week",
-            pass(&parts, |p| {
-                Date::from_iso_week(p.0, 1 + p.2, Weekday::Monday)
-            }),
-            pass(&parts, |p| {
+    rows! {
+        "Date::new": &parts, |p| Date::new(p.0, p.1, p.2);
+            &parts, |p| NaiveDate::from_ymd_opt(p.0 as i32, p.1.into(), p.2.into());
+        "from_day_number": &days, |d| Date::from_day_number(*d); &days, from_days;
+        "day_number": &ours, Date::day_number; &theirs, NaiveDate::num_days_from_ce;
+        "next": &ours, Date::next; &theirs, NaiveDate::succ_opt;
+        "next, one after the other":
+            &[INPUTS], |n| counted(Date::from_day_number(0), *n, Date::next);
+            &[INPUTS], move |n| counted(epoch, *n, NaiveDate::succ_opt);
+        "day_of_year": &ours, Date::day_of_year; &theirs, NaiveDate::ordinal;
+        "weekday": &ours, Date::weekday; &theirs, NaiveDate::weekday;
+        "iso_week": &ours, Date::iso_week; &theirs, |d| (d.iso_week().year(), d.iso_week().week());
+        "from_iso_week": &parts, |p| Date::from_iso_week(p.0, 1 + p.2, Weekday::Monday);
+            &parts, |p| {
                 NaiveDate::from_isoywd_opt(p.0 as i32, u32::from(p.2) + 1, chrono::Weekday::Mon)
-            }),
-        ),
-        row(
-            "plus_days",
-            pass(&ours, |d| d.plus_days(1000)),
-            pass(&theirs, |d| d.checked_add_signed(Duration::days(1000))),
-        ),
-        row(
-            "plus_months",
-            pass(&ours, |d| d.plus_months(7)),
-            pass(&theirs, |d| d.checked_add_months(Months::new(7))),
-        ),
-        row(
-            "days_between",
-            pass(&our_pairs, |(a, b)| days_between(a, b)),
-            pass(&their_pairs, |(a, b)| {
-                b.signed_duration_since(*a).num_days()
-            }),
-        ),
-        row(
-            "to_string of a date",
-            pass(&ours, Date::to_string),
-            pass(&theirs, NaiveDate::to_string),
-        ),
-        row(
-            "parse of a date",
-            pass(&texts, |text| text.parse::<Date>()),
-            pass(&texts, |text| text.parse::<NaiveDate>()),
-        ),
-    ]
+            };
+        "plus_days": &ours, |d| d.plus_days(1000);
+            &theirs, |d| d.checked_add_signed(Duration::days(1000));
+        "plus_months": &ours, |d| d.plus_months(7); &theirs, |d| d.checked_add_months(Months::new(7));
+        "days_between": &our_pairs, |(a, b)| days_between(a, b);
+            &their_pairs, |(a, b)| b.signed_duration_since(*a).num_days();
+        "to_string of a date": &ours, Date::to_string; &theirs, NaiveDate::to_string;
+        "parse of a date": &texts, |text| text.parse::<Date>(); &texts, |text| text.parse::<NaiveDate>();
+    }
 }
 
 /// Prints the least nanoseconds of each call, here and there, and the ratio. In each of the 300 rounds each pass runs once, so

@@ -1,7 +1,7 @@
 //! The calls of `calendar` on days, dates and years.
 
 use super::checksum::Checksum;
-use super::lines::LibraryCall;
+use super::lines::CallAt;
 use super::spread::spread_of_bits;
 use super::walks::Answered;
 use calendar::{
@@ -15,8 +15,6 @@ use std::process::Abort;
 /// A call, or several.
 #[derive(Clone, Copy, Debug)]
 pub(crate) enum Dates {
-    /// Each eleventh day from year 1 to year 9999.
-    EleventhDays,
     /// The date of a day, its day of the year, its day of the week and its week.
     Day,
     /// Whether a year is a leap year, its days, its weeks and Easter.
@@ -159,7 +157,8 @@ fn of_two_numbers(call: Dates, sum: Checksum, day: i64, n: i64) -> Option<Checks
     })
 }
 
-fn each_eleventh_day() -> Answered {
+/// Each eleventh day from year 1 to year 9999.
+pub(crate) fn each_eleventh_day() -> Answered {
     let mut answered = Answered::none();
     for place in 0..(LAST_DAY - FIRST_DAY) / 11 + 1 {
         let day = FIRST_DAY.wrapping_add(place.wrapping_mul(11));
@@ -188,10 +187,9 @@ fn each_pair(rt: &impl Abort, alloc: Global, bits: u32, call: Dates) -> Answered
 }
 
 /// Each number has at most this many bits.
-impl LibraryCall<u32> for Dates {
+impl CallAt<u32> for Dates {
     fn results<R: Abort>(&self, rt: &R, alloc: Global, bits: u32) -> Answered {
         match self {
-            Dates::EleventhDays => each_eleventh_day(),
             Dates::PlusDays
             | Dates::PlusMonths
             | Dates::DaysBetween

@@ -1,7 +1,7 @@
 //! The calls of `ratio64` on fractions of few numbers.
 
 use super::checksum::Checksum;
-use super::lines::LibraryCall;
+use super::lines::CallAt;
 use super::spread::spread_of_bits;
 use super::walks::Answered;
 use ratio64::RatioError::{NotFitting, ZeroDenominator};
@@ -148,7 +148,7 @@ fn each_pair(call: Fractions, fractions: &[Ratio]) -> Answered {
 }
 
 /// Each part has at most this many bits.
-impl LibraryCall<u32> for Fractions {
+impl CallAt<u32> for Fractions {
     fn results<R: Abort>(&self, rt: &R, alloc: Global, bits: u32) -> Answered {
         let numbers = spread_of_bits(rt, alloc, bits, FOR_ONE);
         let few = spread_of_bits(rt, alloc, bits, FOR_TWO);

@@ -2,7 +2,7 @@
 
 use super::calls::{with_value, with_values};
 use super::checksum::Checksum;
-use super::lines::LibraryCall;
+use super::lines::CallAt;
 use super::spread::{OfThree, each_three};
 use super::walks::Answered;
 use applied::halving::midpoint;
@@ -51,7 +51,7 @@ impl<T: Tested> OfThree<T> for Models {
     }
 }
 
-impl LibraryCall<Type> for Models {
+impl CallAt<Type> for Models {
     fn results<R: Abort>(&self, rt: &R, alloc: Global, it: Type) -> Answered {
         match it {
             Type::I64 => each_three::<i64, Models>(rt, alloc, self),

@@ -5,7 +5,7 @@ ghost use Rattle.std.specs.List.{All};
 
 use super::calls::{with_value, with_values};
 use super::checksum::Checksum;
-use super::lines::LibraryCall;
+use super::lines::CallAt;
 use super::spread::{OfThree, each_three, spread_of};
 use super::walks::{Answered, values};
 use modular::{
@@ -147,7 +147,7 @@ fn answers<T: Modular + Tested>(rt: &impl Abort, alloc: Global, call: Residues) 
     }
 }
 
-impl LibraryCall<Type> for Residues {
+impl CallAt<Type> for Residues {
     fn results<R: Abort>(&self, rt: &R, alloc: Global, it: Type) -> Answered {
         match it {
             Type::I16 => answers::<i16>(rt, alloc, *self),

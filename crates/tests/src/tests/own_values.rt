@@ -4,6 +4,7 @@ use super::rows::holds_at;
 use num_integer::counted::{binomial_counted, extended_gcd_counted};
 use num_integer::{ExtendedGcd, Fits, Integer, binomial, checked};
 use num_traits::{Num, Signed};
+use own_types::forms::{mark_of, with_mark};
 use own_types::{Marked, Negated, Percent, Small, Tokens};
 
 #[test]
@@ -30,13 +31,13 @@ fn numbers_stored_negated(rt: HostRuntime) {
 /// Two values of one number are equal, whatever their bytes are.
 #[test]
 fn numbers_beside_a_byte(rt: HostRuntime) {
-    let (plain, marked) = (Marked::new(5), Marked::new(5).with_mark(9));
-    assert!(rt; plain.mark() == 0 && marked.mark() == 9);
+    let (plain, marked) = (Marked::new(5), with_mark(Marked::new(5), 9));
+    assert!(rt; mark_of(plain) == 0 && mark_of(marked) == 9);
     assert!(rt; plain == marked && !(plain < marked) && !(marked < plain));
     assert!(rt; plain.is_multiple_of(&marked) && marked.is_multiple_of(&plain));
-    assert!(rt; (plain + marked).mark() == 10);
+    assert!(rt; mark_of(plain + marked) == 10);
     let common = checked::gcd(marked, plain).expect(&rt, "the divisor fits");
-    assert!(rt; common == plain && common.mark() == 10);
+    assert!(rt; common == plain && mark_of(common) == 10);
 }
 
 /// Numbers of more than 64 bits, without negative ones.
@@ -78,14 +79,14 @@ fn bytes_tell_the_work(rt: HostRuntime) {
     holds_at(&rt, iterations == 1, &iterations);
     for ExtendedGcd { gcd, x, y } in pairs {
         let numbers = (gcd.number(), x.number(), y.number());
-        let mark = gcd.mark().max(x.mark()).max(y.mark());
+        let mark = mark_of(gcd).max(mark_of(x)).max(mark_of(y));
         holds_at(&rt, numbers == (1, 1, -49) && mark <= 16, &(numbers, mark));
     }
     let found = coefficients(Marked::new(100), Marked::new(99));
     let (coefficients, iterations) = found.expect(&rt, "the coefficient fits");
     holds_at(&rt, iterations == 1, &iterations);
     for it in coefficients {
-        let (number, mark) = (it.number(), it.mark());
+        let (number, mark) = (it.number(), mark_of(it));
         holds_at(&rt, number == 100 && mark <= 16, &(number, mark));
     }
 }

@@ -1,23 +1,7 @@
-//! What an integer of a range has in plain Rust alone.
-
-use core::fmt;
-use core::hash::{Hash, Hasher};
-
-/// Prints the number.
-impl<R: Range> fmt::Debug for Bounded<R> {
-    fn fmt(&self, f: &mut fmt::Formatter<'_>) -> fmt::Result {
-        fmt::Debug::fmt(&self.number, f)
-    }
-}
-
-impl<R: Range> Hash for Bounded<R> {
-    fn hash<H: Hasher>(&self, state: &mut H) {
-        self.number.hash(state);
-    }
-}
+//! What a range has in plain Rust alone.
 
 /// Marks an integer with its range. It doesn't compile at a range of another shape than the three of [`Range`].
-pub(crate) fn lawful<R: Range>() -> PhantomData<R> {
+fn lawful<R: Range>() -> PhantomData<R> {
     let () = Shape::<R>::IS_LAWFUL;
     PhantomData
 }

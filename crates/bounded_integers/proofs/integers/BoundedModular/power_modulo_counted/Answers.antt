@@ -1,5 +1,0 @@
-use Rattle.bounded_integers.proofs.Words.{residue_inside}
-use Rattle.bounded_integers.proofs.integers.BoundedModular.power_modulo_counted.Goals as goal
-
-pub new-requires : goal.new-requires
-new-requires g c = record { in_range = residue_inside g.R.Range.range_law c.requires.in_range.1 c.power_modulo_counted-power.ensures.residue }

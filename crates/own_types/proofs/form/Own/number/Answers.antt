@@ -1,8 +1,0 @@
-use Rattle.own_types.proofs.Computed.{computed}
-use Rattle.own_types.proofs.form.Own.number.Goals as goal
-
-pub returns-clause-in_range : goal.returns-clause-in_range
-returns-clause-in_range g c = rw c.number.ensures (g.met.F.Form.number_law _)
-
-pub returns-clause-fits : goal.returns-clause-fits
-returns-clause-fits g c = computed g.met.F.Number.Integer.range_law g.met.F.Form.ends_law (rw c.number.ensures (g.met.F.Form.number_law _))

@@ -1,6 +1,0 @@
-use Rattle.num_integer.specs.Divisors.{IsLeastCommonMultiple}
-use Rattle.own_types.proofs.Computed.{each_computed}
-use Rattle.own_types.proofs.form.OwnInteger.lcm.Goals as goal
-
-pub lcm-requires-clause-lcm_fits : goal.lcm-requires-clause-lcm_fits
-lcm-requires-clause-lcm_fits g c = each_computed g.met.F.Number.Integer.range_law g.met.F.Form.ends_law IsLeastCommonMultiple c.number.ensures.value c.number-2.ensures.value c.requires.lcm_fits

@@ -1,5 +1,0 @@
-use Rattle.own_types.proofs.Computed.{computed}
-use Rattle.own_types.proofs.form.OwnSub.sub.Goals as goal
-
-pub difference-requires-clause-difference_fits : goal.difference-requires-clause-difference_fits
-difference-requires-clause-difference_fits g c = computed g.met.F.Number.Integer.range_law g.met.F.Form.ends_law (rw (c.number.ensures.value, c.number-2.ensures.value) c.requires)
