@@ -3,11 +3,13 @@
 # reject each. With names of crates, it tries theirs alone. The crates themselves are proved before,
 # by `.ci/run` or `rt check`.
 #
-# It tries lists of mutants side by side, RT_JOBS at once, each in a temporary copy in which they
-# take the place of those of must-fail. As soon as a list was tried, it prints a line for each
-# mutant that was rejected, and out/rejected keeps that line by the checksums of the mutant, of the
-# kit, and of the sources of the crate and of those below it. So a run tries what has changed, and a
-# run that was stopped goes on. At the end it prints what else `rt` said, and a count.
+# It tries lists of mutants side by side, RT_JOBS at once, each in a temporary copy. Those that
+# change the bodies of different functions are tried in one check (together.py). What that does not
+# reject, and each other mutant, `rt must-fail` tries alone, in the place of those of must-fail. As
+# soon as a list was tried, it prints a line for each mutant that was rejected, and out/rejected
+# keeps that line by the checksums of the mutant, of the kit, and of the sources of the crate and of
+# those below it. So a run tries what has changed, and a run that was stopped goes on. At the end it
+# prints what else `rt` said, and a count.
 #
 # The libraries below are those that `.ci/run` has left, if it has passed at this commit, or that
 # `rt lib` makes of what `rt check` has kept.
@@ -18,7 +20,7 @@ cd "$(dirname "$0")/../.." || exit
 source tools/gate/lib.sh
 trap 'kill $(jobs -p) 2>/dev/null; rm -rf "$work"' EXIT
 
-most=36 # mutants of a list: its first one takes as long as the proof of the crate
+most=150 # mutants of a list: its first check takes as long as the proof of the crate
 at_once=${RT_JOBS:-$(lanes)}
 kept=$PWD/out/rejected
 copy=$work/copy
@@ -100,19 +102,32 @@ linked() {
 
 # try_list LIST: tries its mutants, and keeps what was rejected.
 try_list() {
-    local name edit line there=$work/tried.${1##*/} said=$work/said/${1##*/}
+    local name edit alone=() there=$work/tried.${1##*/} said=$work/said/${1##*/}
     name=$(basename "${1%.*}")
     cp -al "$copy" "$there" && mkdir "$there/crates/$name/must-fail" &&
-        xargs cp -t "$there/crates/$name/must-fail" <"$1" &&
-        (cd "$there" && rt must-fail "$name") >"$said.all" 2>&1
+        xargs python3 -m tools.gate.together "$there/crates/$name" <"$1" >"$said.all" 2>&1
+    keep "$1"
     while read -r edit; do
-        line="must-fail $name/${edit##*/}: refused, as it must be"
-        line=$(grep -E -m 1 "^(rt: )?${line//./\\.}" "$said.all") || continue
-        echo "$(key "$(cat "$work/$name.sum")" "$edit") ${line#rt: }" >>"$kept/$name"
-        echo "${line#rt: }" >>"$said.rejected"
+        has_kept "$name" "$(cat "$work/$name.sum")" "$edit" || alone+=("$edit")
     done <"$1"
+    [ ${#alone[@]} -eq 0 ] || { cp -t "$there/crates/$name/must-fail" "${alone[@]}" &&
+        (cd "$there" && rt must-fail "$name") >>"$said.all" 2>&1; }
+    keep "$1"
     grep -vE '^(rt: )?must-fail [^ ]+: refused, as it must be' "$said.all" >"$said.other"
     rm -rf "$there" "$said.all"
+}
+
+# keep LIST: keeps the lines of those of its mutants that are rejected by now.
+keep() {
+    local name edit line sum said=$work/said/${1##*/}
+    name=$(basename "${1%.*}") && sum=$(cat "$work/$name.sum")
+    while read -r edit; do
+        line="must-fail $name/${edit##*/}: refused, as it must be"
+        has_kept "$name" "$sum" "$edit" && continue
+        line=$(grep -E -m 1 "^(rt: )?${line//./\\.}" "$said.all") || continue
+        echo "$(key "$sum" "$edit") ${line#rt: }" >>"$kept/$name"
+        echo "${line#rt: }" >>"$said.rejected"
+    done <"$1"
 }
 
 # show: prints what was rejected since it was called last.

@@ -35,7 +35,9 @@ def repository(tmp_path: Path) -> Path:
                      f'crates/above/{suite}/one.edit': '3\n'})
     (tmp_path / 'programs/rt').chmod(0o755)
     (tmp_path / 'tools/gate').mkdir(parents=True)
-    for name in (SCRIPT, 'tools/gate/lib.sh'):
+    (tmp_path / 'tools/checks').mkdir()
+    for name in (SCRIPT, 'tools/gate/lib.sh', 'tools/gate/together.py', 'tools/__init__.py',
+                 'tools/checks/edits.py', 'tools/gate/debian.toml'):
         shutil.copy(ROOT / name, tmp_path / name)
     return tmp_path
 
