@@ -720,6 +720,18 @@ pub fn weeks_later(week: &IsoWeek, weeks: i64) -> Option<IsoWeek>
     Some(later)
 }
 
+/// Returns the week so many weeks after another, or `None` if its year does not fit.
+pub fn weeks_later_by_match(week: &IsoWeek, weeks: i64) -> Option<IsoWeek>
+    ensures { MatchOption result
+        ((y : ℤ) (w : ℕ) → IsWeeksAfter week.now.year week.now.week weeks y w → ¬ (FitsSigned w64 y))
+        (λ later. IsWeeksAfter week.now.year week.now.week weeks later.year later.week) }
+{
+    match week.plus_weeks(weeks) {
+        Some(later) => Some(later),
+        None => None,
+    }
+}
+
 /// Returns the Friday of the week so many weeks after another, or `None`. The contract does not say when it is `None`.
 #[tactic(auto, using(calendar::proofs::ForCallers::weeks_passed_on))]
 pub fn friday_of_week_later(week: &IsoWeek, weeks: i64) -> Option<Date>
