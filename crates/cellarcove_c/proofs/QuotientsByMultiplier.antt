@@ -1,5 +1,5 @@
 -- Quotients by a multiplier in place of a divisor.
-use Rattle.std.proofs.Common.{◌≡◌, ◌+◌, ◌-◌, ◌*◌, ◌/◌, ◌%◌, ◌^◌, ◌<◌, ◌≤◌, ℕ, ap, arith, inl, inr, mul-le-mul_right, refl, sym, ◌∙◌}
+use Rattle.std.proofs.Common.{◌≡◌, ◌+◌, ◌-◌, ◌*◌, ◌/◌, ◌%◌, ◌^◌, ◌<◌, ◌≤◌, ℕ, ap, arith, mul-le-mul_right, refl, sym, ◌∙◌}
 use Rattle.std.proofs.Math.Nat.{lt_of_not-le, mod-eq_of_lt, mul-le-mul_left, pow-le-pow_right}
 use Rattle.std.proofs.lemmas.Nat.{div-mul-add, div_below, le-div, leading_length, mod_below, one_shl, pow-add, shr-shr}
 use Rattle.std.specs.Prelude.{suc, zero}

@@ -1,6 +1,6 @@
 //! Many numbers divided by one.
 
-ghost use Rattle.std.specs.Prelude.{◌≡◌, ◌↔◌, ◌≢◌, ◌⊎◌, ◌+◌, ◌*◌, ◌/◌, ◌^◌, ◌<◌, ◌≤◌, ◌≤ℤ◌, ◌<ℤ◌, ◌-ℤ◌, ℕ, ℤ, List, pos, negsuc, neg_ℤ, length, map, FitsSigned};
+ghost use Rattle.std.specs.Prelude.{◌≡◌, ◌↔◌, ◌≢◌, ◌⊎◌, ◌+◌, ◌-◌, ◌*◌, ◌/◌, ◌^◌, ◌<◌, ◌≤◌, ◌≤ℤ◌, ◌<ℤ◌, ◌-ℤ◌, ℕ, ℤ, List, pos, negsuc, neg_ℤ, length, map, FitsSigned};
 ghost use Rattle.std.specs.Int.{cast_unsigned, w64};
 ghost use Rattle.std.specs.List.{All};
 ghost use Rattle.num_integer.specs.Division.{IsFloored, IsQuotient};
@@ -146,7 +146,8 @@ impl MagnitudeDivisor {
     fn quotient_up_to_half(&self, n: u64) -> u64
         requires most { n ≤ 2 ^ 63 }
         requires other { 1 < self.now.divisor }
-        ensures { result ≡ n / self.now.divisor }
+        ensures is { result ≡ n / self.now.divisor }
+        ensures small { result < 2 ^ 63 }
     {
         high_product(self.multiplier, n) >> (self.shift - 1)
     }

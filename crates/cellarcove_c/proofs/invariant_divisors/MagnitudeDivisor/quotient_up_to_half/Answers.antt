@@ -1,4 +1,3 @@
-use Rattle.std.proofs.Common.{arith}
 use Rattle.cellarcove_c.proofs.QuotientsByMultiplier.{positive_shift, quotient_up_to_half, small_quotient}
 use Rattle.cellarcove_c.proofs.invariant_divisors.MagnitudeDivisor.quotient_up_to_half.Goals as goal
 
