@@ -11,9 +11,7 @@ ghost use Rattle.cellarcove_c.specs.Answers.{Refuses};
 ghost use Rattle.cellarcove_c.specs.Congruences.{AnswersModulo, I64Congruent, IsBeyond, IsClassOfBoth, IsNever, IsReasonOfCongruences, U64Congruent};
 ghost use Rattle.cellarcove_c.specs.Statuses.{StatusIsOneOf, answer_of, bad_modulus, common_solution_of, no_solution, not_fitting};
 
-use crate::answers::{
-    ANSWER, BAD_MODULUS, I64Answer, NO_SOLUTION, NOT_FITTING, U64Answer, with_status,
-};
+use crate::answers::{BAD_MODULUS, I64Answer, NO_SOLUTION, NOT_FITTING, U64Answer, with_status};
 use crate::modulo::reason_for_modulus;
 use modular::{
     CommonSolution, Congruence, Modular, checked, chinese_remainder, next_common_solution,
@@ -50,12 +48,15 @@ pub extern "C" fn cellarcove_solutions_i64(a: i64, b: i64, m: i64) -> I64Solutio
         (λ (first, step). IsResidueClass (Solves a b m) first step × IsReducedModulus a m step)
         (pos 0, pos 0) result.status (result.first, result.step) }
 {
-    if m <= 0 {
-        return I64Solutions::none(BAD_MODULUS);
-    }
-    match solutions(a, b, m) {
-        Some((first, step)) => I64Solutions::some(first, step),
-        None => I64Solutions::none(NO_SOLUTION),
+    let (status, (first, step)) = if m <= 0 {
+        (BAD_MODULUS, (0, 0))
+    } else {
+        with_status(solutions(a, b, m), (0, 0), NO_SOLUTION)
+    };
+    I64Solutions {
+        status,
+        first,
+        step,
     }
 }
 
@@ -71,12 +72,15 @@ pub extern "C" fn cellarcove_solutions_u64(a: u64, b: u64, m: u64) -> U64Solutio
         × IsReducedModulus (pos a) (pos m) (pos step))
         (0, 0) result.status (result.first, result.step) }
 {
-    if m == 0 {
-        return U64Solutions::none(BAD_MODULUS);
-    }
-    match solutions(a, b, m) {
-        Some((first, step)) => U64Solutions::some(first, step),
-        None => U64Solutions::none(NO_SOLUTION),
+    let (status, (first, step)) = if m == 0 {
+        (BAD_MODULUS, (0, 0))
+    } else {
+        with_status(solutions(a, b, m), (0, 0), NO_SOLUTION)
+    };
+    U64Solutions {
+        status,
+        first,
+        step,
     }
 }
 
@@ -333,54 +337,6 @@ pub extern "C" fn cellarcove_next_common_solution_u64(
             modulus: n,
         },
     ))
-}
-
-impl I64Solutions {
-    /// Returns a result.
-    pub(crate) fn some(first: i64, step: i64) -> I64Solutions
-        ensures { result ≡ record { status = 0; first = first; step = step } }
-    {
-        I64Solutions {
-            status: ANSWER,
-            first,
-            step,
-        }
-    }
-
-    /// Returns a rejection.
-    pub(crate) fn none(status: u32) -> I64Solutions
-        ensures { result ≡ record { status = status; first = pos 0; step = pos 0 } }
-    {
-        I64Solutions {
-            status,
-            first: 0,
-            step: 0,
-        }
-    }
-}
-
-impl U64Solutions {
-    /// Returns a result.
-    pub(crate) fn some(first: u64, step: u64) -> U64Solutions
-        ensures { result ≡ record { status = 0; first = first; step = step } }
-    {
-        U64Solutions {
-            status: ANSWER,
-            first,
-            step,
-        }
-    }
-
-    /// Returns a rejection.
-    pub(crate) fn none(status: u32) -> U64Solutions
-        ensures { result ≡ record { status = status; first = 0; step = 0 } }
-    {
-        U64Solutions {
-            status,
-            first: 0,
-            step: 0,
-        }
-    }
 }
 
 /// Returns the status of the numbers that solve both congruences, and the numbers as a congruence. If there is no result,

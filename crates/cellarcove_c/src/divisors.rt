@@ -9,7 +9,7 @@ ghost use Rattle.cellarcove_c.specs.Answers.{Answers, I64Answers, I64Fitting, U6
 ghost use Rattle.cellarcove_c.specs.Statuses.{StatusIs, not_fitting};
 
 use crate::answers::{ANSWER, I64Answer, NOT_FITTING, U64Answer, with_status};
-use num_integer::{ExtendedGcd, checked};
+use num_integer::checked;
 
 /// A status, and the greatest common divisor with its coefficients.
 #[repr(C)]
@@ -128,33 +128,17 @@ pub extern "C" fn cellarcove_extended_gcd_i64(x: i64, y: i64) -> I64Bezout
         (StatusIs not_fitting) (pos 0, pos 0, pos 0) result.status (result.gcd, result.x, result.y) }
 {
     match checked::extended_gcd(x, y) {
-        Some(e) => I64Bezout::some(e),
-        None => I64Bezout::none(),
-    }
-}
-
-impl I64Bezout {
-    /// Returns a result.
-    fn some(e: ExtendedGcd<i64>) -> I64Bezout
-        ensures { result ≡ record { status = 0; gcd = e.gcd; x = e.x; y = e.y } }
-    {
-        I64Bezout {
+        Some(e) => I64Bezout {
             status: ANSWER,
             gcd: e.gcd,
             x: e.x,
             y: e.y,
-        }
-    }
-
-    /// Returns the rejection.
-    fn none() -> I64Bezout
-        ensures { result ≡ record { status = not_fitting; gcd = pos 0; x = pos 0; y = pos 0 } }
-    {
-        I64Bezout {
+        },
+        None => I64Bezout {
             status: NOT_FITTING,
             gcd: 0,
             x: 0,
             y: 0,
-        }
+        },
     }
 }

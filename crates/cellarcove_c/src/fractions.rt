@@ -1,7 +1,7 @@
 //! Exact fractions. A fraction that is passed is reduced first, and a part of it that does not fit
 //! then is rejected. If both fractions are rejected, the status is that of the first.
 
-ghost use Rattle.std.specs.Prelude.{◌≡◌, ◌<ℤ◌, ◌≤ℤ◌, pos, Result, MatchResult};
+ghost use Rattle.std.specs.Prelude.{◌≡◌, ◌<ℤ◌, ◌≤ℤ◌, pos, Err, MatchResult, Ok, Result};
 ghost use Rattle.ratio64.specs.Fraction.{fraction_cmp};
 ghost use Rattle.ratio64.specs.Limiting.{IsNearestWithin};
 ghost use Rattle.ratio64.specs.Ratio.{AnswersFraction, den_of, num_of};
@@ -163,7 +163,16 @@ pub extern "C" fn cellarcove_fraction_cmp(a: Fraction, b: Fraction) -> OrderAnsw
         ≡ order_number (fraction_cmp (num_of x) (den_of x) (num_of y) (den_of y))))
         (λ e. (result.status ≡ number_of e) × (result.order ≡ pos 0)) }
 {
-    order(a.reduced(), b.reduced())
+    match order(a.reduced(), b.reduced()) {
+        Ok(order) => OrderAnswer {
+            status: ANSWER,
+            order: number_of_order(order),
+        },
+        Err(error) => OrderAnswer {
+            status: error.number(),
+            order: 0,
+        },
+    }
 }
 
 /// Returns the nearest fraction whose denominator is at most `max`, of those equally near the one with the
@@ -238,18 +247,6 @@ impl FractionAnswer {
     }
 }
 
-impl OrderAnswer {
-    /// Returns a rejection.
-    fn none(error: RatioError) -> OrderAnswer
-        ensures { result ≡ record { status = number_of error; order = pos 0 } }
-    {
-        OrderAnswer {
-            status: error.number(),
-            order: 0,
-        }
-    }
-}
-
 /// Returns the sum of two fractions, or the first error.
 fn sum(a: Result<Ratio, RatioError>, b: Result<Ratio, RatioError>) -> Result<Ratio, RatioError>
     ensures { IsSumOf a b result }
@@ -316,23 +313,13 @@ fn times(a: Result<Ratio, RatioError>, n: i64, d: i64) -> Result<Ratio, RatioErr
     a?.checked_times(n, d)
 }
 
-/// Returns the order of two fractions, or the status of the first error.
-fn order(a: Result<Ratio, RatioError>, b: Result<Ratio, RatioError>) -> OrderAnswer
+/// Returns the order of two fractions, or the first error.
+fn order(a: Result<Ratio, RatioError>, b: Result<Ratio, RatioError>) -> Result<Ordering, RatioError>
     ensures { OnBothFractions a b
-        (λ x y. (result.status ≡ 0) × (result.order
-        ≡ order_number (fraction_cmp (num_of x) (den_of x) (num_of y) (den_of y))))
-        (λ e. (result.status ≡ number_of e) × (result.order ≡ pos 0)) }
+        (λ x y. result ≡ Ok (fraction_cmp (num_of x) (den_of x) (num_of y) (den_of y)))
+        (λ e. result ≡ Err e) }
 {
-    match a {
-        Ok(x) => match b {
-            Ok(y) => OrderAnswer {
-                status: ANSWER,
-                order: number_of_order(x.cmp(&y)),
-            },
-            Err(error) => OrderAnswer::none(error),
-        },
-        Err(error) => OrderAnswer::none(error),
-    }
+    Ok(a?.cmp(&b?))
 }
 
 /// Returns the number of an order.

@@ -86,11 +86,15 @@ pub extern "C" fn cellarcove_place_of_i64(item: i64, page_size: i64) -> I64Place
         (λ (page, place). IsPlace item page_size page place)
         (StatusIs outside) (pos 0, pos 0) result.status (result.page, result.place) }
 {
-    if page_size > 0 {
-        let (page, place) = place_of(item, page_size);
-        I64Place::some(page, place)
+    let (status, (page, place)) = if page_size > 0 {
+        (ANSWER, place_of(item, page_size))
     } else {
-        I64Place::none()
+        (OUTSIDE, (0, 0))
+    };
+    I64Place {
+        status,
+        page,
+        place,
     }
 }
 
@@ -104,11 +108,15 @@ pub extern "C" fn cellarcove_place_of_u64(item: u64, page_size: u64) -> U64Place
         (λ (page, place). IsPlace (pos item) (pos page_size) (pos page) (pos place))
         (StatusIs outside) (0, 0) result.status (result.page, result.place) }
 {
-    if page_size > 0 {
-        let (page, place) = place_of(item, page_size);
-        U64Place::some(page, place)
+    let (status, (page, place)) = if page_size > 0 {
+        (ANSWER, place_of(item, page_size))
     } else {
-        U64Place::none()
+        (OUTSIDE, (0, 0))
+    };
+    U64Place {
+        status,
+        page,
+        place,
     }
 }
 
@@ -155,11 +163,12 @@ pub extern "C" fn cellarcove_range_of_page_i64(page: i64, page_size: i64, items:
         (λ (first, end). IsRangeOfPage page page_size items first end)
         (StatusIs outside) (pos 0, pos 0) result.status (result.first, result.end) }
 {
-    if page_size <= 0 || items < 0 {
-        return I64Range::none();
-    }
-    let (first, end) = range_of_page(page, page_size, items);
-    I64Range::some(first, end)
+    let (status, (first, end)) = if !are_pages(page_size, items) {
+        (OUTSIDE, (0, 0))
+    } else {
+        (ANSWER, range_of_page(page, page_size, items))
+    };
+    I64Range { status, first, end }
 }
 
 /// Returns the first item of a page and its end, which is one past its last item, if there are `items`
@@ -173,11 +182,12 @@ pub extern "C" fn cellarcove_range_of_page_u64(page: u64, page_size: u64, items:
         (λ (first, end). IsRangeOfPage (pos page) (pos page_size) (pos items) (pos first) (pos end))
         (StatusIs outside) (0, 0) result.status (result.first, result.end) }
 {
-    if page_size == 0 {
-        return U64Range::none();
-    }
-    let (first, end) = range_of_page(page, page_size, items);
-    U64Range::some(first, end)
+    let (status, (first, end)) = if page_size == 0 {
+        (OUTSIDE, (0, 0))
+    } else {
+        (ANSWER, range_of_page(page, page_size, items))
+    };
+    U64Range { status, first, end }
 }
 
 /// Returns the first item of a part and its end, which is one past its last item, if `items` items are
@@ -191,11 +201,12 @@ pub extern "C" fn cellarcove_range_of_part_i64(part: i64, parts: i64, items: i64
         (λ (first, end). IsRangeOfPart part parts items first end)
         (StatusIs outside) (pos 0, pos 0) result.status (result.first, result.end) }
 {
-    if !is_part(part, parts, items) {
-        return I64Range::none();
-    }
-    let (first, end) = range_of_part(part, parts, items);
-    I64Range::some(first, end)
+    let (status, (first, end)) = if !is_part(part, parts, items) {
+        (OUTSIDE, (0, 0))
+    } else {
+        (ANSWER, range_of_part(part, parts, items))
+    };
+    I64Range { status, first, end }
 }
 
 /// Returns the first item of a part and its end, which is one past its last item, if `items` items are
@@ -209,11 +220,19 @@ pub extern "C" fn cellarcove_range_of_part_u64(part: u64, parts: u64, items: u64
         (λ (first, end). IsRangeOfPart (pos part) (pos parts) (pos items) (pos first) (pos end))
         (StatusIs outside) (0, 0) result.status (result.first, result.end) }
 {
-    if parts <= part {
-        return U64Range::none();
-    }
-    let (first, end) = range_of_part(part, parts, items);
-    U64Range::some(first, end)
+    let (status, (first, end)) = if parts <= part {
+        (OUTSIDE, (0, 0))
+    } else {
+        (ANSWER, range_of_part(part, parts, items))
+    };
+    U64Range { status, first, end }
+}
+
+/// Returns `true` if there are pages of such a size for so many items.
+fn are_pages(page_size: i64, items: i64) -> bool
+    ensures { IsTrue result ↔ ((pos 0 <ℤ page_size) × (pos 0 ≤ℤ items)) }
+{
+    0 < page_size && 0 <= items
 }
 
 /// Returns `true` if there is such a part of so many parts and items.
@@ -221,100 +240,4 @@ fn is_part(part: i64, parts: i64, items: i64) -> bool
     ensures { IsTrue result ↔ ((pos 0 ≤ℤ part) × (part <ℤ parts) × (pos 0 ≤ℤ items)) }
 {
     0 <= part && part < parts && 0 <= items
-}
-
-impl I64Place {
-    /// Returns a result.
-    fn some(page: i64, place: i64) -> I64Place
-        ensures { result ≡ record { status = 0; page = page; place = place } }
-    {
-        I64Place {
-            status: ANSWER,
-            page,
-            place,
-        }
-    }
-
-    /// Returns the rejection.
-    fn none() -> I64Place
-        ensures { result ≡ record { status = outside; page = pos 0; place = pos 0 } }
-    {
-        I64Place {
-            status: OUTSIDE,
-            page: 0,
-            place: 0,
-        }
-    }
-}
-
-impl I64Range {
-    /// Returns a result.
-    fn some(first: i64, end: i64) -> I64Range
-        ensures { result ≡ record { status = 0; first = first; end = end } }
-    {
-        I64Range {
-            status: ANSWER,
-            first,
-            end,
-        }
-    }
-
-    /// Returns the rejection.
-    fn none() -> I64Range
-        ensures { result ≡ record { status = outside; first = pos 0; end = pos 0 } }
-    {
-        I64Range {
-            status: OUTSIDE,
-            first: 0,
-            end: 0,
-        }
-    }
-}
-
-impl U64Place {
-    /// Returns a result.
-    fn some(page: u64, place: u64) -> U64Place
-        ensures { result ≡ record { status = 0; page = page; place = place } }
-    {
-        U64Place {
-            status: ANSWER,
-            page,
-            place,
-        }
-    }
-
-    /// Returns the rejection.
-    fn none() -> U64Place
-        ensures { result ≡ record { status = outside; page = 0; place = 0 } }
-    {
-        U64Place {
-            status: OUTSIDE,
-            page: 0,
-            place: 0,
-        }
-    }
-}
-
-impl U64Range {
-    /// Returns a result.
-    fn some(first: u64, end: u64) -> U64Range
-        ensures { result ≡ record { status = 0; first = first; end = end } }
-    {
-        U64Range {
-            status: ANSWER,
-            first,
-            end,
-        }
-    }
-
-    /// Returns the rejection.
-    fn none() -> U64Range
-        ensures { result ≡ record { status = outside; first = 0; end = 0 } }
-    {
-        U64Range {
-            status: OUTSIDE,
-            first: 0,
-            end: 0,
-        }
-    }
 }

@@ -7,7 +7,7 @@ ghost use Rattle.cellarcove_c.specs.Answers.{Answers, Refuses};
 ghost use Rattle.cellarcove_c.specs.Roots.{IsRootWithRest};
 ghost use Rattle.cellarcove_c.specs.Statuses.{StatusIs, answer_of, outside};
 
-use crate::answers::{OUTSIDE, U64Answer, with_status};
+use crate::answers::{ANSWER, OUTSIDE, U64Answer};
 use crate::square_roots::floor_square_root;
 use applied::powers::{checked, is_perfect_power, is_power, is_square};
 
@@ -90,12 +90,16 @@ pub extern "C" fn cellarcove_sqrt_rem_i64(x: i64) -> I64Root
     ensures { Answers {A = ℤ × ℤ} (pos 0 ≤ℤ x) (λ (root, rest). IsRootWithRest x root rest)
         (StatusIs outside) (pos 0, pos 0) result.status (result.root, result.rest) }
 {
-    I64Root::of(if x < 0 {
-        None
+    let (status, (root, rest)) = if x < 0 {
+        (OUTSIDE, (0, 0))
     } else {
-        let (root, rest) = root_with_rest(x as u64);
-        Some((root as i64, rest as i64))
-    })
+        (ANSWER, root_with_rest(x as u64))
+    };
+    I64Root {
+        status,
+        root: root as i64,
+        rest: rest as i64,
+    }
 }
 
 /// Returns the square root rounded down, and what is left: `x` minus the square of the root. Those of 99 are 9
@@ -107,7 +111,12 @@ pub extern "C" fn cellarcove_sqrt_rem_u64(x: u64) -> U64Root
         (StatusIs outside) (0, 0) result.status (result.root, result.rest) }
     ensures always { result.status ≡ 0 }
 {
-    U64Root::of(Some(root_with_rest(x)))
+    let (root, rest) = root_with_rest(x);
+    U64Root {
+        status: ANSWER,
+        root,
+        rest,
+    }
 }
 
 /// Returns the logarithm rounded down: the largest degree of a power of `base` that is at most `x`. For
@@ -132,29 +141,6 @@ pub extern "C" fn cellarcove_ilog_u64(x: u64, base: u64) -> U64Answer
         (StatusIs outside) 0 result.status result.value }
 {
     logarithm(checked::ilog(x, base))
-}
-
-impl I64Root {
-    /// Returns the result of a call of `applied::powers::checked`.
-    fn of(option: Option<(i64, i64)>) -> I64Root
-        ensures answer { answer_of result.status (result.root, result.rest) ≡ option }
-        ensures refusal { Refuses {A = ℤ × ℤ} (StatusIs outside) (pos 0, pos 0)
-            result.status (result.root, result.rest) }
-    {
-        let (status, (root, rest)) = with_status(option, (0, 0), OUTSIDE);
-        I64Root { status, root, rest }
-    }
-}
-
-impl U64Root {
-    /// Returns the result of a call of `applied::powers::checked`.
-    fn of(option: Option<(u64, u64)>) -> U64Root
-        ensures answer { answer_of result.status (result.root, result.rest) ≡ option }
-        ensures refusal { Refuses {A = ℕ × ℕ} (StatusIs outside) (0, 0) result.status (result.root, result.rest) }
-    {
-        let (status, (root, rest)) = with_status(option, (0, 0), OUTSIDE);
-        U64Root { status, root, rest }
-    }
 }
 
 /// Returns the square root rounded down, and what is left. Those of 99 are 9 and 18.

@@ -2,9 +2,7 @@
 //! Numbers that solve one or two congruences, and congruent numbers from one on, up to another or
 //! between two.
 
-use crate::answers::{
-    with_status, I64Answer, U64Answer, ANSWER, BAD_MODULUS, NOT_FITTING, NO_SOLUTION,
-};
+use crate::answers::{with_status, I64Answer, U64Answer, BAD_MODULUS, NOT_FITTING, NO_SOLUTION};
 use crate::modulo::reason_for_modulus;
 use cellarcove::modular::{
     checked, chinese_remainder, next_common_solution, solutions, CommonSolution, Congruence,
@@ -37,12 +35,15 @@ pub struct U64Solutions {
 /// `BAD_MODULUS` if `m` is not positive. `NO_SOLUTION` if there is no such number.
 #[unsafe(no_mangle)]
 pub extern "C" fn cellarcove_solutions_i64(a: i64, b: i64, m: i64) -> I64Solutions {
-    if m <= 0 {
-        return I64Solutions::none(BAD_MODULUS);
-    }
-    match solutions(a, b, m) {
-        Some((first, step)) => I64Solutions::some(first, step),
-        None => I64Solutions::none(NO_SOLUTION),
+    let (status, (first, step)) = if m <= 0 {
+        (BAD_MODULUS, (0, 0))
+    } else {
+        with_status(solutions(a, b, m), (0, 0), NO_SOLUTION)
+    };
+    I64Solutions {
+        status,
+        first,
+        step,
     }
 }
 
@@ -52,12 +53,15 @@ pub extern "C" fn cellarcove_solutions_i64(a: i64, b: i64, m: i64) -> I64Solutio
 /// `BAD_MODULUS` if `m` is 0. `NO_SOLUTION` if there is no such number.
 #[unsafe(no_mangle)]
 pub extern "C" fn cellarcove_solutions_u64(a: u64, b: u64, m: u64) -> U64Solutions {
-    if m == 0 {
-        return U64Solutions::none(BAD_MODULUS);
-    }
-    match solutions(a, b, m) {
-        Some((first, step)) => U64Solutions::some(first, step),
-        None => U64Solutions::none(NO_SOLUTION),
+    let (status, (first, step)) = if m == 0 {
+        (BAD_MODULUS, (0, 0))
+    } else {
+        with_status(solutions(a, b, m), (0, 0), NO_SOLUTION)
+    };
+    U64Solutions {
+        status,
+        first,
+        step,
     }
 }
 
@@ -267,46 +271,6 @@ pub extern "C" fn cellarcove_next_common_solution_u64(
             modulus: n,
         },
     ))
-}
-
-impl I64Solutions {
-    /// Returns a result.
-    pub(crate) fn some(first: i64, step: i64) -> I64Solutions {
-        I64Solutions {
-            status: ANSWER,
-            first,
-            step,
-        }
-    }
-
-    /// Returns a rejection.
-    pub(crate) fn none(status: u32) -> I64Solutions {
-        I64Solutions {
-            status,
-            first: 0,
-            step: 0,
-        }
-    }
-}
-
-impl U64Solutions {
-    /// Returns a result.
-    pub(crate) fn some(first: u64, step: u64) -> U64Solutions {
-        U64Solutions {
-            status: ANSWER,
-            first,
-            step,
-        }
-    }
-
-    /// Returns a rejection.
-    pub(crate) fn none(status: u32) -> U64Solutions {
-        U64Solutions {
-            status,
-            first: 0,
-            step: 0,
-        }
-    }
 }
 
 /// Returns the status of the numbers that solve both congruences, and the numbers as a congruence.

@@ -2,7 +2,7 @@
 //! Common divisors and multiples.
 
 use crate::answers::{with_status, I64Answer, U64Answer, ANSWER, NOT_FITTING};
-use cellarcove::{checked, ExtendedGcd};
+use cellarcove::checked;
 
 /// A status, and the greatest common divisor with its coefficients.
 #[repr(C)]
@@ -93,29 +93,17 @@ pub extern "C" fn cellarcove_gcd_lcm_u64(x: u64, y: u64) -> U64GcdLcm {
 #[unsafe(no_mangle)]
 pub extern "C" fn cellarcove_extended_gcd_i64(x: i64, y: i64) -> I64Bezout {
     match checked::extended_gcd(x, y) {
-        Some(e) => I64Bezout::some(e),
-        None => I64Bezout::none(),
-    }
-}
-
-impl I64Bezout {
-    /// Returns a result.
-    fn some(e: ExtendedGcd<i64>) -> I64Bezout {
-        I64Bezout {
+        Some(e) => I64Bezout {
             status: ANSWER,
             gcd: e.gcd,
             x: e.x,
             y: e.y,
-        }
-    }
-
-    /// Returns the rejection.
-    fn none() -> I64Bezout {
-        I64Bezout {
+        },
+        None => I64Bezout {
             status: NOT_FITTING,
             gcd: 0,
             x: 0,
             y: 0,
-        }
+        },
     }
 }

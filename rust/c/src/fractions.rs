@@ -127,7 +127,16 @@ pub extern "C" fn cellarcove_fraction_times(a: Fraction, n: i64, d: i64) -> Frac
 /// not fit.
 #[unsafe(no_mangle)]
 pub extern "C" fn cellarcove_fraction_cmp(a: Fraction, b: Fraction) -> OrderAnswer {
-    order(a.reduced(), b.reduced())
+    match order(a.reduced(), b.reduced()) {
+        Ok(order) => OrderAnswer {
+            status: ANSWER,
+            order: number_of_order(order),
+        },
+        Err(error) => OrderAnswer {
+            status: error.number(),
+            order: 0,
+        },
+    }
 }
 
 /// Returns the nearest fraction whose denominator is at most `max`, of those equally near the one
@@ -179,16 +188,6 @@ impl FractionAnswer {
         FractionAnswer {
             status,
             value: Fraction { num: 0, den: 0 },
-        }
-    }
-}
-
-impl OrderAnswer {
-    /// Returns a rejection.
-    fn none(error: RatioError) -> OrderAnswer {
-        OrderAnswer {
-            status: error.number(),
-            order: 0,
         }
     }
 }
@@ -247,18 +246,12 @@ fn times(a: Result<Ratio, RatioError>, n: i64, d: i64) -> Result<Ratio, RatioErr
     a?.checked_times(n, d)
 }
 
-/// Returns the order of two fractions, or the status of the first error.
-fn order(a: Result<Ratio, RatioError>, b: Result<Ratio, RatioError>) -> OrderAnswer {
-    match a {
-        Ok(x) => match b {
-            Ok(y) => OrderAnswer {
-                status: ANSWER,
-                order: number_of_order(x.cmp(&y)),
-            },
-            Err(error) => OrderAnswer::none(error),
-        },
-        Err(error) => OrderAnswer::none(error),
-    }
+/// Returns the order of two fractions, or the first error.
+fn order(
+    a: Result<Ratio, RatioError>,
+    b: Result<Ratio, RatioError>,
+) -> Result<Ordering, RatioError> {
+    Ok(a?.cmp(&b?))
 }
 
 /// Returns the number of an order.

@@ -72,11 +72,15 @@ pub extern "C" fn cellarcove_pages_u64(items: u64, page_size: u64) -> U64Answer 
 /// `OUTSIDE` if `page_size` is not positive.
 #[unsafe(no_mangle)]
 pub extern "C" fn cellarcove_place_of_i64(item: i64, page_size: i64) -> I64Place {
-    if page_size > 0 {
-        let (page, place) = place_of(item, page_size);
-        I64Place::some(page, place)
+    let (status, (page, place)) = if page_size > 0 {
+        (ANSWER, place_of(item, page_size))
     } else {
-        I64Place::none()
+        (OUTSIDE, (0, 0))
+    };
+    I64Place {
+        status,
+        page,
+        place,
     }
 }
 
@@ -86,11 +90,15 @@ pub extern "C" fn cellarcove_place_of_i64(item: i64, page_size: i64) -> I64Place
 /// `OUTSIDE` if `page_size` is 0.
 #[unsafe(no_mangle)]
 pub extern "C" fn cellarcove_place_of_u64(item: u64, page_size: u64) -> U64Place {
-    if page_size > 0 {
-        let (page, place) = place_of(item, page_size);
-        U64Place::some(page, place)
+    let (status, (page, place)) = if page_size > 0 {
+        (ANSWER, place_of(item, page_size))
     } else {
-        U64Place::none()
+        (OUTSIDE, (0, 0))
+    };
+    U64Place {
+        status,
+        page,
+        place,
     }
 }
 
@@ -124,11 +132,12 @@ pub extern "C" fn cellarcove_item_at_u64(page: u64, place: u64, page_size: u64) 
 /// `OUTSIDE` if `page_size` is not positive or `items` is negative.
 #[unsafe(no_mangle)]
 pub extern "C" fn cellarcove_range_of_page_i64(page: i64, page_size: i64, items: i64) -> I64Range {
-    if page_size <= 0 || items < 0 {
-        return I64Range::none();
-    }
-    let (first, end) = range_of_page(page, page_size, items);
-    I64Range::some(first, end)
+    let (status, (first, end)) = if !are_pages(page_size, items) {
+        (OUTSIDE, (0, 0))
+    } else {
+        (ANSWER, range_of_page(page, page_size, items))
+    };
+    I64Range { status, first, end }
 }
 
 /// Returns the first item of a page and its end, which is one past its last item, if there are
@@ -138,11 +147,12 @@ pub extern "C" fn cellarcove_range_of_page_i64(page: i64, page_size: i64, items:
 /// `OUTSIDE` if `page_size` is 0.
 #[unsafe(no_mangle)]
 pub extern "C" fn cellarcove_range_of_page_u64(page: u64, page_size: u64, items: u64) -> U64Range {
-    if page_size == 0 {
-        return U64Range::none();
-    }
-    let (first, end) = range_of_page(page, page_size, items);
-    U64Range::some(first, end)
+    let (status, (first, end)) = if page_size == 0 {
+        (OUTSIDE, (0, 0))
+    } else {
+        (ANSWER, range_of_page(page, page_size, items))
+    };
+    U64Range { status, first, end }
 }
 
 /// Returns the first item of a part and its end, which is one past its last item, if `items` items
@@ -152,11 +162,12 @@ pub extern "C" fn cellarcove_range_of_page_u64(page: u64, page_size: u64, items:
 /// `OUTSIDE` if `part` or `items` is negative, or `part` is not below `parts`.
 #[unsafe(no_mangle)]
 pub extern "C" fn cellarcove_range_of_part_i64(part: i64, parts: i64, items: i64) -> I64Range {
-    if !is_part(part, parts, items) {
-        return I64Range::none();
-    }
-    let (first, end) = range_of_part(part, parts, items);
-    I64Range::some(first, end)
+    let (status, (first, end)) = if !is_part(part, parts, items) {
+        (OUTSIDE, (0, 0))
+    } else {
+        (ANSWER, range_of_part(part, parts, items))
+    };
+    I64Range { status, first, end }
 }
 
 /// Returns the first item of a part and its end, which is one past its last item, if `items` items
@@ -166,94 +177,20 @@ pub extern "C" fn cellarcove_range_of_part_i64(part: i64, parts: i64, items: i64
 /// `OUTSIDE` if `part` is not below `parts`.
 #[unsafe(no_mangle)]
 pub extern "C" fn cellarcove_range_of_part_u64(part: u64, parts: u64, items: u64) -> U64Range {
-    if parts <= part {
-        return U64Range::none();
-    }
-    let (first, end) = range_of_part(part, parts, items);
-    U64Range::some(first, end)
+    let (status, (first, end)) = if parts <= part {
+        (OUTSIDE, (0, 0))
+    } else {
+        (ANSWER, range_of_part(part, parts, items))
+    };
+    U64Range { status, first, end }
+}
+
+/// Returns `true` if there are pages of such a size for so many items.
+fn are_pages(page_size: i64, items: i64) -> bool {
+    0 < page_size && 0 <= items
 }
 
 /// Returns `true` if there is such a part of so many parts and items.
 fn is_part(part: i64, parts: i64, items: i64) -> bool {
     0 <= part && part < parts && 0 <= items
-}
-
-impl I64Place {
-    /// Returns a result.
-    fn some(page: i64, place: i64) -> I64Place {
-        I64Place {
-            status: ANSWER,
-            page,
-            place,
-        }
-    }
-
-    /// Returns the rejection.
-    fn none() -> I64Place {
-        I64Place {
-            status: OUTSIDE,
-            page: 0,
-            place: 0,
-        }
-    }
-}
-
-impl I64Range {
-    /// Returns a result.
-    fn some(first: i64, end: i64) -> I64Range {
-        I64Range {
-            status: ANSWER,
-            first,
-            end,
-        }
-    }
-
-    /// Returns the rejection.
-    fn none() -> I64Range {
-        I64Range {
-            status: OUTSIDE,
-            first: 0,
-            end: 0,
-        }
-    }
-}
-
-impl U64Place {
-    /// Returns a result.
-    fn some(page: u64, place: u64) -> U64Place {
-        U64Place {
-            status: ANSWER,
-            page,
-            place,
-        }
-    }
-
-    /// Returns the rejection.
-    fn none() -> U64Place {
-        U64Place {
-            status: OUTSIDE,
-            page: 0,
-            place: 0,
-        }
-    }
-}
-
-impl U64Range {
-    /// Returns a result.
-    fn some(first: u64, end: u64) -> U64Range {
-        U64Range {
-            status: ANSWER,
-            first,
-            end,
-        }
-    }
-
-    /// Returns the rejection.
-    fn none() -> U64Range {
-        U64Range {
-            status: OUTSIDE,
-            first: 0,
-            end: 0,
-        }
-    }
 }

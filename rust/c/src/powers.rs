@@ -2,7 +2,7 @@
 //! Tests of squares and of other powers of integers, square roots with what is left, and
 //! logarithms.
 
-use crate::answers::{with_status, U64Answer, OUTSIDE};
+use crate::answers::{U64Answer, ANSWER, OUTSIDE};
 use crate::square_roots::floor_square_root;
 use cellarcove::applied::powers::{checked, is_perfect_power, is_power, is_square};
 
@@ -73,19 +73,28 @@ pub extern "C" fn cellarcove_is_perfect_power_u64(x: u64) -> bool {
 /// `OUTSIDE` if `x` is negative.
 #[unsafe(no_mangle)]
 pub extern "C" fn cellarcove_sqrt_rem_i64(x: i64) -> I64Root {
-    I64Root::of(if x < 0 {
-        None
+    let (status, (root, rest)) = if x < 0 {
+        (OUTSIDE, (0, 0))
     } else {
-        let (root, rest) = root_with_rest(x as u64);
-        Some((root as i64, rest as i64))
-    })
+        (ANSWER, root_with_rest(x as u64))
+    };
+    I64Root {
+        status,
+        root: root as i64,
+        rest: rest as i64,
+    }
 }
 
 /// Returns the square root rounded down, and what is left: `x` minus the square of the root. Those
 /// of 99 are 9 and 18, and those of 2^64 - 1 are 4294967295 and 8589934590.
 #[unsafe(no_mangle)]
 pub extern "C" fn cellarcove_sqrt_rem_u64(x: u64) -> U64Root {
-    U64Root::of(Some(root_with_rest(x)))
+    let (root, rest) = root_with_rest(x);
+    U64Root {
+        status: ANSWER,
+        root,
+        rest,
+    }
 }
 
 /// Returns the logarithm rounded down: the largest degree of a power of `base` that is at most `x`.
@@ -104,22 +113,6 @@ pub extern "C" fn cellarcove_ilog_i64(x: i64, base: i64) -> U64Answer {
 #[unsafe(no_mangle)]
 pub extern "C" fn cellarcove_ilog_u64(x: u64, base: u64) -> U64Answer {
     logarithm(checked::ilog(x, base))
-}
-
-impl I64Root {
-    /// Returns the result of a call of `applied::powers::checked`.
-    fn of(option: Option<(i64, i64)>) -> I64Root {
-        let (status, (root, rest)) = with_status(option, (0, 0), OUTSIDE);
-        I64Root { status, root, rest }
-    }
-}
-
-impl U64Root {
-    /// Returns the result of a call of `applied::powers::checked`.
-    fn of(option: Option<(u64, u64)>) -> U64Root {
-        let (status, (root, rest)) = with_status(option, (0, 0), OUTSIDE);
-        U64Root { status, root, rest }
-    }
 }
 
 /// Returns the square root rounded down, and what is left. Those of 99 are 9 and 18.

@@ -2,7 +2,7 @@ use Rattle.cellarcove_c.proofs.Common.{arith, to_z-of_z}
 use Rattle.cellarcove_c.proofs.divisors.cellarcove_extended_gcd_i64.Goals as goal
 
 pub returns-in-Some : goal.returns-in-Some
-returns-in-Some c = rw c.some.ensures (grind (arith, to_z-of_z))
+returns-in-Some c = grind (arith, to_z-of_z)
 
 pub returns-in-None : goal.returns-in-None
-returns-in-None c = rw c.none.ensures (grind (arith, to_z-of_z))
+returns-in-None c = grind (arith, to_z-of_z)
