@@ -76,9 +76,9 @@ quotient_of_double f n d s up small above rounded =
     let small : n ≤ 2 ^ 63 = omega (arith, small) in
     rw (double, halves) (rw (pow-add 2 63 s) at (shr-shr (f * n) 63 s) ∙ by_magnitude f n d s up small above rounded)
 
-pub quotient_up_to_half : (f n d s : ℕ) → 1 < d → n ≤ 2 ^ 63 → d ≤ 2 ^ s → f ≡ (2 ^ 63 * 2 ^ s - 1) / d + 1 → f * n / 2 ^ 64 / 2 ^ (s - 1) ≡ n / d
-quotient_up_to_half _ _ _ zero many _ above _ = omega (arith, many, above)
-quotient_up_to_half f n d (suc s) many small above rounded =
+pub wide_quotient : (f n d s : ℕ) → 1 < d → n ≤ 2 ^ 63 → d ≤ 2 ^ s → f ≡ (2 ^ 63 * 2 ^ s - 1) / d + 1 → f * n / 2 ^ 64 / 2 ^ (s - 1) ≡ n / d
+wide_quotient _ _ _ zero many _ above _ = omega (arith, many, above)
+wide_quotient f n d (suc s) many small above rounded =
     let less : suc s - 1 ≡ s = omega arith in
     let twice : 2 ^ 64 * 2 ^ s ≡ 2 ^ 63 * 2 ^ suc s = omega arith in
     let shifted : f * n / 2 ^ 64 / 2 ^ s ≡ f * n / (2 ^ 63 * 2 ^ suc s) = rw (pow-add 2 64 s, twice) at (shr-shr (f * n) 64 s) in

@@ -143,7 +143,7 @@ impl MagnitudeDivisor {
 
     /// Returns the quotient of a number up to 2^63 by a divisor other than 1, rounded down. Twice the number need not
     /// fit, so the shift is 1 less.
-    fn quotient_up_to_half(&self, n: u64) -> u64
+    fn wide_quotient(&self, n: u64) -> u64
         requires most { n ≤ 2 ^ 63 }
         requires other { 1 < self.now.divisor }
         ensures is { result ≡ n / self.now.divisor }
@@ -167,7 +167,7 @@ impl MagnitudeDivisor {
         ensures { IsQuotient IsFloored x (neg_ℤ (pos self.now.divisor)) result }
     {
         let sign = negative_unless_positive(x);
-        let quotient = self.quotient_up_to_half(bits_of(complement_if_negative(x.wrapping_sub(1), sign)));
+        let quotient = self.wide_quotient(bits_of(complement_if_negative(x.wrapping_sub(1), sign)));
         !complement_if_negative(quotient as i64, sign)
     }
 }

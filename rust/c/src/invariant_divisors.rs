@@ -134,7 +134,7 @@ impl MagnitudeDivisor {
 
     /// Returns the quotient of a number up to 2^63 by a divisor other than 1, rounded down. Twice
     /// the number need not fit, so the shift is 1 less.
-    fn quotient_up_to_half(&self, n: u64) -> u64 {
+    fn wide_quotient(&self, n: u64) -> u64 {
         high_product(self.multiplier, n) >> (self.shift - 1)
     }
 
@@ -148,8 +148,7 @@ impl MagnitudeDivisor {
     /// negation, or, if the number is positive, the complement of the quotient of 1 less.
     fn div_floor_by_negation(&self, x: i64) -> i64 {
         let sign = negative_unless_positive(x);
-        let quotient =
-            self.quotient_up_to_half(bits_of(complement_if_negative(x.wrapping_sub(1), sign)));
+        let quotient = self.wide_quotient(bits_of(complement_if_negative(x.wrapping_sub(1), sign)));
         !complement_if_negative(quotient as i64, sign)
     }
 }

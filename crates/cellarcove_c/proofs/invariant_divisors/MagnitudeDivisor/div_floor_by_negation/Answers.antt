@@ -10,5 +10,5 @@ returns c =
     let complement = rw sign_read at c.complement_if_negative.ensures in
     let complement_back = rw sign_read at c.complement_if_negative-2.ensures in
     let bits = rw (to_z-of_z w64 c.complement_if_negative.result (record { sfits = c.complement_if_negative.type_inv })) at c.bits_of.ensures in
-    negation_quotient c.args.x c.negative_unless_positive-sign.result c.complement_if_negative.result c.complement_if_negative-2.result c.bits_of.result c.quotient_up_to_half-quotient.result c.args.self.now.divisor
-    c.args.self.now.positive c.ranges.x (record { sfits = c.complement_if_negative-2.type_inv }) c.quotient_up_to_half-quotient.ensures.small sign complement.from_zero complement.below bits c.quotient_up_to_half-quotient.ensures.is complement_back.from_zero complement_back.below
+    negation_quotient c.args.x c.negative_unless_positive-sign.result c.complement_if_negative.result c.complement_if_negative-2.result c.bits_of.result c.wide_quotient-quotient.result c.args.self.now.divisor
+    c.args.self.now.positive c.ranges.x (record { sfits = c.complement_if_negative-2.type_inv }) c.wide_quotient-quotient.ensures.small sign complement.from_zero complement.below bits c.wide_quotient-quotient.ensures.is complement_back.from_zero complement_back.below
