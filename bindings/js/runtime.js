@@ -39,7 +39,7 @@ function shown(x) {
 
 const wrong = (seen, x, words) => new TypeError(`${seen.call}: ${named(seen)} is ${shown(x)}, ${words}`);
 
-/** Takes down a refusal, if it is the first. */
+/** Keeps the first refusal. */
 function refuse(seen, status, words) {
   if (seen.status === 0) [seen.status, seen.words] = [status, words];
 }
@@ -291,7 +291,7 @@ var RESULT, ROOM, RESULT_WORD, ROOM_WORD, WORDS, view, I64, U64, I32, U32, U8;
 /** An address or a length, as the module takes it. */
 let word;
 
-/** Grows the memory, if it has to end behind a place. */
+/** Grows the memory to end behind a place. */
 function reach(end) {
   const lacking = end - exports.memory.buffer.byteLength;
   const pages = Math.ceil(lacking / 65536);
@@ -365,7 +365,7 @@ function fitting(x, kind, seen) {
 
 // ---- calls
 
-/** What reads the number of a place, by an array if there is one. */
+/** What reads the number of a place, or of an array. */
 function readerAt(kind, at) {
   const get = GET[kind], index = at / SIZES[kind];
   return IS_LITTLE && {i64: () => I64[index], u64: () => U64[index], i32: () => I32[index], u8: () => U8[index]}[kind] || (() => get(at));
@@ -518,7 +518,7 @@ const shortKind = ({kind, item}) => item ? {i64: LIST, u64: LIST + 1, u8: BYTES}
 
 const plans = new Map();
 
-/** What a call knows of its forms. Its short way takes a plan and `count` arguments, and returns whether there is a result, in `value`. */
+/** The forms of a call. Its short way takes a plan and `count` arguments, and returns whether there is a result, in `value`. */
 function planOf(row) {
   const found = plans.get(row);
   if (found) return found;
@@ -706,7 +706,7 @@ function listed(row, many, given) {
   return [planOf(many), given.length === 1 && typeof given[0] === 'object' && given[0] !== null ? given : [given]];
 }
 
-/** A call whose arguments the short way has not taken. */
+/** A call that the short way has not taken. */
 function slowly(name, row, many, ...given) {
   const [plan, taken] = listed(row, many, given);
   if (plan.takesArrays && taken.some((x, place) => hasColumns(x, plan.parameters[place]))) return ofArrays(name, plan, taken);
@@ -840,7 +840,7 @@ function fillSlowly({raw, parameters, leaves, inMemory, hasStatus, result}, colu
 
 // ---- the module is looked at when it is loaded
 
-// One call of each shape, with its result. A compiler below Rust 1.89 passes structs in another way than the table has it.
+// One call of each shape, with its result. Rust below 1.89 passes structs in another way.
 const SHAPES = [[rows.gcd, '6', 12n, 18n], [rows.divModFloor, '-3,1', -8n, 3n], [rows.fractionAdd, '5/6', [1n, 2n], [1n, 3n]],
   [rows.fractionCmp, '-1', [1n, 3n], [1n, 2n]], [rows.plusMonths, '2024-02-29', '2024-01-31', 1n], [rows.weekday, '4', 0n], [rows.easter, '2024-03-31', 2024n],
   [rows.sumOf, '3', [1n, 2n]], [rows.shares, '2,1', 3n, [2n, 1n]], [rows.fractionFromText, '3/2', '6/4']];

@@ -35,8 +35,8 @@ JOBS = 2
 SECONDS = '300'                                 # for a build and the calls of a program
 # The clauses of its traits.
 OF_TRAITS = {'add_gives', 'cmp', 'eq', 'from_gives', 'from_str_gives', 'from_str_radix_gives',
-             'is_default', 'mul_gives', 'neg_gives', 'output', 'partial_cmp', 'rem_gives', 'steps',
-             'sub_gives', 'try_from_gives'}
+             'hash_input', 'is_default', 'mul_gives', 'neg_gives', 'output', 'partial_cmp',
+             'rem_gives', 'steps', 'sub_gives', 'try_from_gives'}
 TABLES = tomllib.loads((PRELUDE / 'preludes.toml').read_text())
 TEMPLATES = PRELUDE.parent / 'templates'
 # What the library of Rattle has otherwise than that of Rust: imports of these are dropped, and

@@ -28,7 +28,8 @@ ERROR = re.compile(r'(?:\./)?proofs/(\S+)/\w+\.antt:\d+:\d+: error: (?:`[^`]*`: 
 
 
 class Mutant(NamedTuple):
-    """A mutant: the name that `rt` has for its function, the file, and the lines by numbers."""
+    """A mutant: the end of the name that `rt` has for its function, the file, and the lines by
+    numbers. A method's name has the module of its type, which may be another, so it is left out."""
     edit: Path
     function: str
     file: str
@@ -43,10 +44,12 @@ def without_brackets(text: str) -> str:
 
 def owner(head: str) -> str:
     """The name of an impl, as `rt` makes it of its type and its trait."""
+    of_type = re.search(r'<(\w\w+)> for ', head)
     head = re.split(r'\{|\bwhere\b|\brequires\b', without_brackets(head))[0]
     first, second = (re.findall(r'\w+', part)[-1:] for part in head.partition(' for ')[::2])
-    kind = ''.join(second)
-    return ('Any' if len(kind) == 1 else kind[:1].upper() + kind[1:]) + ''.join(first)
+    kind, last = ''.join(second), of_type[1] if of_type else ''
+    names = ['Any' if len(kind) == 1 else kind, *first, last]
+    return ''.join(name[:1].upper() + name[1:] for name in names)
 
 
 def function_at(lines: list[str], number: int) -> str | None:
@@ -89,7 +92,7 @@ def read(crate: Path, edit: Path) -> Mutant | None:
         return None
     module = [part for part in Path(file).with_suffix('').parts[1:] if part != 'mod']
     parts = [crate.name, *([] if module in (['lib'], ['main']) else module), function]
-    return Mutant(edit, '::'.join(parts), file, lines)
+    return Mutant(edit, function if '::' in function else '::'.join(parts), file, lines)
 
 
 def rounds(mutants: list[Mutant]) -> list[list[Mutant]]:
@@ -102,15 +105,15 @@ def rounds(mutants: list[Mutant]) -> list[list[Mutant]]:
     return [[*each.values()] for each in found]
 
 
-def own_faults(said: str, functions: set[str]) -> dict[str, str]:
+def own_faults(said: str, crate: str, functions: set[str]) -> dict[str, str]:
     """The first line that says of a goal of a function that it is not proved, by the functions."""
-    folders = {function.partition('::')[2].replace('::', '/'): function for function in functions}
     found = dict[str, str]()
     for line in said.splitlines():
         error, unproved = ERROR.match(line), UNPROVED.match(line)
-        name = folders.get(error[1]) if error else unproved[1] if unproved else None
-        if name in functions and not (error and SILENT.search(error[2])):
-            found.setdefault(name, line)
+        name = unproved[1] if unproved else ''
+        if error and not SILENT.search(error[2]):
+            name = f'{crate}/{error[1]}'.replace('/', '::')
+        found = {each: line for each in functions if f'::{name}'.endswith(f'::{each}')} | found
     return found
 
 
@@ -126,14 +129,16 @@ def check(crate: Path, mutants: list[Mutant]) -> dict[str, str]:
         (crate / file).write_text('\n'.join(lines))
     only = [word for mutant in mutants for word in ('--only', mutant.function)]
     ran = subprocess.run(['rt', 'check', '--jobs', '1', *only], cwd=crate, text=True,
-                         capture_output=True, check=False)
+                         stdout=subprocess.PIPE, stderr=subprocess.STDOUT, check=False)
     for file, text in texts.items():
         (crate / file).write_text(text)
     if re.search(r'^only=\d+ proved=\d+$', ran.stdout, re.M):
-        return own_faults(ran.stdout, {mutant.function for mutant in mutants})
-    # One that does not compile hides the others.
-    half = len(mutants) // 2
-    return check(crate, mutants[:half]) | check(crate, mutants[half:]) if half else {}
+        return own_faults(ran.stdout, crate.name, {mutant.function for mutant in mutants})
+    # A name that is not the prover's hides the others, and so does one that does not compile.
+    named = [each for each in mutants if f'no function `{each.function}`' not in ran.stdout]
+    half = len(named) // 2 if len(named) == len(mutants) else 0
+    parts = [named[:half], named[half:]] if len(mutants) > 1 else []
+    return {name: fault for part in parts if part for name, fault in check(crate, part).items()}
 
 
 def main(crate: Path, edits: list[Path]) -> None:

@@ -35,7 +35,7 @@ def folder(tmp_path: Path) -> Path:
 
 
 @pytest.mark.parametrize('old, new, function', [
-    ('        self', '        other', 'low::pair::PairAdd::add'),
+    ('        self', '        other', 'PairAdd::add'),
     ('    0', '    1', 'low::pair::zero'), ('    1', '    2', None),
     ('result ≡ 0', 'result ≡ 1', None),
     ('= size();', '= 2;', None)])
@@ -65,4 +65,5 @@ def test_rounds() -> None:
     ('fn c::a::f: could not tell', False), ('fn c::a::f: proved', False)])
 def test_faults(said: str, is_fault: bool) -> None:
     """Only a goal of the function itself counts."""
-    assert own_faults(f'first\n{said}\n', {'c::a::f'}) == ({'c::a::f': said} if is_fault else {})
+    found = own_faults(f'first\n{said}\n', 'c', {'c::a::f'})
+    assert found == ({'c::a::f': said} if is_fault else {})
