@@ -35,14 +35,19 @@ SECONDS = '20'                                  # that they may take
 ENDLESS = 'a test does not end'
 # The forms that mean the same, by the file of the guard and what it panics with: with the reason.
 MODULUS = 'the modulus is not positive'
+CONGRUENCES = 'modular/several_congruences.rs'
+ONE_MODULUS = 'a modulus is not positive'
 LATER = 'a later guard panics so too'
 SAME = {
     ('integer_core/guards.rs', '',
      '(number >= T::zero() || number == crate::taken_out::minus_one()) '
      '&& number.magnitude() == magnitude'): 'no number of magnitude 1 is made of another magnitude',
-    ('rolling_hash.rs', MODULUS, ''): LATER,
-    ('rolling_hash.rs', MODULUS, 'modulus >= 0'): LATER,
-    ('rolling_hash.rs', MODULUS, 'base > 0'): LATER}
+    ('applied/rolling_hash.rs', MODULUS, ''): LATER,
+    ('applied/rolling_hash.rs', MODULUS, 'modulus >= 0'): LATER,
+    ('applied/rolling_hash.rs', MODULUS, 'base > 0'): LATER,
+    (CONGRUENCES, ONE_MODULUS, ''): LATER,
+    (CONGRUENCES, ONE_MODULUS, '&congruences[congruences.len().min(1)..]'): LATER,
+    (CONGRUENCES, ONE_MODULUS, '&congruences[..congruences.len().saturating_sub(1)]'): LATER}
 FEW = 8                                         # of so many guards of a kind, one is in the sample
 
 
