@@ -16,6 +16,7 @@ PARAMETERS = {'from': 'start', 'to': 'end', 'max': 'max_denominator'}
 OF_MANY = ('gcd', 'lcm')  # which take any count of numbers
 WEEKDAY = 'weekday'        # the parameter that may be a `Weekday`
 WRITTEN = 'count'          # the parameter in place of an array that is written
+TAKEN = 'PyObject *const *args, Py_ssize_t given'  # what a function of several arguments takes
 ROWS = (ROOT / 'bindings/python/tests/rows.txt').read_text().rpartition('\n\n')[2]
 
 LETTERS = {'i64': 'q', 'u64': 'Q', 'u32': 'I', 'u16': 'H', 'u8': 'B', 'i32': 'i', 'bool': '?'}
@@ -113,9 +114,13 @@ def object_of(call: Call) -> str:
     items = [f'{OBJECTS[kind]}(r{path})' for path, kind in results(call)]
     if call.result in whole or len(items) == 1:
         return whole.get(call.result, items[0])
-    made = f'Py_BuildValue("({"N" * len(items)})", {", ".join(items)})'
+    kinds = {kind for _, kind in results(call)}
+    assert 'u64' not in kinds or kinds == {'u64'}, f'{call.symbol}: numbers of both signs'
+    numbers = ', '.join(f'(uint64_t)r{path}' for path, _ in results(call))
+    are_signed = 'false' if 'u64' in kinds else 'true'
+    made = f'{len(items)}, (const uint64_t[]){{{numbers}}}, {are_signed}'
     return next((f'object_of({name}, {made})' for end, (name, _) in CLASSES.items()
-                 if end in call.result), made)
+                 if end in call.result), f'tuple_of({made})')
 
 
 def form_text(call: Call) -> str:
@@ -242,33 +247,45 @@ def call_text(name: str, forms: list[Call]) -> str:
     """The entry of a call, and its function."""
     call, ends = forms[0], (forms[0], forms[-1])
     of_many = filled('of_many.c', name=name) if name in OF_MANY else ''
-    return filled('call.c', name=name, count=str(len(shapes(call))),
-                  names=quoted(parameter_names(call)), shapes=shapes(call),
-                  of_numbers='true' if set(shapes(call)) <= {'n', 'w'} else 'false',
-                  divides=bools(divides(call)), of_many=of_many,
-                  forms=', '.join(f'&form_{form.symbol.removeprefix("cellarcove_")}'
-                                  for form in ends))
+    forms_of_it = ', '.join(f'&form_{form.symbol.removeprefix("cellarcove_")}' for form in ends)
+
+    def row(symbol: str, names: list[str], letters: str, of_parts: str) -> str:
+        return filled('row.c', symbol=symbol, name=name, count=str(len(letters)),
+                      names=quoted(names), shapes=letters,
+                      of_numbers='true' if set(letters) <= {'n', 'w'} else 'false',
+                      divides=bools(divides(call)), forms=forms_of_it, of_parts=of_parts)
+    parts = number_names(call) if names_of_one(call) else []
+    rows = row(f'parts_{name}', parts, 'n' * len(parts), 'NULL') if parts else ''
+    rows += row(f'call_{name}', parameter_names(call), shapes(call),
+                f'&parts_{name}' if parts else 'NULL')
+    return rows + filled('call.c', name=name, of_many=of_many)
 
 
 def list_text(name: str, forms: list[Call]) -> str:
     """The function of a call with a list, whose other parameters are numbers of the form."""
-    count, items = len(forms[0].parameters), [parameter.item for parameter in forms[0].parameters]
-    place, width = next((k, len(EXPORTS().leaves(item))) for k, item in enumerate(items) if item)
+    count, kinds = len(forms[0].parameters), [parameter.item for parameter in forms[0].parameters]
+    place, width = next((k, len(EXPORTS().leaves(kind))) for k, kind in enumerate(kinds) if kind)
     for form in forms:
         assert {parameter.kind for parameter in form.parameters
                 if not parameter.item} <= {form.form} and not form.writes, form
 
     def case(form: Call) -> str:
         number = f'({TYPES[LETTERS[form.form]]})other'
-        passed = ', '.join('of.items, (size_t)of.count' if parameter.item else number
-                           for parameter in form.parameters)
+        items = 'of.items, (size_t)of.count' + f' / {width}' * (width > 1)
+        passed = ', '.join(items if parameter.item else number for parameter in form.parameters)
         return filled('list_case.c', type=c_type(form.result), symbol=form.symbol, passed=passed,
                       object=OBJECTS[form.form])
     signed = f'\n    if (of.kind == \'q\') {{\n{case(forms[0])}    }}\n' if len(forms) == 2 else ''
-    parsed = f'!PyArg_ParseTuple(object, "OO:{name}", &given[0], &given[1]) || ' * (count > 1)
-    return filled('list.c', name=name, parsed=parsed, place=str(place), other=str(1 - place),
-                  width=str(width), has_signed='true' if len(forms) == 2 else 'false',
+    taken, given = (('PyObject *object', 'object, NULL') if count == 1 else
+                    (TAKEN, f'args[{place}], args[{1 - place}]'))
+    return filled('list.c', name=name, taken=taken, counted=counted(name, count) * (count > 1),
+                  given=given, width=str(width), has_signed='true' if len(forms) == 2 else 'false',
                   signed=signed, unsigned=case(forms[-1]))
+
+
+def counted(name: str, count: int) -> str:
+    """What a function that is given its arguments in an array asks first."""
+    return f'!has_count("{name}", given, {count}) || '
 
 
 def written_text(name: str, call: Call) -> str:
@@ -277,9 +294,9 @@ def written_text(name: str, call: Call) -> str:
     last = len(call.parameters) - 1
     assert call.parameters[-1].is_written and {parameter.item or parameter.kind
                                                for parameter in call.parameters} == {'u64'}, call
-    read = ', '.join(f'read_unsigned, &numbers[{k}]' for k in range(last + 1))
-    return filled('written.c', name=name, symbol=call.symbol, asked=ASKED[name],
-                  count=str(last + 1), last=str(last), letters='O&' * (last + 1), read=read,
+    read = ' || '.join(f"!read_number(args[{k}], 'Q', &numbers[{k}])" for k in range(last + 1))
+    return filled('written.c', name=name, taken=TAKEN, symbol=call.symbol, asked=ASKED[name],
+                  count=str(last + 1), last=str(last), read=counted(name, last + 1) + read,
                   passed=', '.join(f'(uint64_t)numbers[{k}]' for k in range(last)))
 
 
@@ -291,9 +308,9 @@ def method(name: str, forms: list[Call]) -> str:
                                                                                          '\n'))
     doc = '\n    '.join(f'"{line}\\n"' for line in lines)
     named = not forms[0].has_slice or len(forms[0].taken) < len(forms[0].parameters)
-    flags = 'METH_FASTCALL | METH_KEYWORDS' if named else 'METH_VARARGS' if len(
-        forms[0].parameters) > 1 else 'METH_O'
-    cast = '(PyCFunction)(void (*)(void))' * named
+    several = len(forms[0].parameters) > 1
+    flags = 'METH_FASTCALL' + ' | METH_KEYWORDS' * named if named or several else 'METH_O'
+    cast = '(PyCFunction)(void (*)(void))' * (named or several)
     return f'    {{"{name}", {cast}py_{name}, {flags},\n    {doc}}},\n'
 
 

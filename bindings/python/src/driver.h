@@ -19,7 +19,7 @@
 #define METH_FASTCALL 0x0080
 #endif
 
-enum { MAX_PARAMETERS = 6, MAX_CELLS = 6 };
+enum { MAX_PARAMETERS = 6, MAX_CELLS = 6, MAX_RESULTS = 4 };
 
 /* The number of a cell, or 2**64 or -2**64 for one that is in the range of no type. */
 __extension__ typedef __int128 cell;
@@ -32,7 +32,7 @@ typedef struct {
 } form;
 
 /* A call. If it has one form alone, that is both. */
-typedef struct {
+typedef struct call {
     const char *name;
     Py_ssize_t count;
     const char *names[MAX_PARAMETERS];
@@ -40,6 +40,7 @@ typedef struct {
     bool of_numbers;     /* whether each parameter is a number */
     const bool *divides; /* whether the call divides by the number of a cell */
     const form *of_signed, *of_unsigned;
+    const struct call *of_parts; /* with a name for each number of a pair, or NULL */
 } call;
 
 /* What the package installs. */
@@ -72,15 +73,20 @@ static PyObject *refused(uint32_t status, bool by_zero) {
 
 /* ---- numbers ---- */
 
+/* Whether an object is an `int`, so that no code runs when it is read. */
+static inline bool is_int(PyObject *object) {
+    return Py_TYPE(object) == &PyLong_Type || PyLong_Check(object);
+}
+
 /* Whether an object is an integer, and no array, which may have `__index__` too. */
 static bool is_integer(PyObject *object) {
-    return PyLong_Check(object) || (PyIndex_Check(object) && !PySequence_Check(object));
+    return is_int(object) || (PyIndex_Check(object) && !PySequence_Check(object));
 }
 
 /* Reads an integer. It is false after an error. */
-static inline int integer(PyObject *object, void *to) {
-    bool is_exact = Py_TYPE(object) == &PyLong_Type;
-    PyObject *number = is_exact ? object : PyNumber_Index(object);
+static inline bool integer(PyObject *object, cell *to) {
+    bool is_read = is_int(object);
+    PyObject *number = is_read ? object : PyNumber_Index(object);
     int overflow;
     if (number == NULL) {
         return false;
@@ -91,10 +97,10 @@ static inline int integer(PyObject *object, void *to) {
         found = overflow < 0 || PyErr_Occurred() ? overflow * ((cell)UINT64_MAX + 1) : large;
         PyErr_Clear();
     }
-    if (!is_exact) {
+    if (!is_read) {
         Py_DECREF(number);
     }
-    *(cell *)to = found;
+    *to = found;
     return true;
 }
 
@@ -113,31 +119,57 @@ static inline bool in_range(PyObject *object, cell number, char kind) {
            raised(PyObject_CallFunction(out_of_range, "OC", object, (int)kind)) != NULL;
 }
 
-/* Read a number of one type or the other, for `PyArg_ParseTuple`. */
-static int read_signed(PyObject *object, void *to) {
-    return integer(object, to) && in_range(object, *(cell *)to, 'q');
-}
-
-static int read_unsigned(PyObject *object, void *to) {
-    return integer(object, to) && in_range(object, *(cell *)to, 'Q');
+/* Reads a number of a type. It is false after an error. */
+static bool read_number(PyObject *object, char kind, cell *to) {
+    return integer(object, to) && in_range(object, *to, kind);
 }
 
 /* ---- results ---- */
 
-/* An object of a class whose base is a tuple, of a tuple that is given away. */
-static PyObject *object_of(PyObject *class, PyObject *items) {
-    PyObject *args = items == NULL ? NULL : PyTuple_Pack(1, items), *result = NULL;
-    if (args != NULL) {
-        result = new_tuple((PyTypeObject *)class, args, NULL);
-        Py_DECREF(args);
+/* Fills a tuple with numbers. It is false after an error, and if there is no tuple. */
+static bool fill(PyObject *tuple, uint64_t count, const uint64_t *numbers, bool are_signed) {
+    bool right = tuple != NULL;
+    for (uint64_t k = 0; right && k < count; k++) {
+        PyObject *number = are_signed ? PyLong_FromLongLong((int64_t)numbers[k])
+                                      : PyLong_FromUnsignedLongLong(numbers[k]);
+        right = number != NULL && PyTuple_SetItem(tuple, (Py_ssize_t)k, number) == 0;
     }
-    Py_XDECREF(items);
+    return right;
+}
+
+static PyObject *tuple_of(uint64_t count, const uint64_t *numbers, bool are_signed) {
+    PyObject *tuple = PyTuple_New((Py_ssize_t)count);
+    if (!fill(tuple, count, numbers, are_signed)) {
+        Py_CLEAR(tuple);
+    }
+    return tuple;
+}
+
+/* An object of a class whose base is a tuple. The tuple of which the last one was made is filled
+ * again, as `zip` does, unless something else has it. */
+static PyObject *object_of(PyObject *class, Py_ssize_t count, const uint64_t *numbers,
+                           bool are_signed) {
+    static PyObject *kept[MAX_RESULTS + 1];
+    PyObject *args = kept[count], *result = NULL;
+    if (args == NULL || Py_REFCNT(args) > 1 || Py_REFCNT(PyTuple_GetItem(args, 0)) > 1) {
+        args = Py_BuildValue("(N)", PyTuple_New(count));
+        Py_XDECREF(kept[count]);
+        kept[count] = args;
+    }
+    Py_XINCREF(args);
+    if (args != NULL && fill(PyTuple_GetItem(args, 0), (uint64_t)count, numbers, are_signed)) {
+        result = new_tuple((PyTypeObject *)class, args, NULL);
+    }
+    Py_XDECREF(args);
     return result;
 }
 
 static PyObject *fraction_of(cellarcove_fraction fraction) {
-    return PyObject_CallFunction(new_fraction, "LL", (long long)fraction.num,
-                                 (long long)fraction.den);
+    const uint64_t parts[] = {(uint64_t)fraction.num, (uint64_t)fraction.den};
+    PyObject *args = tuple_of(2, parts, true);
+    PyObject *result = args == NULL ? NULL : PyObject_CallObject(new_fraction, args);
+    Py_XDECREF(args);
+    return result;
 }
 
 /* The decimal number of its sign, its integer part, and its digits after the point, which are
@@ -177,9 +209,14 @@ static PyObject *date_of(cellarcove_date date) { return date_as((PyTypeObject *)
 
 static PyObject *date_new(PyTypeObject *class, PyObject *args, PyObject *named) {
     static char *names[] = {"year", "month", "day", NULL};
+    PyObject *parts[3];
     cell year, month, day;
-    if (!PyArg_ParseTupleAndKeywords(args, named, "O&O&O&:Date", names, read_signed, &year, integer,
-                                     &month, integer, &day)) {
+    bool right = named == NULL && PyTuple_Size(args) == 3
+                     ? PyArg_UnpackTuple(args, "Date", 3, 3, &parts[0], &parts[1], &parts[2])
+                     : PyArg_ParseTupleAndKeywords(args, named, "OOO:Date", names, &parts[0],
+                                                   &parts[1], &parts[2]);
+    if (!right || !read_number(parts[0], 'q', &year) || !integer(parts[1], &month) ||
+        !integer(parts[2], &day)) {
         return NULL;
     }
     cellarcove_date date = {(int64_t)year, (uint8_t)month, (uint8_t)day};
@@ -195,7 +232,7 @@ static PyObject *date_or_error(cellarcove_date_answer r) {
 
 /* Whether an object is an `int` that is a number of days, and no other one. */
 static bool is_days(PyObject *object, cell *days) {
-    return Py_TYPE(object) == &PyLong_Type && integer(object, days) && fits(*days, 'q');
+    return is_int(object) && integer(object, days) && fits(*days, 'q');
 }
 
 /* `date + days` or `days + date`. */
@@ -268,7 +305,7 @@ static PyType_Spec date_spec = {"cellarcove._calls._BaseDate", sizeof(date_objec
 
 /* ---- calls of numbers ---- */
 
-/* The numbers of a call: objects, which are owned, or NULL for one that is in its cell already. */
+/* The numbers of a call, and the objects of which they are read, which are owned, or NULL. */
 typedef struct {
     PyObject *objects[MAX_CELLS];
     cell cells[MAX_CELLS];
@@ -276,7 +313,7 @@ typedef struct {
 } numbers;
 
 /* Which number does not fit its cell of a form, or the count. */
-static Py_ssize_t misfit(const form *f, const numbers *found) {
+static inline Py_ssize_t misfit(const form *f, const numbers *found) {
     Py_ssize_t k = 0;
     while (k < found->count && fits(found->cells[k], f->cells[k])) {
         k++;
@@ -286,16 +323,12 @@ static Py_ssize_t misfit(const form *f, const numbers *found) {
 
 /* Runs a call of numbers. If none is negative it is the unsigned form, and the signed one if the
  * result of that does not fit, as a negative one does not. */
-static PyObject *run_one(const call *c, numbers *found) {
-    bool negative = false, by_zero = false;
+static PyObject *run_one(const call *c, const numbers *found) {
+    const form *f = c->of_unsigned;
+    bool by_zero = false;
     for (Py_ssize_t k = 0; k < found->count; k++) {
-        if (found->objects[k] != NULL && !integer(found->objects[k], &found->cells[k])) {
-            return NULL;
-        }
-        negative |= c->of_signed->cells[k] != c->of_unsigned->cells[k] && found->cells[k] < 0;
-        by_zero |= c->divides[k] && found->cells[k] == 0;
+        f = found->cells[k] < 0 && c->of_unsigned->cells[k] == 'Q' ? c->of_signed : f;
     }
-    const form *f = negative ? c->of_signed : c->of_unsigned;
     Py_ssize_t k = misfit(f, found);
     if (k < found->count && !in_range(found->objects[k], found->cells[k], f->cells[k])) {
         return NULL;
@@ -307,33 +340,38 @@ static PyObject *run_one(const call *c, numbers *found) {
         status = 0;
         result = c->of_signed->one(found->cells, &status);
     }
+    for (k = 0; status != 0 && k < found->count; k++) {
+        by_zero |= c->divides[k] && found->cells[k] == 0;
+    }
     return status == 0 ? result : refused(status, by_zero);
+}
+
+/* How many arguments there are, of which the last ones may have names. */
+static Py_ssize_t count_of(Py_ssize_t count, PyObject *names) {
+    return count + (names == NULL ? 0 : PyTuple_Size(names));
 }
 
 /* Puts the arguments in the order of the parameters, and borrows them. It is false if they are
  * others: then the package says why. */
 static bool bind(const call *c, PyObject *const *args, Py_ssize_t count, PyObject *names,
                  PyObject **bound) {
-    Py_ssize_t all = count + (names == NULL ? 0 : PyTuple_Size(names));
+    Py_ssize_t all = count_of(count, names);
     bool right = all == c->count;
-    for (Py_ssize_t k = 0; right && k < all; k++) {
-        PyObject *name = k < count ? NULL : PyTuple_GetItem(names, k - count);
-        Py_ssize_t p = k < count ? k : count;
-        while (name != NULL && p < all &&
-               (bound[p] != NULL || PyUnicode_CompareWithASCIIString(name, c->names[p]) != 0)) {
-            p++;
+    for (Py_ssize_t p = 0; right && p < all; p++) {
+        Py_ssize_t k = p < count ? p : count;
+        while (p >= count && k < all &&
+               PyUnicode_CompareWithASCIIString(PyTuple_GetItem(names, k - count), c->names[p])) {
+            k++;
         }
-        right = p < all;
-        if (right) {
-            bound[p] = args[k];
-        }
+        right = k < all;
+        bound[p] = right ? args[k] : NULL;
     }
     return right;
 }
 
-/* Adds an integer, which is given away. It is false if it is none. */
+/* Adds an integer, which is given away. It is false if it is none, and after an error. */
 static bool add(numbers *to, PyObject *object) {
-    if (object == NULL || !is_integer(object)) {
+    if (object == NULL || !is_integer(object) || !integer(object, &to->cells[to->count])) {
         Py_XDECREF(object);
         return false;
     }
@@ -355,12 +393,8 @@ static bool add_date(numbers *to, cellarcove_date date) {
 static bool add_parts(numbers *to, PyObject *object, int place, Py_ssize_t count) {
     bool is_tuple = PyTuple_Check(object), right = !is_tuple || PyTuple_Size(object) == count;
     for (Py_ssize_t k = 0; right && k < count; k++) {
-        PyObject *name = PyTuple_GetItem(names_of_parts, place + k);
-        PyObject *part = is_tuple ? PyTuple_GetItem(object, k) : PyObject_GetAttr(object, name);
-        if (is_tuple) {
-            Py_INCREF(part);
-        }
-        right = add(to, part);
+        PyObject *name = is_tuple ? NULL : PyTuple_GetItem(names_of_parts, place + k);
+        right = add(to, is_tuple ? PySequence_GetItem(object, k) : PyObject_GetAttr(object, name));
     }
     return right;
 }
@@ -396,23 +430,18 @@ static PyObject *list_of(PyObject *const *args, Py_ssize_t count) {
 /* The call by the package, which takes names, and what is no number. */
 static PyObject *run_others(const call *c, PyObject *const *args, Py_ssize_t count,
                             PyObject *names) {
-    PyObject *given = list_of(args, count + (names == NULL ? 0 : PyTuple_Size(names)));
-    names = names == NULL ? Py_None : names;
-    return given == NULL ? NULL
-                         : PyObject_CallFunction(call_of_others, "sNO", c->name, given, names);
+    return PyObject_CallFunction(call_of_others, "sNO", c->name,
+                                 list_of(args, count_of(count, names)),
+                                 names == NULL ? Py_None : names);
 }
 
-static PyObject *run(const call *c, PyObject *const *args, Py_ssize_t count, PyObject *names) {
-    PyObject *bound[MAX_PARAMETERS] = {NULL}, *result = NULL;
+static PyObject *run_objects(const call *c, PyObject *const *args, Py_ssize_t count,
+                             PyObject *names) {
+    PyObject *bound[MAX_PARAMETERS], *result = NULL;
     numbers found;
-    bool are_ints = c->of_numbers && names == NULL && count == c->count;
-    for (Py_ssize_t k = 0; are_ints && k < count; k++) {
-        found.objects[k] = args[k];
-        are_ints = Py_TYPE(args[k]) == &PyLong_Type;
-    }
-    found.count = are_ints ? count : 0;
-    if (are_ints) {
-        return run_one(c, &found);
+    found.count = 0;
+    if (c->of_parts != NULL && count < c->count && count_of(count, names) == c->of_parts->count) {
+        c = c->of_parts;
     }
     bool right = bind(c, args, count, names, bound);
     for (Py_ssize_t p = 0; right && p < c->count; p++) {
@@ -430,6 +459,16 @@ static PyObject *run(const call *c, PyObject *const *args, Py_ssize_t count, PyO
     return result;
 }
 
+static PyObject *run(const call *c, PyObject *const *args, Py_ssize_t count, PyObject *names) {
+    numbers found;
+    bool are_ints = c->of_numbers && names == NULL && count == c->count;
+    for (found.count = 0; are_ints && found.count < count; found.count++) {
+        PyObject *object = found.objects[found.count] = args[found.count];
+        are_ints = is_int(object) && integer(object, &found.cells[found.count]);
+    }
+    return are_ints ? run_one(c, &found) : run_objects(c, args, count, names);
+}
+
 /* ---- lists ---- */
 
 /* The items of a list. */
@@ -437,18 +476,15 @@ typedef struct {
     uint64_t *copy;  /* those of a list, or NULL */
     PyObject *owner; /* of those that the package has made, or NULL */
     const void *items;
-    Py_ssize_t count;
+    Py_ssize_t count; /* of the numbers */
     Py_ssize_t width; /* of an item: a number, or a residue and a modulus */
     char kind;        /* `q`, or `Q` */
 } list;
 
 /* Room for so many numbers. */
 static uint64_t *room_for(uint64_t count) {
-    uint64_t *room = count < SIZE_MAX ? PyMem_Calloc((size_t)count + 1, sizeof *room) : NULL;
-    if (room == NULL) {
-        PyErr_NoMemory();
-    }
-    return room;
+    uint64_t *room = count < SIZE_MAX ? PyMem_New(uint64_t, (size_t)count + 1) : NULL;
+    return room != NULL ? room : (uint64_t *)PyErr_NoMemory();
 }
 
 static void free_list(list *of) {
@@ -456,57 +492,72 @@ static void free_list(list *of) {
     Py_XDECREF(of->owner);
 }
 
-/* Copies the `int`s of a list, as unsigned numbers or as signed ones. If one is negative, and there
- * is a form for signed numbers, it begins again. It is false after an error. */
+/* A number of a list: an item, or a part of one that is a congruence, or NULL. */
+static inline PyObject *number_at(PyObject *objects, Py_ssize_t place, Py_ssize_t width) {
+    if (width == 1) {
+        return PyList_GetItem(objects, place);
+    }
+    PyObject *item = PyList_GetItem(objects, place / width);
+    bool right = item != NULL && PyObject_TypeCheck(item, (PyTypeObject *)class_congruence);
+    return right ? PyTuple_GetItem(item, place % width) : NULL;
+}
+
+/* Copies the integers of a list. They are signed if one is negative and there is a form for signed
+ * numbers. It is false after an error, and if an item of a list that others have is no `int`. */
 static bool copy_list(PyObject *objects, bool has_signed, list *to) {
-    Py_ssize_t count = PyList_Size(objects);
-    uint64_t *copy = room_for((uint64_t)count);
-    to->items = to->copy = copy;
+    Py_ssize_t count = PyList_Size(objects) * to->width, large = count;
+    PyMem_Free(to->copy);
+    to->items = to->copy = room_for((uint64_t)count);
     to->count = count;
-    for (Py_ssize_t k = 0; copy != NULL && k < count; k++) {
-        PyObject *object = PyList_GetItem(objects, k);
+    for (Py_ssize_t k = 0; to->copy != NULL && k < count; k++) {
+        PyObject *object = number_at(objects, k, to->width);
         cell number;
-        if (!integer(object, &number)) {
+        if (object == NULL || (to->owner == NULL && !is_int(object)) || !integer(object, &number)) {
             return false;
         }
-        copy[k] = (uint64_t)number;
-        if (has_signed && number < 0 && to->kind == 'Q') {
-            to->kind = 'q';
-            k = -1;
-        } else if (!in_range(object, number, to->kind)) {
+        to->copy[k] = (uint64_t)number;
+        to->kind = has_signed && number < 0 ? 'q' : to->kind;
+        large = number > INT64_MAX && large == count ? k : large;
+        if (!in_range(object, number, to->kind)) {
             return false;
         }
     }
-    return copy != NULL;
+    return to->copy != NULL &&
+           (to->kind == 'Q' || large == count ||
+            in_range(number_at(objects, large, to->width), to->copy[large], 'q'));
 }
 
-static bool are_exact_ints(PyObject *object) {
-    Py_ssize_t count = PyList_Check(object) ? PyList_Size(object) : -1, k = 0;
-    while (k < count && Py_TYPE(PyList_GetItem(object, k)) == &PyLong_Type) {
-        k++;
-    }
-    return k == count;
-}
-
-/* Takes the items of a list. Of what is no list of `int`s the package makes one, or of an array its
- * bytes and their kind. It is false after an error. */
+/* Takes the items of a list. Of what is no list, tuple or iterator the package makes a list, or of
+ * an array its bytes and their kind. It is false after an error. */
 static bool take_list(const char *name, PyObject *object, bool has_signed, list *to) {
-    if (to->width == 1 && are_exact_ints(object)) {
-        return copy_list(object, has_signed, to);
+    bool is_list = PyList_Check(object), is_other = PyTuple_Check(object) || PyIter_Check(object);
+    if (is_list && copy_list(object, has_signed, to)) {
+        return true;
+    }
+    if (PyErr_Occurred()) {
+        return false;
+    }
+    to->owner = to->width == 1 && (is_list || is_other)
+                    ? PySequence_List(object)
+                    : PyObject_CallFunction(items_of, "sOnO", name, object, to->width,
+                                            has_signed ? Py_True : Py_False);
+    if (to->owner == NULL || PyList_Check(to->owner)) {
+        return to->owner != NULL && copy_list(to->owner, has_signed, to);
     }
     int kind = 0;
-    to->owner = PyObject_CallFunction(items_of, "sOnO", name, object, to->width,
-                                      has_signed ? Py_True : Py_False);
-    if (to->owner != NULL && PyList_Check(to->owner)) {
-        bool right = copy_list(to->owner, has_signed, to);
-        to->count /= to->width;
-        return right;
-    }
-    bool right =
-        to->owner != NULL && PyArg_ParseTuple(to->owner, "y#C", &to->items, &to->count, &kind);
-    to->count /= to->width * (Py_ssize_t)sizeof *to->copy;
+    bool right = PyArg_ParseTuple(to->owner, "y#C", &to->items, &to->count, &kind);
+    to->count /= (Py_ssize_t)sizeof *to->copy;
     to->kind = (char)kind;
     return right;
+}
+
+/* Whether a call is given as many arguments as it has parameters. If not, it raises. */
+static bool has_count(const char *name, Py_ssize_t given, Py_ssize_t count) {
+    if (given != count) {
+        PyErr_Format(PyExc_TypeError, "%s() takes %zd arguments and was given %zd", name, count,
+                     given);
+    }
+    return given == count;
 }
 
 /* Reads the list of a call, and the number that may be beside it. Without one it is NULL. */
@@ -528,7 +579,7 @@ static bool read_list(const char *name, PyObject *object, PyObject *number, Py_s
  * for a status. */
 static PyObject *of_list(list *of, uint32_t status, PyObject *result) {
     bool by_zero = false;
-    for (Py_ssize_t k = 1; of->width > 1 && k < of->count * of->width; k += of->width) {
+    for (Py_ssize_t k = 1; of->width > 1 && k < of->count; k += of->width) {
         by_zero |= ((const uint64_t *)of->items)[k] == 0;
     }
     free_list(of);
@@ -542,12 +593,15 @@ static PyObject *of_list(list *of, uint32_t status, PyObject *result) {
 /* A call of two numbers with another count of them: that of a list, or the call by the package. */
 static PyObject *of_any_count(const call *c, PyCFunction of, PyObject *const *args,
                               Py_ssize_t count, PyObject *names) {
-    PyObject *objects = list_of(args, names == NULL ? count : 0), *result = NULL;
-    if (objects != NULL) {
-        bool is_list = names == NULL && are_exact_ints(objects);
-        result = is_list ? of(NULL, objects) : run_others(c, args, count, names);
-        Py_DECREF(objects);
+    bool are_ints = names == NULL;
+    for (Py_ssize_t k = 0; are_ints && k < count; k++) {
+        are_ints = is_int(args[k]);
     }
+    if (!are_ints) {
+        return run_others(c, args, count, names);
+    }
+    PyObject *objects = list_of(args, count), *result = objects == NULL ? NULL : of(NULL, objects);
+    Py_XDECREF(objects);
     return result;
 }
 
@@ -561,18 +615,11 @@ static bool is_below_binomial(const cell *numbers) {
 }
 
 /* A tuple of the numbers that a call has written, which are freed, or the error for a status. */
-static PyObject *written(uint64_t *numbers, uint64_t count, uint32_t status, bool is_signed) {
-    PyObject *tuple =
-        status == CELLARCOVE_ANSWER ? PyTuple_New((Py_ssize_t)count) : refused(status, false);
-    for (uint64_t k = 0; tuple != NULL && k < count; k++) {
-        PyObject *number = is_signed ? PyLong_FromLongLong((int64_t)numbers[k])
-                                     : PyLong_FromUnsignedLongLong(numbers[k]);
-        if (number == NULL || PyTuple_SetItem(tuple, (Py_ssize_t)k, number) != 0) {
-            Py_CLEAR(tuple);
-        }
-    }
+static PyObject *written(uint64_t *numbers, uint64_t count, uint32_t status, bool are_signed) {
+    PyObject *result =
+        status == CELLARCOVE_ANSWER ? tuple_of(count, numbers, are_signed) : refused(status, false);
     PyMem_Free(numbers);
-    return tuple;
+    return result;
 }
 
 typedef uint32_t by_signed(int64_t, const uint64_t *, size_t, int64_t *, size_t);
@@ -582,17 +629,15 @@ typedef uint32_t by_unsigned(uint64_t, const uint64_t *, size_t, uint64_t *, siz
  * package, which takes arrays. It has a form for a negative number, or none. */
 static PyObject *divided(const call *c, PyObject *const *args, Py_ssize_t given, PyObject *names,
                          by_signed *of_signed, by_unsigned *of_unsigned) {
-    PyObject *bound[MAX_PARAMETERS] = {NULL}, *result = NULL;
+    PyObject *bound[MAX_PARAMETERS], *result = NULL;
     list of = {.width = 1, .kind = 'Q'};
     cell amount;
-    bool right = bind(c, args, given, names, bound) && Py_TYPE(bound[0]) == &PyLong_Type &&
-                 are_exact_ints(bound[1]) && integer(bound[0], &amount) &&
-                 fits(amount, amount < 0 && of_signed != NULL ? 'q' : 'Q');
-    if (!right) {
-        return run_others(c, args, given, names);
-    }
-    size_t count = (size_t)PyList_Size(bound[1]);
-    uint64_t *parts = copy_list(bound[1], false, &of) ? room_for(count) : NULL;
+    bool right = bind(c, args, given, names, bound) && is_int(bound[0]) && PyList_Check(bound[1]) &&
+                 integer(bound[0], &amount) &&
+                 fits(amount, amount < 0 && of_signed != NULL ? 'q' : 'Q') &&
+                 copy_list(bound[1], false, &of);
+    size_t count = (size_t)of.count;
+    uint64_t *parts = right ? room_for(count) : NULL;
     if (parts != NULL) {
         uint32_t status;
         Py_BEGIN_ALLOW_THREADS
@@ -600,6 +645,8 @@ static PyObject *divided(const call *c, PyObject *const *args, Py_ssize_t given,
                             : of_unsigned((uint64_t)amount, of.items, count, parts, count);
         Py_END_ALLOW_THREADS
         result = written(parts, count, status, amount < 0);
+    } else if (!PyErr_Occurred()) {
+        result = run_others(c, args, given, names);
     }
     free_list(&of);
     return result;
@@ -607,13 +654,10 @@ static PyObject *divided(const call *c, PyObject *const *args, Py_ssize_t given,
 
 /* ---- texts ---- */
 
-/* Reads a text. It is false after an error. */
-static bool read_text(const char *name, PyObject *text, const char **bytes, Py_ssize_t *count) {
-    if (!PyUnicode_Check(text)) {
-        PyErr_Format(PyExc_TypeError, "%s() takes a str", name);
-        return false;
-    }
-    return PyArg_Parse(text, "s#", bytes, count);
+/* The bytes of a text in UTF-8, which are owned. */
+static PyObject *bytes_of(const char *name, PyObject *text) {
+    return PyUnicode_Check(text) ? PyUnicode_AsUTF8String(text)
+                                 : PyErr_Format(PyExc_TypeError, "%s() takes a str", name);
 }
 
 /* ---- the module ---- */

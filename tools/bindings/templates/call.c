@@ -1,6 +1,3 @@
-static const call call_{name} = {"{name}", {count}, {{names}}, "{shapes}", {of_numbers},
-    {divides}, {forms}};
-
 static PyObject *py_{name}(PyObject *module, PyObject *const *args, Py_ssize_t count, PyObject *names) {
     (void)module;{of_many}
     return run(&call_{name}, args, count, names);

@@ -1,4 +1,4 @@
-static const call call_{name} = {"{name}", 2, {{names}}, "nl", false, NULL, NULL, NULL};
+static const call call_{name} = {"{name}", 2, {{names}}, "nl", false, NULL, NULL, NULL, NULL};
 
 static PyObject *py_{name}(PyObject *module, PyObject *const *args, Py_ssize_t given, PyObject *names) {
     (void)module;

@@ -1,7 +1,7 @@
-static PyObject *py_{name}(PyObject *module, PyObject *args) {
+static PyObject *py_{name}(PyObject *module, {taken}) {
     (void)module;
     cell numbers[{count}];
-    if (!PyArg_ParseTuple(args, "{letters}:{name}", {read})) {
+    if ({read}) {
         return NULL;
     }
     if (!{asked}) {

@@ -177,7 +177,7 @@ def weight_cell(name: str, parameter: str, value: Any) -> Leaf:
     """A column of weights, or a list of them."""
     if is_column(value) or hasattr(value, 'columns'):
         return Leaf(value, parameter)
-    return Leaf(flat(value, 1), parameter)
+    return Leaf(list(map(operator.index, value)), parameter)
 
 
 def pair_cells(name: str, parameter: str, value: Any, wanted: Any) -> list[Leaf]:
@@ -317,28 +317,25 @@ def shares_of_list(name: str, amount: int, weights: list[int]) -> Any:
 # ---- lists
 
 
-def flat(value: Any, width: int) -> list[int]:
-    """The integers of an iterable, or, if each of its items has several, of those."""
+def listed(value: Any, width: int) -> list[Any]:
+    """The items of an iterable, which are congruences if each has several numbers."""
+    found = list(value)
     if width == 1:
-        return list(map(operator.index, value))
-    numbers: list[int] = []
-    value = list(value)
-    if not all(isinstance(item, classes['c']) for item in value):
+        return found
+    if not all(isinstance(item, classes['c']) for item in found):
         words = f'a pair is easily swapped: pass {written(classes["c"])}'
         warnings.warn(words, DeprecationWarning, stacklevel=3)
-    for item in value:
-        parts = [operator.index(number) for number in item]
-        if len(parts) != width:
-            raise ValueError(f'an item has not {width} numbers')
-        numbers += parts
-    return numbers
+    pairs = [tuple(item) for item in found]
+    if any(len(pair) != width for pair in pairs):
+        raise ValueError(f'an item has not {width} numbers')
+    return [pair_of(classes['c'], pair) for pair in pairs]
 
 
-def items(name: str, value: Any, width: int, has_signed: bool) -> list[int] | tuple[bytes, str]:
-    """The numbers of an iterable, or the bytes of an array of one dimension, with the letter of
+def items(name: str, value: Any, width: int, has_signed: bool) -> list[Any] | tuple[bytes, str]:
+    """The items of an iterable, or the bytes of an array of one dimension, with the letter of
     their type."""
     if width > 1 or not is_column(value):
-        return flat(value, width)
+        return listed(value, width)
     numpy, _ = modules(name)
     data, missing = plain(numpy, name, Leaf(value, 'the list'))
     if missing is not None and missing.any():
