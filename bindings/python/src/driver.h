@@ -46,7 +46,7 @@ typedef struct call {
 /* What the package installs. */
 static PyObject *refusal, *refusal_of_text, *out_of_range, *call_of_others, *items_of;
 static PyObject *add_others, *subtract_others;
-static PyObject *new_fraction, *new_decimal, *class_tuple, *names_of_parts;
+static PyObject *new_fraction, *new_decimal, *class_tuple, *names_of_parts[6];
 static PyObject *class_date, *class_gcd, *class_solutions, *class_week, *class_weekday;
 static PyObject *class_congruence, *class_schedule;
 static newfunc new_tuple;
@@ -76,11 +76,6 @@ static PyObject *refused(uint32_t status, bool by_zero) {
 /* Whether an object is an `int`, so that no code runs when it is read. */
 static inline bool is_int(PyObject *object) {
     return Py_TYPE(object) == &PyLong_Type || PyLong_Check(object);
-}
-
-/* Whether an object is an integer, and no array, which may have `__index__` too. */
-static bool is_integer(PyObject *object) {
-    return is_int(object) || (PyIndex_Check(object) && !PySequence_Check(object));
 }
 
 /* Reads an integer. It is false after an error. */
@@ -165,10 +160,11 @@ static PyObject *object_of(PyObject *class, Py_ssize_t count, const uint64_t *nu
 }
 
 static PyObject *fraction_of(cellarcove_fraction fraction) {
-    const uint64_t parts[] = {(uint64_t)fraction.num, (uint64_t)fraction.den};
-    PyObject *args = tuple_of(2, parts, true);
-    PyObject *result = args == NULL ? NULL : PyObject_CallObject(new_fraction, args);
-    Py_XDECREF(args);
+    PyObject *num = PyLong_FromLongLong(fraction.num), *den = PyLong_FromLongLong(fraction.den);
+    bool right = num != NULL && den != NULL;
+    PyObject *result = right ? PyObject_CallFunctionObjArgs(new_fraction, num, den, NULL) : NULL;
+    Py_XDECREF(num);
+    Py_XDECREF(den);
     return result;
 }
 
@@ -369,14 +365,13 @@ static bool bind(const call *c, PyObject *const *args, Py_ssize_t count, PyObjec
     return right;
 }
 
-/* Adds an integer, which is given away. It is false if it is none, and after an error. */
+/* Adds an integer, which is given away. It is false if it is none, as an array is, which may have
+ * `__index__` too, and after an error. */
 static bool add(numbers *to, PyObject *object) {
-    if (object == NULL || !is_integer(object) || !integer(object, &to->cells[to->count])) {
-        Py_XDECREF(object);
-        return false;
-    }
     to->objects[to->count++] = object;
-    return true;
+    return object != NULL &&
+           (is_int(object) || (PyIndex_Check(object) && !PySequence_Check(object))) &&
+           integer(object, &to->cells[to->count - 1]);
 }
 
 static bool add_date(numbers *to, cellarcove_date date) {
@@ -393,8 +388,8 @@ static bool add_date(numbers *to, cellarcove_date date) {
 static bool add_parts(numbers *to, PyObject *object, int place, Py_ssize_t count) {
     bool is_tuple = PyTuple_Check(object), right = !is_tuple || PyTuple_Size(object) == count;
     for (Py_ssize_t k = 0; right && k < count; k++) {
-        PyObject *name = is_tuple ? NULL : PyTuple_GetItem(names_of_parts, place + k);
-        right = add(to, is_tuple ? PySequence_GetItem(object, k) : PyObject_GetAttr(object, name));
+        right = add(to, is_tuple ? PySequence_GetItem(object, k)
+                                 : PyObject_GetAttr(object, names_of_parts[place + k]));
     }
     return right;
 }
@@ -680,9 +675,11 @@ static bool take_calls(void) {
 static PyObject *install(PyObject *module, PyObject *args) {
     static PyObject *kept;
     (void)module;
-    if (!PyArg_ParseTuple(args, "OOOOOOOOOOOOOOOOOO", &refusal, &refusal_of_text, &out_of_range,
-                          &call_of_others, &items_of, &add_others, &subtract_others, &new_fraction,
-                          &new_decimal, &class_tuple, &names_of_parts, &class_date, &class_gcd,
+    PyObject **names = names_of_parts;
+    if (!PyArg_ParseTuple(args, "OOOOOOOOOO(OOOOOO)OOOOOOO", &refusal, &refusal_of_text,
+                          &out_of_range, &call_of_others, &items_of, &add_others, &subtract_others,
+                          &new_fraction, &new_decimal, &class_tuple, &names[0], &names[1],
+                          &names[2], &names[3], &names[4], &names[5], &class_date, &class_gcd,
                           &class_solutions, &class_week, &class_weekday, &class_congruence,
                           &class_schedule)) {
         return NULL;
