@@ -500,26 +500,27 @@ static inline PyObject *number_at(PyObject *objects, Py_ssize_t place, Py_ssize_
 /* Copies the integers of a list. They are signed if one is negative and there is a form for signed
  * numbers. It is false after an error, and if an item of a list that others have is no `int`. */
 static bool copy_list(PyObject *objects, bool has_signed, list *to) {
-    Py_ssize_t count = PyList_Size(objects) * to->width, large = count;
+    const bool has_owner = to->owner != NULL;
+    Py_ssize_t width = to->width, count = PyList_Size(objects) * width, large = count;
     PyMem_Free(to->copy);
-    to->items = to->copy = room_for((uint64_t)count);
+    uint64_t *copy = room_for((uint64_t)count);
+    to->items = to->copy = copy;
     to->count = count;
-    for (Py_ssize_t k = 0; to->copy != NULL && k < count; k++) {
-        PyObject *object = number_at(objects, k, to->width);
+    for (Py_ssize_t k = 0; copy != NULL && k < count; k++) {
+        PyObject *object = number_at(objects, k, width);
         cell number;
-        if (object == NULL || (to->owner == NULL && !is_int(object)) || !integer(object, &number)) {
+        if (object == NULL || (!has_owner && !is_int(object)) || !integer(object, &number)) {
             return false;
         }
-        to->copy[k] = (uint64_t)number;
+        copy[k] = (uint64_t)number;
         to->kind = has_signed && number < 0 ? 'q' : to->kind;
         large = number > INT64_MAX && large == count ? k : large;
         if (!in_range(object, number, to->kind)) {
             return false;
         }
     }
-    return to->copy != NULL &&
-           (to->kind == 'Q' || large == count ||
-            in_range(number_at(objects, large, to->width), to->copy[large], 'q'));
+    return copy != NULL && (to->kind == 'Q' || large == count ||
+                            in_range(number_at(objects, large, width), copy[large], 'q'));
 }
 
 /* Takes the items of a list. Of what is no list, tuple or iterator the package makes a list, or of
