@@ -35,11 +35,14 @@ pub use Rattle.applied.proofs.Timetables.{next_congruent_below, next_run_by_divi
 pub use Rattle.applied.proofs.Instalments.{instalments_are_only, instalments_are_natural}
 -- ---- more natural numbers
 
--- Which pages have items, that those up to the last one hold all, and the range of a page that begins within the items.
-pub use Rattle.applied.proofs.NaturalPages.{page_has_items, pages_hold, range_of_begun_page}
+-- Which pages have items, that those up to the last one hold all, and the range of a page that begins within the items; which pages have items, and
+-- the range of each, if pages are counted from 1. `using` finds the last two.
+pub use Rattle.applied.proofs.NaturalPages.{page_has_items, pages_hold, range_of_begun_page, numbered_page_has_items, range_of_numbered_page}
 -- The smallest power of two that is at least a number, of std's `checked_next_power_of_two`. `using` finds it.
 pub use Rattle.applied.proofs.PowersOfTwo.{next_power_of_two_is_least}
 -- ---- lists
 
--- What holds of each item of a list, at its place, and of one more item.
-pub use Rattle.applied.proofs.PushedItems.{each_pushed}
+-- What holds of each item of a list, at its place, and of one more item; `items_pushed` says it with the number of the items, as the invariant of a loop.
+pub use Rattle.applied.proofs.PushedItems.{each_pushed, items_pushed}
+-- Items that cost the instalments of an amount, at their places, cost the amount.
+pub use Rattle.applied.proofs.PushedItems.{sum_of_instalments}

@@ -1,3 +1,2 @@
 mod Common
 mod AffineCiphers
-mod UnwrappedFractions

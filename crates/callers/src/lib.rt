@@ -25,7 +25,7 @@
 //! | `natural_words.rt` | contracts about natural numbers at unsigned types: pages, offsets, timetables, rounding, combinations |
 //! | `powers.rt` | `modular`: powers as natural numbers, sums of exponents |
 //! | `tasks.rt` | everyday tasks: pages of items, a cipher, amounts of money, a recipe, a line of bytes |
-//! | `everyday.rt` | everyday tasks of a line: payments, a page, a buffer, a clock, prices, an age, runs of a job |
+//! | `everyday.rt` | everyday tasks of a few lines: payments, pages, shapes of screens, a buffer, a clock, prices, runs of a job |
 //!
 //! Most functions have no proof file: the prover's search proves them from the contracts of what they call. The proof file of
 //! another function is in `proofs/`, in a folder with the names of the file and of the function.

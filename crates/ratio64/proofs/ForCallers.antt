@@ -5,8 +5,9 @@ pub use Rattle.ratio64.proofs.FractionAnswers.{answer_is_ok, err_is_outside, exa
 pub use Rattle.ratio64.proofs.FittingParts.{positive_is_answered, positive_over_other}
 -- ---- a value after `unwrap`, `?` and `.ok()?`
 
-pub use Rattle.ratio64.proofs.FractionAnswers.{at_ok, at_some, some_is_exact, none_is_outside}
-pub use Rattle.ratio64.proofs.PassedOn.{first_does_not_fit, quotient_times_passed_on, rounded_times_passed_on, rounded_even_times_passed_on, times_passed_on}
+pub use Rattle.ratio64.proofs.FractionAnswers.{at_ok, at_some, ok_is_exact, some_is_exact, none_is_outside}
+pub use Rattle.ratio64.proofs.UnwrappedFractions.{exact_of_words, unwrapped_is_exact}
+pub use Rattle.ratio64.proofs.PassedOn.{first_does_not_fit, none_as, quotient_times_passed_on, rounded_times_passed_on, rounded_even_times_passed_on, times_passed_on}
 -- ---- the size of an exact result
 
 pub use Rattle.ratio64.proofs.FittingParts.{common_factor, exact_parts_at_most, positive_denominator_inside, small_parts_inside}

@@ -1,6 +1,6 @@
 -- What a call returns for a fraction: its exact result, or an error.
 use Rattle.std.specs.Result.{result_ok}
-use Rattle.ratio64.proofs.Common.{◌≡◌, ◌≢◌, ◌↔◌, ◌*ℤ◌, ℤ, pos, Some, None, Result, Ok, Err, FitsSigned, IfOk, IsOk, w64, ap, inl, inr, refl, subst, sym, ◌∙◌, is_prop→PathP, cancel, comm, products, IsExact, IsOutsideI64, IsReduced, AnswerIsOnly, RatioOfPartsIsOnly, AnswersFraction, num_of, den_of, IsReduced_prop, Ratio, RatioError, ZeroDenominator, NotFitting}
+use Rattle.ratio64.proofs.Common.{◌≡◌, ◌≢◌, ◌↔◌, ◌*ℤ◌, ℤ, pos, MatchOption, Option, Some, None, Result, Ok, Err, FitsSigned, IfOk, IsOk, w64, ap, inl, inr, refl, subst, sym, ◌∙◌, is_prop→PathP, cancel, comm, products, IsExact, IsOutsideI64, IsReduced, AnswerIsOnly, RatioOfPartsIsOnly, AnswersFraction, num_of, den_of, IsReduced_prop, Ratio, RatioError, ZeroDenominator, NotFitting}
 use Rattle.ratio64.proofs.ExactResults.{only_exact_result}
 
 -- ---- one of them
@@ -82,3 +82,9 @@ some_is_exact {a} {b} r e h = at_some (λ x. IsExact a b (num_of x) (den_of x)) 
 pub none_is_outside : {a b : ℤ} (r : Result Ratio RatioError) → b ≢ pos 0 → None ≡ result_ok r → AnswersFraction a b r → IsOutsideI64 a b
 none_is_outside (Ok x) nonzero e h = absurd cc
 none_is_outside (Err error) nonzero e h = err_is_outside error nonzero h
+
+-- So `.ok()` returns the exact result, or `None` if a part of it does not fit.
+pub ok_is_exact : {a b : ℤ} (r : Result Ratio RatioError) {o : Option Ratio} → o ≡ result_ok r → b ≢ pos 0 → AnswersFraction a b r
+    → MatchOption o (IsOutsideI64 a b) (λ x. IsExact a b (num_of x) (den_of x))
+ok_is_exact (Ok x) is nonzero h = rw is h.exact
+ok_is_exact (Err e) is nonzero h = rw is (err_is_outside e nonzero h)

@@ -15,6 +15,7 @@ pub mod FractionPowers
 pub mod SpelledDecimals
 pub mod RoundedProducts
 pub mod PassedOn
+pub mod UnwrappedFractions
 pub mod ReducedAnswers
 pub mod ReducedParts
 pub mod NearestNumbers

@@ -1,5 +1,4 @@
-use Rattle.callers.proofs.Common.{nearest_of_equal, to_z-of_z, w64}
-use Rattle.callers.proofs.UnwrappedFractions.{unwrapped_is_exact}
+use Rattle.callers.proofs.Common.{nearest_of_equal, to_z-of_z, unwrapped_is_exact, w64}
 use Rattle.callers.proofs.fractions.gear_pair.Goals as goal
 
 pub returns-clause-nearest : goal.returns-clause-nearest

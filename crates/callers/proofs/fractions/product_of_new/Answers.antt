@@ -1,5 +1,4 @@
-use Rattle.callers.proofs.Common.{product_of_exact_results}
-use Rattle.callers.proofs.UnwrappedFractions.{exact_of_words}
+use Rattle.callers.proofs.Common.{exact_of_words, product_of_exact_results}
 use Rattle.callers.proofs.fractions.product_of_new.Goals as goal
 
 pub returns : goal.returns

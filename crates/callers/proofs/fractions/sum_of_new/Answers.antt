@@ -1,5 +1,4 @@
-use Rattle.callers.proofs.Common.{sum_of_exact_results}
-use Rattle.callers.proofs.UnwrappedFractions.{exact_of_words}
+use Rattle.callers.proofs.Common.{exact_of_words, sum_of_exact_results}
 use Rattle.callers.proofs.fractions.sum_of_new.Goals as goal
 
 pub returns : goal.returns
