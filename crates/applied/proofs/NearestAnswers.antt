@@ -2,7 +2,15 @@
 use Rattle.std.proofs.Math.Bool.{beq}
 use Rattle.num_integer.specs.Parts.{signed}
 use Rattle.applied.proofs.Common.{◌≡◌, ◌≢◌, ◌≤ℤ◌, ◌<ℤ◌, ◌*ℤ◌, IsSome, AnswersQuotient, Bool, not, ℕ, ℤ, pos, Option, linear, refl, answer_only, answers_as, answers_only, part_fits, some_in_domain, AnswersWhere, FitsWith, IsQuotient, EachFits, IsRange}
-use Rattle.num_integer.proofs.NearestQuotients.{IsRounding, quotient_by_magnitudes}
+use Rattle.applied.specs.Halves.{NearestBy}
+use Rattle.applied.specs.declared.rounding.checked.Half.{Half}
+use Rattle.applied.specs.declared.rounding.checked.Half.TheVariants.{AwayFromZero, ToEven}
+use Rattle.num_integer.proofs.NearestQuotients.{IsRounding, nearest, nearest_even, quotient_by_magnitudes}
+
+-- either place for a half is a kind of nearest quotient
+pub nearest_by : (half : Half) → IsRounding (NearestBy half)
+nearest_by AwayFromZero = nearest
+nearest_by ToEven = nearest_even
 
 module _ {Kind : ℤ → ℤ → ℤ → ℤ → Type 0} (rounding : IsRounding Kind) where
   -- a nearest quotient that fits is a result in the domain, also if the number n is given as m

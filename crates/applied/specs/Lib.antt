@@ -10,6 +10,7 @@ pub mod Instalments
 pub mod Totals
 pub mod SharesError
 pub use Rattle.num_integer.specs.Rounding
+pub mod Halves
 pub mod Powers
 pub mod Counting
 pub mod Laws

@@ -62,19 +62,19 @@ pub only_last : law.LastWeekdayIsOnly
 only_last to weekday a b h k = greatest_is_only k a h
 
 -- by the days between the days of the week, if it fits
-pub first_or_beyond : (o : Option ℤ) {day given found : ℤ} {a : Weekday} (b : Weekday) (n : ℕ) → given ≡ day → HasWeekday given a
-    → weekday_number b ≡ (weekday_number a + n) % 7 → n < 7 → found ≡ day +ℤ pos n → SomeIff o (FitsSigned w64 found) found
+pub first_or_beyond : (o : Option ℤ) {day given found : ℤ} (a b : Weekday) (n : ℕ) → given ≡ day
+    → IsRemainder IsFloored (given +ℤ pos 4) (pos 7) (pos (weekday_number a)) → weekday_number b ≡ (weekday_number a + n) % 7 → n < 7 → found ≡ day +ℤ pos n → SomeIff o (FitsSigned w64 found) found
     → MatchOption o ((z : ℤ) → IsFirstWeekday day b z → ¬ (FitsSigned w64 z)) (IsFirstWeekday day b)
-first_or_beyond o {day = day} b n same h turned small place found =
+first_or_beyond o {day = day} {given = given} a b n same h turned small place found =
     only_or_beyond (IsFirstWeekday day b) o (only_first day b) found
-    (first_within b (days_later n (omega ints) h turned) (omega ints) (omega ints))
+    (first_within b (days_later {day = given} {a = a} n (omega ints) (record { remainder = h }) turned) (omega ints) (omega ints))
 
-pub last_or_beyond : (o : Option ℤ) {day given found : ℤ} {a : Weekday} (b : Weekday) (n : ℕ) → given ≡ day → HasWeekday given a
-    → weekday_number a ≡ (weekday_number b + n) % 7 → n < 7 → found ≡ day -ℤ pos n → SomeIff o (FitsSigned w64 found) found
+pub last_or_beyond : (o : Option ℤ) {day given found : ℤ} (a b : Weekday) (n : ℕ) → given ≡ day
+    → IsRemainder IsFloored (given +ℤ pos 4) (pos 7) (pos (weekday_number a)) → weekday_number a ≡ (weekday_number b + n) % 7 → n < 7 → found ≡ day -ℤ pos n → SomeIff o (FitsSigned w64 found) found
     → MatchOption o ((z : ℤ) → IsLastWeekday day b z → ¬ (FitsSigned w64 z)) (IsLastWeekday day b)
-last_or_beyond o {day = day} b n same h turned small place found =
+last_or_beyond o {day = day} {given = given} a b n same h turned small place found =
     only_or_beyond (IsLastWeekday day b) o (only_last day b) found
-    (last_within b (days_earlier n (omega ints) h turned) (omega ints) (omega ints))
+    (last_within b (days_earlier {day = given} {a = a} n (omega ints) (record { remainder = h }) turned) (omega ints) (omega ints))
 
 -- Each day of the week comes within a week.
 pub weekday_within : (day : ℤ) (weekday : Weekday) → (days : ℕ) × (days < 7) × HasWeekday (day +ℤ pos days) weekday

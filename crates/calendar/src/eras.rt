@@ -9,7 +9,7 @@ ghost use Rattle.std.specs.Int.{w64};
 ghost use Rattle.std.specs.Option.{SomeIff};
 ghost use Rattle.calendar.specs.Months.{IsDate, days_before_month};
 ghost use Rattle.calendar.specs.Years.{day_number, days_in_year};
-ghost use Rattle.calendar.specs.declared.eras.TheConstants.{DAYS_FROM_MARCH, DAYS_PER_ERA, DAYS_TO_EPOCH, MARCH_BEFORE_ERA_0, MARCH_OF_ERA_0, NEAR_YEARS, WEEKS_PER_ERA, YEARS_PER_ERA};
+ghost use Rattle.calendar.specs.declared.eras.TheConstants.{DAYS_FROM_MARCH, DAYS_PER_ERA, DAYS_TO_EPOCH, MARCH_BEFORE_ERA_0, MARCH_OF_ERA_0, NEAR_YEARS, YEARS_PER_ERA};
 
 use integer_core::narrowing::narrowed;
 
@@ -20,7 +20,7 @@ pub(crate) const YEARS_PER_ERA: i64 = 400;
 pub(crate) const DAYS_PER_ERA: i64 = 146097;
 
 /// The weeks of an era.
-const WEEKS_PER_ERA: i64 = 20871;
+pub(crate) const WEEKS_PER_ERA: i64 = 20871;
 
 /// The quarters of a day in a century, on average.
 const QUARTERS_PER_CENTURY: u32 = 146097;
@@ -78,30 +78,10 @@ pub(crate) const fn era_before_year(year: i64) -> (i64, u32)
     }
 }
 
-/// Returns how many whole eras there are in `days`, rounded down, and the days that are left.
-#[inline]
-pub(crate) const fn eras_in_days(days: i64) -> (i64, u32)
-    ensures place { days ≡ DAYS_PER_ERA *ℤ result.0 +ℤ pos result.1 }
-    ensures small { unsigned_abs result.0 < 2 ^ 47 }
-    ensures below { pos result.1 <ℤ DAYS_PER_ERA }
-{
-    groups_and_rest(days, DAYS_PER_ERA)
-}
-
-/// Returns how many eras there are in `weeks` whole weeks, rounded down, and the weeks that are left.
-#[inline]
-pub(crate) const fn eras_in_weeks(weeks: i64) -> (i64, u32)
-    ensures place { weeks ≡ WEEKS_PER_ERA *ℤ result.0 +ℤ pos result.1 }
-    ensures small { unsigned_abs result.0 < 2 ^ 49 }
-    ensures below { pos result.1 <ℤ WEEKS_PER_ERA }
-{
-    groups_and_rest(weeks, WEEKS_PER_ERA)
-}
-
 /// Returns the quotient of `n` by `size`, rounded down, and the remainder.
 #[tactic(auto, using(crate::proofs::Remainders::division_steps))]
 #[inline]
-const fn groups_and_rest(n: i64, size: i64) -> (i64, u32)
+pub(crate) const fn groups_and_rest(n: i64, size: i64) -> (i64, u32)
     requires from { pos 0 <ℤ size }
     requires below { size <ℤ pos (2 ^ 32) }
     ensures place { n ≡ size *ℤ result.0 +ℤ pos result.1 }
@@ -230,7 +210,7 @@ pub(crate) const fn march_year_of_day(day: i64) -> (i64, u32)
     ensures within { result.1 < days_in_year (result.0 +ℤ pos 1) }
     ensures next_fits { FitsSigned w64 (result.0 +ℤ pos 1) }
 {
-    let (era, days) = eras_in_days(day);
+    let (era, days) = groups_and_rest(day, DAYS_PER_ERA);
     let (years, rest) = march_year(days + DAYS_TO_EPOCH);
     (
         YEARS_PER_ERA * era + (years as i64 + MARCH_YEAR_BEFORE_EPOCH),

@@ -10,7 +10,7 @@ ghost use Rattle.calendar.specs.Weekday.{weekday_number};
 ghost use Rattle.calendar.specs.Weeks.{HasWeekday};
 ghost use Rattle.calendar.specs.declared.weekday.Weekday.TheVariants.{Thursday};
 
-use crate::eras::{days_to_month, era_before_year, eras_in_weeks};
+use crate::eras::{WEEKS_PER_ERA, days_to_month, era_before_year, groups_and_rest};
 use crate::years::{is_longer_than, nearby_year};
 use crate::{Date, Weekday};
 use integer_core::div_floor;
@@ -81,7 +81,7 @@ impl IsoWeek {
             (λ later. IsWeeksAfter self.now.year self.now.week weeks later.year later.week) }
     {
         let (era, day) = self.thursday().day_of_era();
-        let (eras, rest) = eras_in_weeks(weeks);
+        let (eras, rest) = groups_and_rest(weeks, WEEKS_PER_ERA);
         Date::from_day_of_era(era + eras, i64::from(day + 7 * rest))?.iso_week()
     }
 

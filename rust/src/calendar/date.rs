@@ -7,8 +7,8 @@
 
 use crate::calendar::days_in_year;
 use crate::calendar::eras::{
-    days_to_month, era_before_year, eras_in_days, march_year_of_day, near_year, parts_from_march,
-    wide_sum, DAYS_PER_ERA, MARCH_BEFORE_ERA_0, YEARS_PER_ERA,
+    days_to_month, era_before_year, groups_and_rest, march_year_of_day, near_year,
+    parts_from_march, wide_sum, DAYS_PER_ERA, MARCH_BEFORE_ERA_0, YEARS_PER_ERA,
 };
 use crate::calendar::months::{days_before_month, length_of_month, month_and_day_in_year};
 use crate::calendar::years::nearby_year;
@@ -342,7 +342,7 @@ impl Date {
     /// Returns what `plus_days` returns.
     fn far_plus_days(&self, days: i64) -> Option<Self> {
         let (era, day) = self.day_of_era();
-        let (eras, rest) = eras_in_days(days);
+        let (eras, rest) = groups_and_rest(days, DAYS_PER_ERA);
         Self::from_day_of_era(era + eras, i64::from(day + rest))
     }
 
@@ -362,7 +362,7 @@ impl Date {
     #[must_use]
     pub fn minus_days(&self, days: i64) -> Option<Self> {
         let (era, day) = self.day_of_era();
-        let (before, rest) = eras_in_days(days);
+        let (before, rest) = groups_and_rest(days, DAYS_PER_ERA);
         Self::from_day_of_era(era - before, i64::from(day) - i64::from(rest))
     }
 

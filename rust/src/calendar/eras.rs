@@ -14,7 +14,7 @@ pub(crate) const YEARS_PER_ERA: i64 = 400;
 pub(crate) const DAYS_PER_ERA: i64 = 146097;
 
 /// The weeks of an era.
-const WEEKS_PER_ERA: i64 = 20871;
+pub(crate) const WEEKS_PER_ERA: i64 = 20871;
 
 /// The quarters of a day in a century, on average.
 const QUARTERS_PER_CENTURY: u32 = 146097;
@@ -67,22 +67,9 @@ pub(crate) const fn era_before_year(year: i64) -> (i64, u32) {
     }
 }
 
-/// Returns how many whole eras there are in `days`, rounded down, and the days that are left.
-#[inline]
-pub(crate) const fn eras_in_days(days: i64) -> (i64, u32) {
-    groups_and_rest(days, DAYS_PER_ERA)
-}
-
-/// Returns how many eras there are in `weeks` whole weeks, rounded down, and the weeks that are
-/// left.
-#[inline]
-pub(crate) const fn eras_in_weeks(weeks: i64) -> (i64, u32) {
-    groups_and_rest(weeks, WEEKS_PER_ERA)
-}
-
 /// Returns the quotient of `n` by `size`, rounded down, and the remainder.
 #[inline]
-const fn groups_and_rest(n: i64, size: i64) -> (i64, u32) {
+pub(crate) const fn groups_and_rest(n: i64, size: i64) -> (i64, u32) {
     (n.div_euclid(size), n.rem_euclid(size) as u32)
 }
 
@@ -158,7 +145,7 @@ pub(crate) const fn parts_from_march(year: i64, days: u32) -> (i64, u8, u8) {
 /// there.
 #[inline]
 pub(crate) const fn march_year_of_day(day: i64) -> (i64, u32) {
-    let (era, days) = eras_in_days(day);
+    let (era, days) = groups_and_rest(day, DAYS_PER_ERA);
     let (years, rest) = march_year(days + DAYS_TO_EPOCH);
     (
         YEARS_PER_ERA * era + (years as i64 + MARCH_YEAR_BEFORE_EPOCH),

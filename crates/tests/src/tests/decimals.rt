@@ -1,9 +1,8 @@
 //! Decimal numbers: strings that are read, the order, and fractions. More of them are in `rust/tests`.
 
-use super::rows::{holds_at, is_written};
+use super::rows::{hash_of, holds_at, is_written};
 use ratio64::ParseDecimalError::{NotADecimal, NotFitting, TooManyPlaces};
 use ratio64::{Decimal, ParseDecimalError, Ratio, RatioError};
-use std::hash::{DefaultHasher, Hash, Hasher};
 use std::process::Abort;
 
 /// The units and the places of a decimal number.
@@ -89,12 +88,6 @@ fn decimal(rt: &impl Abort, (units, places): Parts) -> Decimal {
 
 fn parts(x: &Decimal) -> Parts {
     (x.units(), x.places())
-}
-
-fn hash_of(x: &Decimal) -> u64 {
-    let mut state = DefaultHasher::new();
-    x.hash(&mut state);
-    state.finish()
 }
 
 #[test]

@@ -4,10 +4,9 @@ ghost use Rattle.std.specs.Prelude.{IfOk};
 ghost use Rattle.ratio64.specs.Fraction.{IsExact};
 ghost use Rattle.ratio64.specs.Ratio.{num_of, den_of};
 
-use super::rows::{holds_at, is_written};
+use super::rows::{hash_of, holds_at, is_written};
 use ratio64::RatioError::{NotFitting, ZeroDenominator};
 use ratio64::{ParseRatioError, Ratio, RatioError};
-use std::hash::{DefaultHasher, Hash, Hasher};
 use std::process::Abort;
 
 const MIN: i64 = i64::MIN;
@@ -117,12 +116,6 @@ fn ascending(rt: HostRuntime) {
             holds_at(&rt, found == (i.cmp(&j), i < j), &("cmp", first, second));
         }
     }
-}
-
-fn hash_of(x: &Ratio) -> u64 {
-    let mut state = DefaultHasher::new();
-    x.hash(&mut state);
-    state.finish()
 }
 
 #[test]

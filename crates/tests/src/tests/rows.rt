@@ -12,6 +12,7 @@ use own_types::signed_magnitude::{SignedMagnitude, signed_magnitude_of};
 use own_types::types::{NATIVE, SIGNED, Type, UNSIGNED};
 use std::alloc::Global;
 use std::fmt::{Debug, Display};
+use std::hash::{DefaultHasher, Hash, Hasher};
 use std::process::Abort;
 
 /// Asserts that the check holds, with a message that shows the row: the call and its operands. A message of
@@ -27,6 +28,13 @@ pub(crate) fn is_written(rt: &impl Abort, alloc: Global, value: &impl Display, t
     let written = value.to_string(alloc).expect(rt, "memory is left");
     let written = written.as_str();
     holds_at(rt, written == text, &(written, text));
+}
+
+/// Returns the hash of a value.
+pub(crate) fn hash_of(x: &impl Hash) -> u64 {
+    let mut state = DefaultHasher::new();
+    x.hash(&mut state);
+    state.finish()
 }
 
 /// Asserts that the call returns these numbers at the type, or that the operands do not meet its precondition.

@@ -24,6 +24,13 @@ const ITERATIONS: i128 = 1 << 97;
 /// The precondition does not hold, or the result is out of range.
 const OUT: i128 = i128::MAX;
 
+/// Calls, and the places in a row of the numbers of the result of each.
+macro_rules! calls {
+    ($($call:ident $($place:literal)+),+) => {
+        [$((Call::$call, &[$($place),+])),+]
+    };
+}
+
 /// A number and 0; the number, one more, one less, the other sign, 1 if it is even, and 1 if it is odd.
 static NUMBERS: [([i128; 2], [i128; 6]); 5] = [
     ([MIN, 0], [MIN, MIN + 1, OUT, OUT, 1, 0]),
@@ -33,15 +40,9 @@ static NUMBERS: [([i128; 2], [i128; 6]); 5] = [
     ([MAX, 0], [MAX, OUT, MAX - 1, MIN + 1, 0, 1]),
 ];
 
-/// The calls on a number, and the places in a row of the numbers of their results.
-static NUMBER_CALLS: [(Call, &[usize]); 6] = [
-    (Call::Parts, &[0]),
-    (Call::Inc, &[1]),
-    (Call::Dec, &[2]),
-    (Call::Negated, &[3]),
-    (Call::IsEven, &[4]),
-    (Call::IsOdd, &[5]),
-];
+/// The calls on a number.
+static NUMBER_CALLS: [(Call, &[usize]); 6] =
+    calls![Parts 0, Inc 1, Dec 2, Negated 3, IsEven 4, IsOdd 5];
 
 /// Two numbers, their sum, difference and product, and their averages.
 static SUMS: [([i128; 2], [i128; 5]); 20] = [
@@ -67,12 +68,8 @@ static SUMS: [([i128; 2], [i128; 5]); 20] = [
     ([1, 0], [1, 1, 0, 0, 1]),
 ];
 
-static SUM_CALLS: [(Call, &[usize]); 5] = [
-    (Call::Sum, &[0]),
-    (Call::Difference, &[1]),
-    (Call::Product, &[2]),
-    (Call::AverageFloor, &[3]),
-    (Call::AverageCeil, &[4]),
+static SUM_CALLS: [(Call, &[usize]); 5] = calls![
+    Sum 0, Difference 1, Product 2, AverageFloor 3, AverageCeil 4
 ];
 
 /// Two numbers, the quotient and the remainder by `/` and `%`, those rounded down, the quotient rounded up, the next and the
@@ -101,17 +98,9 @@ static DIVISIONS: [([i128; 2], [i128; 8]); 21] = [
     ([1, 0], [OUT, OUT, OUT, OUT, OUT, OUT, OUT, 0]),
 ];
 
-static DIVISION_CALLS: [(Call, &[usize]); 10] = [
-    (Call::DivRem, &[0, 1]),
-    (Call::Operators, &[0, 1]),
-    (Call::DivFloor, &[2]),
-    (Call::ModFloor, &[3]),
-    (Call::DivModFloor, &[2, 3]),
-    (Call::DivCeil, &[4]),
-    (Call::NextMultipleOf, &[5]),
-    (Call::PrevMultipleOf, &[6]),
-    (Call::IsMultipleOf, &[7]),
-    (Call::Divides, &[7]),
+static DIVISION_CALLS: [(Call, &[usize]); 10] = calls![
+    DivRem 0 1, Operators 0 1, DivFloor 2, ModFloor 3, DivModFloor 2 3, DivCeil 4, NextMultipleOf 5,
+    PrevMultipleOf 6, IsMultipleOf 7, Divides 7
 ];
 
 /// Two numbers, the gcd, the lcm, the iterations of Stein's loop, the Bezout pair and its iterations, the coefficient and its iterations, and
@@ -140,19 +129,13 @@ static DIVISORS: [([i128; 2], [i128; 9]); 21] = [
     ([1, 0], [1, 0, 0, 1, 0, 0, 1, 0, 1]),
 ];
 
-static DIVISOR_CALLS: [(Call, &[usize]); 8] = [
-    (Call::Gcd, &[0]),
-    (Call::Lcm, &[1]),
-    (Call::GcdLcm, &[0, 1]),
-    (Call::CountedGcd, &[0, 2]),
-    (Call::CountedBezout, &[0, 3, 4, 5]),
-    (Call::Binomial, &[6]),
-    (Call::CountedBinomial, &[6, 7]),
-    (Call::Multinomial, &[8]),
+static DIVISOR_CALLS: [(Call, &[usize]); 8] = calls![
+    Gcd 0, Lcm 1, GcdLcm 0 1, CountedGcd 0 2, CountedBezout 0 3 4 5, Binomial 6, CountedBinomial 6 7,
+    Multinomial 8
 ];
 
 /// The call that only types with a sign have.
-static SIGNED_CALLS: [(Call, &[usize]); 1] = [(Call::BezoutAndMultiple, &[0, 3, 4, 1])];
+static SIGNED_CALLS: [(Call, &[usize]); 1] = calls![BezoutAndMultiple 0 3 4 1];
 
 impl Ends {
     /// The number that is `n` in the tables, if the type has it.

@@ -5,7 +5,14 @@
 pub use crate::checked::{div_round, div_round_even};
 use crate::operators::{is_minus_one, is_zero};
 use crate::sign_magnitude::{number_of, parts_of, parts_of_product};
-use crate::NativeInteger;
+use crate::{Integer, NativeInteger};
+
+/// To which integer a half is rounded.
+#[derive(Clone, Copy)]
+enum Half {
+    AwayFromZero,
+    ToEven,
+}
 
 /// Returns the quotient of `a * b` by `d`, rounded to the nearest integer, and a half away from
 /// zero, for a built-in type of at most 64 bits, or `None` if `d` is 0 or the quotient does not
@@ -32,21 +39,7 @@ use crate::NativeInteger;
 /// [Contract](crate::definitions::applied#roundingcheckedproduct_div_round)
 #[must_use]
 pub fn product_div_round<T: NativeInteger<Magnitude = u64>>(a: T, b: T, d: T) -> Option<T> {
-    if is_zero(d) {
-        return None;
-    }
-    match a.checked_mul(&b) {
-        Some(product) if !is_minus_one(d) => Some(crate::applied::rounding::div_round(product, d)),
-        _ => wide_product_div_round(a, b, d),
-    }
-}
-
-/// Returns the quotient of [`product_div_round`], computed in 128 bits, or `None` if it does not
-/// fit. That of the magnitudes has the magnitude of that of the numbers.
-fn wide_product_div_round<T: NativeInteger<Magnitude = u64>>(a: T, b: T, d: T) -> Option<T> {
-    let (product, divisor) = (parts_of_product(a, b), parts_of(d));
-    let magnitude = crate::applied::rounding::div_round(product.1, u128::from(divisor.1));
-    number_of((product.0 != divisor.0, magnitude))
+    product_quotient(a, b, d, Half::AwayFromZero)
 }
 
 /// Returns the quotient of `a * b` by `d`, rounded to the nearest integer, and a half to the even
@@ -66,21 +59,39 @@ fn wide_product_div_round<T: NativeInteger<Magnitude = u64>>(a: T, b: T, d: T) -
 /// [Contract](crate::definitions::applied#roundingcheckedproduct_div_round_even)
 #[must_use]
 pub fn product_div_round_even<T: NativeInteger<Magnitude = u64>>(a: T, b: T, d: T) -> Option<T> {
+    product_quotient(a, b, d, Half::ToEven)
+}
+
+/// Returns the quotient of `a * b` by `d`, rounded to the nearest integer, or `None` as
+/// [`product_div_round`] does.
+#[inline]
+fn product_quotient<T: NativeInteger<Magnitude = u64>>(a: T, b: T, d: T, half: Half) -> Option<T> {
     if is_zero(d) {
         return None;
     }
     match a.checked_mul(&b) {
-        Some(product) if !is_minus_one(d) => {
-            Some(crate::applied::rounding::div_round_even(product, d))
-        }
-        _ => wide_product_div_round_even(a, b, d),
+        Some(product) if !is_minus_one(d) => Some(nearest(product, d, half)),
+        _ => wide_product_quotient(a, b, d, half),
     }
 }
 
-/// Returns the quotient of [`product_div_round_even`], computed in 128 bits, or `None` if it does
-/// not fit. That of the magnitudes has the magnitude of that of the numbers.
-fn wide_product_div_round_even<T: NativeInteger<Magnitude = u64>>(a: T, b: T, d: T) -> Option<T> {
+/// Returns the quotient of [`product_quotient`], computed in 128 bits, or `None` if it does not
+/// fit. That of the magnitudes has the magnitude of that of the numbers.
+fn wide_product_quotient<T: NativeInteger<Magnitude = u64>>(
+    a: T,
+    b: T,
+    d: T,
+    half: Half,
+) -> Option<T> {
     let (product, divisor) = (parts_of_product(a, b), parts_of(d));
-    let magnitude = crate::applied::rounding::div_round_even(product.1, u128::from(divisor.1));
+    let magnitude = nearest(product.1, u128::from(divisor.1), half);
     number_of((product.0 != divisor.0, magnitude))
+}
+
+/// Returns the quotient of `x` by `y`, rounded to the nearest integer.
+fn nearest<T: Integer + Copy>(x: T, y: T, half: Half) -> T {
+    match half {
+        Half::AwayFromZero => crate::applied::rounding::div_round(x, y),
+        Half::ToEven => crate::applied::rounding::div_round_even(x, y),
+    }
 }

@@ -3,7 +3,7 @@ use Rattle.calendar.proofs.eras.march_year_of_day.Goals as goal
 
 pub returns : goal.returns
 returns c =
-    let era = c.eras_in_days-era.result.0 in
+    let era = c.groups_and_rest-era.result.0 in
     let years = c.march_year-years.result.0 in
     let same : pos 400 *ℤ (era +ℤ pos 4) +ℤ pos years ≡ pos 400 *ℤ era +ℤ (pos years +ℤ pos 1600) = omega ints in
     let march = rw same at (c.march_year-years.ensures.day (era +ℤ pos 4)) in

@@ -1,8 +1,0 @@
-use Rattle.applied.proofs.NearestAnswers.{answer_by_magnitudes}
-use Rattle.num_integer.proofs.NearestQuotients.{nearest}
-use Rattle.applied.proofs.rounding.checked.wide_product_div_round.Goals as goal
-
-pub returns : goal.returns
-returns g c =
-    answer_by_magnitudes nearest g.T.Number.fits g.T.Number.value c.number_of.result c.parts_of_product-product.result c.parts_of-divisor.result
-    c.parts_of_product-product.ensures c.parts_of-divisor.ensures c.requires.nonzero (rw c.from.ensures at c.div_round-magnitude.ensures.nearest) c.number_of.ensures
