@@ -237,10 +237,7 @@ pub fn monday_on_or_after(day: i64) -> i64
         ⊎ ((result ≡ day)
         × ((first : ℤ) → IsFirstWeekday day Weekday.Monday first → ¬ (FitsSigned w64 first))) }
 {
-    match first_weekday_on_or_after(day, Weekday::Monday) {
-        Some(monday) => monday,
-        None => day,
-    }
+    first_weekday_on_or_after(day, Weekday::Monday).unwrap_or(day)
 }
 
 /// Returns the first Monday of September, or `None` if no date is the first Monday of September.
@@ -468,10 +465,7 @@ pub fn sunday_on_or_before(day: i64) -> i64
         ⊎ ((result ≡ day)
         × ((last : ℤ) → IsLastWeekday day Weekday.Sunday last → ¬ (FitsSigned w64 last))) }
 {
-    match last_weekday_on_or_before(day, Weekday::Sunday) {
-        Some(sunday) => sunday,
-        None => day,
-    }
+    last_weekday_on_or_before(day, Weekday::Sunday).unwrap_or(day)
 }
 
 /// Returns the day of the week with this ISO number, or Monday if no day has it.

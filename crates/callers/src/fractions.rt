@@ -49,8 +49,7 @@ pub fn gears(num: i64, den: i64, max_teeth: i64) -> (i64, i64)
     ensures reduced { IsReduced result.0 result.1 }
     ensures nearest { AreNearestParts num den max_teeth result.0 result.1 }
 {
-    let ratio = Ratio::new(num, den).unwrap().limit_parts(max_teeth);
-    (ratio.num(), ratio.den())
+    gears_of(&Ratio::new(num, den).unwrap(), max_teeth)
 }
 
 // ---- results as a caller uses them, with no proof file
@@ -58,6 +57,7 @@ pub fn gears(num: i64, den: i64, max_teeth: i64) -> (i64, i64)
 /// Returns the nearest pair of gears to a ratio, with at most `max_teeth` teeth on each.
 pub fn gears_of(ratio: &Ratio, max_teeth: i64) -> (i64, i64)
     requires { pos 0 <ℤ max_teeth }
+    ensures reduced { IsReduced result.0 result.1 }
     ensures nearest { AreNearestParts (num_of ratio.now) (den_of ratio.now) max_teeth result.0 result.1 }
     ensures first { result.0 ≤ℤ max_teeth }
     ensures second { result.1 ≤ℤ max_teeth }

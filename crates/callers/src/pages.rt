@@ -1,6 +1,6 @@
 //! Functions that call `applied` for pages and parts, shares, offsets and schedules.
 
-ghost use Rattle.std.specs.Prelude.{◌≡◌, ◌≢◌, ◌↔◌, ◌⊎◌, ◌<◌, ◌≤◌, ◌+◌, ◌*◌, ◌∷◌, [], ◌≤ℤ◌, ◌<ℤ◌, ◌+ℤ◌, ◌*ℤ◌, EachIndex, Err, FitsSigned, IsFalse, IsOk, IsTrue, MatchOption, OnErr, OnOk, length, min, pos, slice_index, sum, ℤ};
+ghost use Rattle.std.specs.Prelude.{◌≡◌, ◌≢◌, ◌↔◌, ◌⊎◌, ◌<◌, ◌≤◌, ◌+◌, ◌*◌, ◌∷◌, [], ◌≤ℤ◌, ◌<ℤ◌, ◌+ℤ◌, ◌*ℤ◌, EachIndex, Err, FitsSigned, IsFalse, IsOk, IsTrue, MatchOption, MatchResult, OnErr, OnOk, length, min, pos, slice_index, sum, ℤ};
 ghost use Rattle.std.specs.Int.{FitsUnsignedBits, w64};
 ghost use Rattle.num_integer.specs.Divisors.{Divides};
 ghost use Rattle.num_integer.specs.Least.{IsLeastFrom};
@@ -145,13 +145,11 @@ pub fn seats_by_votes(seats: u64, votes: &[u64], parts: &mut [u64]) -> Result<()
 /// Divides a credit note by weights. Returns an error, and changes nothing, if the weights are all 0.
 pub fn credit_by_weights(cents: i64, weights: &[u64], parts: &mut [i64]) -> Result<(), SharesError>
     requires { length parts.old ≡ length weights.now }
-    ensures weights { (result ≡ Err SharesError.ZeroWeights) ↔ (sum weights.now ≡ 0) }
-    ensures whole { OnOk result (signed_sum parts.new ≡ cents) }
-    ensures shares { OnOk result (AreSignedSharesByRemainder cents weights.now parts.new) }
-    ensures unchanged { OnErr result (parts.new ≡ parts.old) }
+    ensures { MatchResult result
+        (λ _. (0 < sum weights.now) × (signed_sum parts.new ≡ cents) × AreSignedSharesByRemainder cents weights.now parts.new)
+        (λ error. (error ≡ SharesError.ZeroWeights) × (sum weights.now ≡ 0) × (parts.new ≡ parts.old)) }
 {
-    signed_shares_by_largest_remainder(cents, weights, parts)?;
-    Ok(())
+    signed_shares_by_largest_remainder(cents, weights, parts)
 }
 
 // ---- offsets and schedules

@@ -3,6 +3,5 @@ use Rattle.callers.proofs.fractions.gears.Goals as goal
 
 pub returns-clause-nearest : goal.returns-clause-nearest
 returns-clause-nearest c =
-    let found = rw (to_z-of_z w64 c.args.max_teeth c.ranges.max_teeth) at c.limit_parts-ratio.ensures in
-    rw (to_z-of_z w64 _ (record { sfits = c.num.type_inv }), to_z-of_z w64 _ (record { sfits = c.den.type_inv }), c.num.ensures, c.den.ensures)
-    (nearest_parts_of_equal c.requires.den (unwrapped_is_exact c.ranges.num c.ranges.den c.unwrap.ensures c.new.ensures.fraction) found)
+    nearest_parts_of_equal c.requires.den (unwrapped_is_exact c.ranges.num c.ranges.den c.unwrap.ensures c.new.ensures.fraction)
+    (rw (to_z-of_z w64 c.args.max_teeth c.ranges.max_teeth) at c.gears_of.ensures.nearest)
