@@ -2,10 +2,10 @@
 //! `power_modulo` returns the power of `counted::power_modulo_counted`. `checked::sum_modulo(5, 4, 7)` is `Some(2)`, and
 //! `checked::sum_modulo(5, 4, 0)` is `None`.
 
-ghost use Rattle.std.specs.Prelude.{◌<ℤ◌, ◌+ℤ◌, ◌-ℤ◌, ◌*ℤ◌, ℤ, neg_ℤ, pos, MatchBool, MatchOption};
+ghost use Rattle.std.specs.Prelude.{◌≡◌, ◌<ℤ◌, ◌+ℤ◌, ◌-ℤ◌, ◌*ℤ◌, ℤ, neg_ℤ, pos, MatchBool, MatchOption};
 ghost use Rattle.std.specs.Int.{int_pow};
 ghost use Rattle.std.specs.List.{All};
-ghost use Rattle.modular.specs.CommonSolutions.{MatchCommonSolution, MatchWhere};
+ghost use Rattle.modular.specs.CommonSolutions.{AnswersCongruent, MatchCommonSolution, MatchWhere};
 ghost use Rattle.modular.specs.Congruences.{IsCountOfCongruent, IsInverse, IsNextCommonSolution, IsNextCongruent, IsPreviousCongruent, IsQuotientModulo, IsReducedModulus, IsResidue, IsResidueClass, Solves, SolvesBothCongruences, SolvesEach};
 ghost use Rattle.num_integer.specs.Checked.{AnswersWhere, FitsWith};
 ghost use Rattle.num_integer.specs.Divisors.{IsLeastCommonMultiple};
@@ -25,11 +25,7 @@ pub fn residue<T: Integer + Copy>(a: T, m: T) -> Option<T>
     ensures { AnswersWhere (pos 0 <ℤ T.value m)
         (FitsWith T.fits T.value (IsResidue (T.value m) (T.value a))) result }
 {
-    if is_positive(m) {
-        Some(crate::residue(a, m))
-    } else {
-        None
-    }
+    Some(crate::residue(a, positive(m)?))
 }
 
 /// Returns [`sum_modulo`](crate::sum_modulo), or `None` if `m` is not positive. `sum_modulo(5, 4, 7)` is `Some(2)`, and
@@ -39,11 +35,7 @@ pub fn sum_modulo<T: Integer + Copy>(a: T, b: T, m: T) -> Option<T>
     ensures { AnswersWhere (pos 0 <ℤ T.value m)
         (FitsWith T.fits T.value (IsResidue (T.value m) (T.value a +ℤ T.value b))) result }
 {
-    if is_positive(m) {
-        Some(crate::sum_modulo(a, b, m))
-    } else {
-        None
-    }
+    Some(crate::sum_modulo(a, b, positive(m)?))
 }
 
 /// Returns [`difference_modulo`](crate::difference_modulo), or `None` if `m` is not positive.
@@ -53,11 +45,7 @@ pub fn difference_modulo<T: Integer + Copy>(a: T, b: T, m: T) -> Option<T>
     ensures { AnswersWhere (pos 0 <ℤ T.value m)
         (FitsWith T.fits T.value (IsResidue (T.value m) (T.value a -ℤ T.value b))) result }
 {
-    if is_positive(m) {
-        Some(crate::difference_modulo(a, b, m))
-    } else {
-        None
-    }
+    Some(crate::difference_modulo(a, b, positive(m)?))
 }
 
 /// Returns [`negation_modulo`](crate::negation_modulo), or `None` if `m` is not positive. `negation_modulo(2, 7)` is
@@ -67,11 +55,7 @@ pub fn negation_modulo<T: Integer + Copy>(a: T, m: T) -> Option<T>
     ensures { AnswersWhere (pos 0 <ℤ T.value m)
         (FitsWith T.fits T.value (IsResidue (T.value m) (neg_ℤ (T.value a)))) result }
 {
-    if is_positive(m) {
-        Some(crate::negation_modulo(a, m))
-    } else {
-        None
-    }
+    Some(crate::negation_modulo(a, positive(m)?))
 }
 
 /// Returns [`product_modulo`](crate::product_modulo), or `None` if `m` is not positive. `product_modulo(4, 5, 7)` is
@@ -81,11 +65,7 @@ pub fn product_modulo<T: Modular>(a: T, b: T, m: T) -> Option<T>
     ensures { AnswersWhere (pos 0 <ℤ T.value m)
         (FitsWith T.fits T.value (IsResidue (T.value m) (T.value a *ℤ T.value b))) result }
 {
-    if is_positive(m) {
-        Some(crate::product_modulo(a, b, m))
-    } else {
-        None
-    }
+    Some(crate::product_modulo(a, b, positive(m)?))
 }
 
 /// Returns [`power_modulo`](crate::power_modulo), or `None` if `m` is not positive. `power_modulo(3, 4, 7)` is
@@ -95,11 +75,7 @@ pub fn power_modulo<T: Modular>(a: T, exponent: u128, m: T) -> Option<T>
     ensures { AnswersWhere (pos 0 <ℤ T.value m)
         (FitsWith T.fits T.value (IsResidue (T.value m) (int_pow (T.value a) exponent))) result }
 {
-    if is_positive(m) {
-        Some(crate::power_modulo(a, exponent, m))
-    } else {
-        None
-    }
+    Some(crate::power_modulo(a, exponent, positive(m)?))
 }
 
 /// Returns [`inverse_modulo`](crate::inverse_modulo), or `None` if `m` is not positive or there is no inverse.
@@ -109,11 +85,7 @@ pub fn inverse_modulo<T: Integer + Copy>(a: T, m: T) -> Option<T>
     ensures { MatchOption result ((x : ℤ) → ¬ (IsInverse (T.value a) (T.value m) x))
         (FitsWith T.fits T.value (IsInverse (T.value a) (T.value m))) }
 {
-    if is_positive(m) {
-        crate::inverse_modulo(a, m)
-    } else {
-        None
-    }
+    crate::inverse_modulo(a, positive(m)?)
 }
 
 /// Returns [`quotient_modulo`](crate::quotient_modulo), or `None` if `m` is not positive or `b` has no inverse.
@@ -123,11 +95,7 @@ pub fn quotient_modulo<T: Modular>(a: T, b: T, m: T) -> Option<T>
     ensures { MatchOption result ((x : ℤ) → ¬ (IsInverse (T.value b) (T.value m) x))
         (FitsWith T.fits T.value (IsQuotientModulo (T.value a) (T.value b) (T.value m))) }
 {
-    if is_positive(m) {
-        crate::quotient_modulo(a, b, m)
-    } else {
-        None
-    }
+    crate::quotient_modulo(a, b, positive(m)?)
 }
 
 /// Returns [`solutions`](crate::solutions), or `None` if `m` is not positive or there is no solution.
@@ -140,42 +108,25 @@ pub fn solutions<T: Modular>(a: T, b: T, m: T) -> Option<(T, T)>
         × IsResidueClass (Solves (T.value a) (T.value b) (T.value m)) (T.value s.0) (T.value s.1)
         × IsReducedModulus (T.value a) (T.value m) (T.value s.1)) }
 {
-    if is_positive(m) {
-        crate::solutions(a, b, m)
-    } else {
-        None
-    }
+    crate::solutions(a, b, positive(m)?)
 }
 
 /// Returns [`next_congruent`](crate::next_congruent), or `None` if `modulus` is not positive or the number does not fit.
 /// `next_congruent(10, 1, 4)` is `Some(13)`, and `next_congruent(10, 1, 0)` is `None`.
 pub fn next_congruent<T: Fits>(from: T, residue: T, modulus: T) -> Option<T>
     requires in_range { T.fits (T.value from) × T.fits (T.value residue) × T.fits (T.value modulus) }
-    ensures { MatchWhere (pos 0 <ℤ T.value modulus) result
-        ((t : ℤ) × IsNextCongruent (T.value from) (T.value residue) (T.value modulus) t × ¬ (T.fits t))
-        (FitsWith T.fits T.value (IsNextCongruent (T.value from) (T.value residue) (T.value modulus))) }
+    ensures { AnswersCongruent T.fits T.value IsNextCongruent from residue modulus result }
 {
-    if is_positive(modulus) {
-        crate::next_congruent(from, residue, modulus)
-    } else {
-        None
-    }
+    crate::next_congruent(from, residue, positive(modulus)?)
 }
 
 /// Returns [`previous_congruent`](crate::previous_congruent), or `None` if `modulus` is not positive or the number does not
 /// fit. `previous_congruent(10, 1, 4)` is `Some(9)`, and `previous_congruent(10, 1, 0)` is `None`.
 pub fn previous_congruent<T: Fits>(to: T, residue: T, modulus: T) -> Option<T>
     requires in_range { T.fits (T.value to) × T.fits (T.value residue) × T.fits (T.value modulus) }
-    ensures { MatchWhere (pos 0 <ℤ T.value modulus) result
-        ((t : ℤ) × IsPreviousCongruent (T.value to) (T.value residue) (T.value modulus) t
-        × ¬ (T.fits t))
-        (FitsWith T.fits T.value (IsPreviousCongruent (T.value to) (T.value residue) (T.value modulus))) }
+    ensures { AnswersCongruent T.fits T.value IsPreviousCongruent to residue modulus result }
 {
-    if is_positive(modulus) {
-        crate::previous_congruent(to, residue, modulus)
-    } else {
-        None
-    }
+    crate::previous_congruent(to, residue, positive(modulus)?)
 }
 
 /// Returns [`count_congruent`](crate::count_congruent), or `None` if `modulus` is not positive or the count does not fit.
@@ -189,11 +140,7 @@ pub fn count_congruent<T: Fits>(from: T, to: T, residue: T, modulus: T) -> Optio
         (FitsWith T.fits T.value (IsCountOfCongruent (T.value from) (T.value to) (T.value residue)
         (T.value modulus))) }
 {
-    if is_positive(modulus) {
-        crate::count_congruent(from, to, residue, modulus)
-    } else {
-        None
-    }
+    crate::count_congruent(from, to, residue, positive(modulus)?)
 }
 
 /// Returns [`chinese_remainder`](crate::chinese_remainder), or `None` if a modulus is not positive, if the least common
@@ -286,6 +233,14 @@ fn are_positive<T: Integer + Copy>(congruences: &[Congruence<T>]) -> bool
         }
     }
     true
+}
+
+/// Returns the modulus, or `None` if it is not positive.
+fn positive<T: Integer + Copy>(m: T) -> Option<T>
+    requires { T.fits (T.value m) }
+    ensures { MatchOption result (¬ (pos 0 <ℤ T.value m)) (λ x. (x ≡ m) × (pos 0 <ℤ T.value m)) }
+{
+    if is_positive(m) { Some(m) } else { None }
 }
 
 /// Returns `true` if the modulus is positive.

@@ -23,11 +23,7 @@ use crate::{Fits, Integer};
 /// [Contract](crate::definitions::modular#checkedresidue)
 #[must_use]
 pub fn residue<T: Integer + Copy>(a: T, m: T) -> Option<T> {
-    if is_positive(m) {
-        Some(crate::modular::residue(a, m))
-    } else {
-        None
-    }
+    Some(crate::modular::residue(a, positive(m)?))
 }
 
 /// Returns [`sum_modulo`](crate::modular::sum_modulo), or `None` if `m` is not positive.
@@ -44,11 +40,7 @@ pub fn residue<T: Integer + Copy>(a: T, m: T) -> Option<T> {
 /// [Contract](crate::definitions::modular#checkedsum_modulo)
 #[must_use]
 pub fn sum_modulo<T: Integer + Copy>(a: T, b: T, m: T) -> Option<T> {
-    if is_positive(m) {
-        Some(crate::modular::sum_modulo(a, b, m))
-    } else {
-        None
-    }
+    Some(crate::modular::sum_modulo(a, b, positive(m)?))
 }
 
 /// Returns [`difference_modulo`](crate::modular::difference_modulo), or `None` if `m` is not
@@ -66,11 +58,7 @@ pub fn sum_modulo<T: Integer + Copy>(a: T, b: T, m: T) -> Option<T> {
 /// [Contract](crate::definitions::modular#checkeddifference_modulo)
 #[must_use]
 pub fn difference_modulo<T: Integer + Copy>(a: T, b: T, m: T) -> Option<T> {
-    if is_positive(m) {
-        Some(crate::modular::difference_modulo(a, b, m))
-    } else {
-        None
-    }
+    Some(crate::modular::difference_modulo(a, b, positive(m)?))
 }
 
 /// Returns [`negation_modulo`](crate::modular::negation_modulo), or `None` if `m` is not positive.
@@ -87,11 +75,7 @@ pub fn difference_modulo<T: Integer + Copy>(a: T, b: T, m: T) -> Option<T> {
 /// [Contract](crate::definitions::modular#checkednegation_modulo)
 #[must_use]
 pub fn negation_modulo<T: Integer + Copy>(a: T, m: T) -> Option<T> {
-    if is_positive(m) {
-        Some(crate::modular::negation_modulo(a, m))
-    } else {
-        None
-    }
+    Some(crate::modular::negation_modulo(a, positive(m)?))
 }
 
 /// Returns [`product_modulo`](crate::modular::product_modulo), or `None` if `m` is not positive.
@@ -108,11 +92,7 @@ pub fn negation_modulo<T: Integer + Copy>(a: T, m: T) -> Option<T> {
 /// [Contract](crate::definitions::modular#checkedproduct_modulo)
 #[must_use]
 pub fn product_modulo<T: Modular>(a: T, b: T, m: T) -> Option<T> {
-    if is_positive(m) {
-        Some(crate::modular::product_modulo(a, b, m))
-    } else {
-        None
-    }
+    Some(crate::modular::product_modulo(a, b, positive(m)?))
 }
 
 /// Returns [`power_modulo`](crate::modular::power_modulo), or `None` if `m` is not positive.
@@ -129,11 +109,7 @@ pub fn product_modulo<T: Modular>(a: T, b: T, m: T) -> Option<T> {
 /// [Contract](crate::definitions::modular#checkedpower_modulo)
 #[must_use]
 pub fn power_modulo<T: Modular>(a: T, exponent: u128, m: T) -> Option<T> {
-    if is_positive(m) {
-        Some(crate::modular::power_modulo(a, exponent, m))
-    } else {
-        None
-    }
+    Some(crate::modular::power_modulo(a, exponent, positive(m)?))
 }
 
 /// Returns [`inverse_modulo`](crate::modular::inverse_modulo), or `None` if `m` is not positive or
@@ -151,11 +127,7 @@ pub fn power_modulo<T: Modular>(a: T, exponent: u128, m: T) -> Option<T> {
 /// [Contract](crate::definitions::modular#checkedinverse_modulo)
 #[must_use]
 pub fn inverse_modulo<T: Integer + Copy>(a: T, m: T) -> Option<T> {
-    if is_positive(m) {
-        crate::modular::inverse_modulo(a, m)
-    } else {
-        None
-    }
+    crate::modular::inverse_modulo(a, positive(m)?)
 }
 
 /// Returns [`quotient_modulo`](crate::modular::quotient_modulo), or `None` if `m` is not positive
@@ -173,11 +145,7 @@ pub fn inverse_modulo<T: Integer + Copy>(a: T, m: T) -> Option<T> {
 /// [Contract](crate::definitions::modular#checkedquotient_modulo)
 #[must_use]
 pub fn quotient_modulo<T: Modular>(a: T, b: T, m: T) -> Option<T> {
-    if is_positive(m) {
-        crate::modular::quotient_modulo(a, b, m)
-    } else {
-        None
-    }
+    crate::modular::quotient_modulo(a, b, positive(m)?)
 }
 
 /// Returns [`solutions`](crate::modular::solutions), or `None` if `m` is not positive or there is
@@ -195,11 +163,7 @@ pub fn quotient_modulo<T: Modular>(a: T, b: T, m: T) -> Option<T> {
 /// [Contract](crate::definitions::modular#checkedsolutions)
 #[must_use]
 pub fn solutions<T: Modular>(a: T, b: T, m: T) -> Option<(T, T)> {
-    if is_positive(m) {
-        crate::modular::solutions(a, b, m)
-    } else {
-        None
-    }
+    crate::modular::solutions(a, b, positive(m)?)
 }
 
 /// Returns [`next_congruent`](crate::modular::next_congruent), or `None` if `modulus` is not
@@ -217,11 +181,7 @@ pub fn solutions<T: Modular>(a: T, b: T, m: T) -> Option<(T, T)> {
 /// [Contract](crate::definitions::modular#checkednext_congruent)
 #[must_use]
 pub fn next_congruent<T: Fits>(from: T, residue: T, modulus: T) -> Option<T> {
-    if is_positive(modulus) {
-        crate::modular::next_congruent(from, residue, modulus)
-    } else {
-        None
-    }
+    crate::modular::next_congruent(from, residue, positive(modulus)?)
 }
 
 /// Returns [`previous_congruent`](crate::modular::previous_congruent), or `None` if `modulus` is
@@ -239,11 +199,7 @@ pub fn next_congruent<T: Fits>(from: T, residue: T, modulus: T) -> Option<T> {
 /// [Contract](crate::definitions::modular#checkedprevious_congruent)
 #[must_use]
 pub fn previous_congruent<T: Fits>(to: T, residue: T, modulus: T) -> Option<T> {
-    if is_positive(modulus) {
-        crate::modular::previous_congruent(to, residue, modulus)
-    } else {
-        None
-    }
+    crate::modular::previous_congruent(to, residue, positive(modulus)?)
 }
 
 /// Returns [`count_congruent`](crate::modular::count_congruent), or `None` if `modulus` is not
@@ -261,11 +217,7 @@ pub fn previous_congruent<T: Fits>(to: T, residue: T, modulus: T) -> Option<T> {
 /// [Contract](crate::definitions::modular#checkedcount_congruent)
 #[must_use]
 pub fn count_congruent<T: Fits>(from: T, to: T, residue: T, modulus: T) -> Option<T> {
-    if is_positive(modulus) {
-        crate::modular::count_congruent(from, to, residue, modulus)
-    } else {
-        None
-    }
+    crate::modular::count_congruent(from, to, residue, positive(modulus)?)
 }
 
 /// Returns [`chinese_remainder`](crate::modular::chinese_remainder), or `None` if a modulus is not
@@ -361,6 +313,15 @@ fn are_positive<T: Integer + Copy>(congruences: &[Congruence<T>]) -> bool {
         }
     }
     true
+}
+
+/// Returns the modulus, or `None` if it is not positive.
+fn positive<T: Integer + Copy>(m: T) -> Option<T> {
+    if is_positive(m) {
+        Some(m)
+    } else {
+        None
+    }
 }
 
 /// Returns `true` if the modulus is positive.
