@@ -5,11 +5,11 @@
 //! memory, and 4 if the line could not be written.
 #![tactic(auto)]
 
-ghost use Rattle.std.specs.Prelude.{◌≡◌, ◌≢◌, ◌<◌, ◌≤◌, ◌↔◌, ℕ, List, codes, false, IsTrue, IfOk, OnErr};
+ghost use Rattle.std.specs.Prelude.{◌≡◌, ◌≢◌, ◌<◌, ◌≤◌, ◌↔◌, codes, false, IsTrue, IfOk, OnErr};
 ghost use Rattle.std.specs.Io.KnownBytes.{Appends};
 ghost use Rattle.std.specs.Process.{exit_status};
 ghost use Rattle.intcalc.specs.Arguments.{words_of, words_read};
-ghost use Rattle.intcalc_core.specs.Line.{IsLine};
+ghost use Rattle.intcalc_core.specs.Line.{PrintsLine};
 
 use intcalc_core::run::{put_line, run};
 use intcalc_core::sink::{Console, Sink};
@@ -23,9 +23,8 @@ use std::{env, io};
 fn run_args<S: Sink>(alloc: Global, args: Args, out: &mut S) -> Result<u8, AllocError>
     ensures failed { IfOk result (λ status. (status ≡ 4) ↔ IsTrue (S.has_failed out.new)) }
     ensures untouched { OnErr result (out.new ≡ out.old) }
-    ensures line { IfOk result (λ status. status ≢ 4 → (line : List ℕ)
-        × IsLine (words_of args) line status
-        × Appends (S.contents out.old) (S.contents out.new) line) }
+    ensures line { IfOk result (λ status. status ≢ 4
+        → PrintsLine (words_of args) (S.contents out.old) (S.contents out.new) status) }
     ensures finished { IfOk result (λ status. status ≢ 4 → IsTrue (S.is_finished out.new)) }
 {
     let texts: Vec<String> = args.skip(1).collect(alloc)?;
@@ -47,9 +46,8 @@ fn put_no_memory<S: Sink>(out: &mut S) -> u8
 /// Puts the line for the arguments, and returns the exit code of the program: the status of the line,
 /// 3 if there was no memory, and 4 if the sink has failed.
 fn run_program<S: Sink>(alloc: Global, args: io::Result<Args>, out: &mut S) -> ExitCode
-    ensures line { exit_status result < 3 → (line : List ℕ)
-        × IsLine (words_read args) line (exit_status result)
-        × Appends (S.contents out.old) (S.contents out.new) line }
+    ensures line { exit_status result < 3
+        → PrintsLine (words_read args) (S.contents out.old) (S.contents out.new) (exit_status result) }
     ensures no_memory { exit_status result ≡ 3 → S.has_failed out.new ≡ false
         → Appends (S.contents out.old) (S.contents out.new) (codes "no memory\n") }
     ensures finished { S.has_failed out.new ≡ false → IsTrue (S.is_finished out.new) }

@@ -1,6 +1,7 @@
 -- The line and the status for a list of words.
 use Rattle.std.specs.Prelude.{◌≡◌, ℕ, ℤ, List, ◌++◌, codes, Option, Some, None, Result, Ok, Err, true, false}
 use Rattle.std.specs.Fmt.{decimal, signed_decimal}
+use Rattle.std.specs.Io.KnownBytes.{Appends}
 use Rattle.intcalc_core.specs.declared.calls.Kind.{Kind}
 use Rattle.intcalc_core.specs.declared.calls.Call.{Call}
 use Rattle.intcalc_core.specs.declared.calls.Answer.{Answer}
@@ -57,3 +58,8 @@ pub record IsLine (words : List (List ℕ)) (line : List ℕ) (status : ℕ) : T
   pub text : List ℕ
   pub reply : IsReply request text status
   pub ended : line ≡ text ++ codes "\n"
+
+-- The bytes of a sink have grown by the line for the words, if it shows them, and the status is that of the line.
+-- Examples: `i64 gcd 4 6`: from `a` to `a2` and a line feed, 0; of a sink that shows no bytes: 0.
+abbrev pub PrintsLine : List (List ℕ) → Option (List ℕ) → Option (List ℕ) → ℕ → Type 0
+PrintsLine words before after status = (line : List ℕ) × IsLine words line status × Appends before after line

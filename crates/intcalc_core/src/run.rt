@@ -1,10 +1,10 @@
 //! From words to a line.
 
-ghost use Rattle.std.specs.Prelude.{◌≡◌, ◌≢◌, ◌<◌, ◌↔◌, List, ℕ, map, length, false, IsTrue};
+ghost use Rattle.std.specs.Prelude.{◌≡◌, ◌≢◌, ◌<◌, ◌↔◌, map, length, false, IsTrue};
 ghost use Rattle.std.specs.Bool.{OnTrue};
 ghost use Rattle.std.specs.Io.KnownBytes.{Appends};
 ghost use Rattle.intcalc_core.specs.declared.line.TheConstants.{CAPACITY};
-ghost use Rattle.intcalc_core.specs.Line.{IsReply, IsLine};
+ghost use Rattle.intcalc_core.specs.Line.{IsReply, IsLine, PrintsLine};
 
 use crate::calls::{Call, Kind};
 use crate::line::{push_answer, push_refusal};
@@ -60,9 +60,8 @@ pub fn put_line<S: Sink>(out: &mut S, line: &[u8]) -> bool
 /// `6` it puts `2` and a line feed, and returns 0.
 pub fn run<S: Sink>(words: &[&str], out: &mut S) -> u8
     ensures failed { (result ≡ 4) ↔ IsTrue (S.has_failed out.new) }
-    ensures line { result ≢ 4 → (line : List ℕ)
-        × IsLine (map (λ w. w.now) words.now) line result
-        × Appends (S.contents out.old) (S.contents out.new) line }
+    ensures line { result ≢ 4
+        → PrintsLine (map (λ w. w.now) words.now) (S.contents out.old) (S.contents out.new) result }
     ensures finished { result ≢ 4 → IsTrue (S.is_finished out.new) }
 {
     let (line, status) = line_for(words);
