@@ -5,7 +5,6 @@ pub use Rattle.ratio64.proofs.Common.{◌+◌, IsRoundedEven, pos, sym, ap, ◌�
 unfoldable pub use Rattle.ratio64.specs.Decimal.{last_digits}
 pub use Rattle.ratio64.specs.Decimal.{ArePadding, point}
 pub use Rattle.num_integer.specs.Padded.{FormatOptions, padded_number}
-pub use Rattle.integer_core.proofs.PaddedTexts.{repeat_more}
 pub use Rattle.std.proofs.Output.{has_written_styled_append, has_written_styled_nil, has_written_styled_of_eq}
 use Rattle.std.proofs.lemmas.Fmt.{contents_after_writes}
 pub use Rattle.ratio64.proofs.DecimalTexts.{some_padded, ten_grows, ten_up}
@@ -20,6 +19,14 @@ pub use Rattle.std.specs.List.{repeat}
 use Rattle.ratio64.proofs.RoundedEven.{half_even_at_least, half_even_at_most, not_negative, half_even_more, natural_rounded_is}
 
 -- ---- what is written
+
+-- one more time, at the end
+pub repeat_more : (n : ℕ) (xs : List ℕ) → repeat n xs ++ xs ≡ repeat (n + 1) xs
+repeat_more n xs = rw add-one (by n)
+  where
+    by : (n : ℕ) → repeat n xs ++ xs ≡ repeat (suc n) xs
+    by zero = sym (append-nil xs)
+    by (suc n) = append_assoc xs (repeat n xs) xs ∙ ap (λ (l : List ℕ). xs ++ l) (by n)
 
 -- what an empty buffer has kept is what was written into it
 pub kept_is_written : (w text v : List ℕ) → w ≡ [] → WritesInCalls (λ before more after. after ≡ before ++ more) w text v → v ≡ text

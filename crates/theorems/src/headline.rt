@@ -60,8 +60,6 @@
 //! - `A × B` says that both hold, and `(x : A) × B` that there is such an `x`.
 //! - `IfOk result P` says that `P` holds of the value, if there is one. It does not say that there is one, so
 //!   another clause says when there is an error. `IfSome` and `IfNone` are read in the same way.
-//! - `FitsWith T.fits T.value P result` says that `result` is in the range of its type and that its integer has the
-//!   property `P`.
 //! - `EachFits fits P` says that each number with the property `P` fits. By a divisor 0 there is no quotient, so of
 //!   the quotients by 0 it says nothing, and a clause `nonzero` stands beside it.
 //! - `GcdFits fits a b` says that the gcd fits, if the type has -1. A type without -1 has no negative number. The
@@ -75,7 +73,7 @@
 //! - `Appends old new line` says that the bytes `new` are the bytes `old` and then `line`. It says nothing of a sink
 //!   that shows no bytes. `S.contents` is the bytes that a sink shows.
 
-ghost use Rattle.std.specs.Prelude.{◌≡◌, ◌≢◌, ◌↔◌, ◌+◌, ◌-◌, ◌*◌, ◌^◌, ◌%◌, ◌<◌, ◌≤◌, ◌≤ℤ◌, ◌+ℤ◌, ◌-ℤ◌, ◌*ℤ◌, ℕ, pos, unsigned_abs, [], ◌∷◌, ◌++◌, ◌<ℤ◌, negsuc, neg_ℤ, false, length, take, map, All, Err, IfNone, IfOk, IfSome, IsNone, IsTrue, FitsSigned, min};
+ghost use Rattle.std.specs.Prelude.{◌≡◌, ◌≢◌, ◌↔◌, ◌+◌, ◌-◌, ◌*◌, ◌^◌, ◌%◌, ◌<◌, ◌≤◌, ◌≤ℤ◌, ◌+ℤ◌, ◌-ℤ◌, ◌*ℤ◌, ℕ, List, pos, unsigned_abs, [], ◌∷◌, ◌++◌, ◌<ℤ◌, negsuc, neg_ℤ, false, length, take, map, All, Err, IfNone, IfOk, IfSome, IsNone, IsTrue, FitsSigned, min};
 ghost use Rattle.std.specs.Int.{FitsUnsignedBits, w64};
 ghost use Rattle.std.specs.Bool.{OnTrue};
 ghost use Rattle.std.specs.Hash as written;
@@ -83,7 +81,6 @@ ghost use Rattle.std.specs.Io.KnownBytes.{Appends, Keeps};
 ghost use Rattle.std.specs.List.{fold};
 ghost use Rattle.num_integer.specs.Averages.{IsAverageCeil, IsAverageFloor};
 ghost use Rattle.num_integer.specs.Bezout.{AreEuclidIterations, HasPair, IsBezoutAnswer, IsSmallPair, NeedsBoth};
-ghost use Rattle.num_integer.specs.Checked.{FitsWith};
 ghost use Rattle.num_integer.specs.Coefficient.{coefficient, coefficient_of};
 ghost use Rattle.num_integer.specs.Division.{EachKind, IsCeiled, IsFloored, IsMultiple, IsQuotient, IsRemainder, IsTruncated};
 ghost use Rattle.num_integer.specs.Divisors.{Divides, GcdFits, IsEven, IsGreatestCommonDivisor, IsLeastCommonMultiple};
@@ -100,12 +97,11 @@ ghost use Rattle.ratio64.specs.Fraction.{AreEqual, IsExact, IsOutsideI64, IsRedu
 ghost use Rattle.ratio64.specs.Ratio.{AnswersFraction, den_of, num_of};
 ghost use Rattle.ratio64.specs.RatioError as errors;
 ghost use Rattle.intcalc_core.specs.Console.{has_failed, is_finished, writer_of};
-ghost use Rattle.intcalc_core.specs.Line.{IsLine, PrintsLine};
+ghost use Rattle.intcalc_core.specs.Line.{IsLine};
 ghost use Rattle.intcalc_core.specs.Number.{spelled_number};
 ghost use Rattle.intcalc_core.specs.Outcome.{Outcome};
 ghost use Rattle.intcalc_core.specs.Refusal as refusals;
 ghost use Rattle.intcalc_core.specs.Words.{IsRequest};
-ghost use Rattle.theorems.specs.Results.{PartsFit, shown};
 
 use intcalc_core::number::read_number;
 use intcalc_core::run::{line_for, run};
@@ -132,7 +128,8 @@ pub fn root<T: Roots>(x: T, n: u32) -> T
     requires in_range { T.fits (T.value x) }
     requires degree { n ≢ 0 }
     requires from_zero_where_even { n % 2 ≡ 0 → pos 0 ≤ℤ T.value x }
-    ensures exact { FitsWith T.fits T.value (IsRoot (T.value x) n) result }
+    ensures in_range { T.fits (T.value result) }
+    ensures exact { IsRoot (T.value x) n (T.value result) }
 {
     nth_root(x, n)
 }
@@ -141,7 +138,8 @@ pub fn root<T: Roots>(x: T, n: u32) -> T
 pub fn square_root<T: Roots>(x: T) -> T
     requires in_range { T.fits (T.value x) }
     requires from_zero { pos 0 ≤ℤ T.value x }
-    ensures exact { FitsWith T.fits T.value (IsRoot (T.value x) 2) result }
+    ensures in_range { T.fits (T.value result) }
+    ensures exact { IsRoot (T.value x) 2 (T.value result) }
 {
     sqrt(x)
 }
@@ -149,7 +147,8 @@ pub fn square_root<T: Roots>(x: T) -> T
 /// Returns the cube root, which is exact.
 pub fn cube_root<T: Roots>(x: T) -> T
     requires in_range { T.fits (T.value x) }
-    ensures exact { FitsWith T.fits T.value (IsRoot (T.value x) 3) result }
+    ensures in_range { T.fits (T.value result) }
+    ensures exact { IsRoot (T.value x) 3 (T.value result) }
 {
     cbrt(x)
 }
@@ -184,7 +183,8 @@ pub fn cube_root_of_i64(x: i64) -> i64
 pub fn square_root_in_five_iterations<T: SqrtCounted>(x: T) -> (T, u32)
     requires in_range { T.fits (T.value x) }
     requires from_zero { pos 0 ≤ℤ T.value x }
-    ensures exact { FitsWith T.fits T.value (IsRoot (T.value x) 2) result.0 }
+    ensures in_range { T.fits (T.value result.0) }
+    ensures exact { IsRoot (T.value x) 2 (T.value result.0) }
     ensures iterations { AreSquareRootIterations (T.value x) result.1 }
     ensures five { result.1 ≤ 5 }
 {
@@ -226,7 +226,8 @@ pub fn newton_steps()
 pub fn greatest_common_divisor<T: Integer>(a: T, b: T) -> T
     requires in_range { T.fits (T.value a) × T.fits (T.value b) }
     requires gcd_fits { GcdFits T.fits (T.value a) (T.value b) }
-    ensures greatest { FitsWith T.fits T.value (IsGreatestCommonDivisor (T.value a) (T.value b)) result }
+    ensures in_range { T.fits (T.value result) }
+    ensures greatest { IsGreatestCommonDivisor (T.value a) (T.value b) (T.value result) }
 {
     gcd(a, b)
 }
@@ -246,7 +247,8 @@ pub fn bezout_pair<T: Integer>(a: T, b: T) -> ExtendedGcd<T>
     requires in_range { T.fits (T.value a) × T.fits (T.value b) }
     requires gcd_fits { GcdFits T.fits (T.value a) (T.value b) }
     requires has_pair { HasPair T.fits (T.value a) (T.value b) }
-    ensures in_range { PartsFit T.fits T.value result.gcd result.x result.y }
+    ensures in_range { T.fits (T.value result.gcd) × T.fits (T.value result.x)
+        × T.fits (T.value result.y) }
     ensures greatest { IsGreatestCommonDivisor (T.value a) (T.value b) (T.value result.gcd) }
     ensures certified { T.value result.x *ℤ T.value a +ℤ T.value result.y *ℤ T.value b
         ≡ T.value result.gcd }
@@ -276,8 +278,10 @@ pub fn bezout_pair_by_two_calls<T: Integer>(a: T, b: T) -> (ExtendedGcd<T>, Exte
     requires in_range { T.fits (T.value a) × T.fits (T.value b) }
     requires gcd_fits { GcdFits T.fits (T.value a) (T.value b) }
     requires has_pair { HasPair T.fits (T.value a) (T.value b) }
-    ensures in_range { PartsFit T.fits T.value result.0.gcd result.0.x result.0.y }
-    ensures second_in_range { PartsFit T.fits T.value result.1.gcd result.1.x result.1.y }
+    ensures in_range { T.fits (T.value result.0.gcd) × T.fits (T.value result.0.x)
+        × T.fits (T.value result.0.y) }
+    ensures second_in_range { T.fits (T.value result.1.gcd) × T.fits (T.value result.1.x)
+        × T.fits (T.value result.1.y) }
     ensures named { IsBezoutAnswer (T.value a) (T.value b)
         (T.value result.0.gcd) (T.value result.0.x) (T.value result.0.y) }
     ensures same_gcd { T.value result.1.gcd ≡ T.value result.0.gcd }
@@ -292,7 +296,8 @@ pub fn binomial_coefficient<T: Integer>(n: T, k: T) -> T
     requires in_range { T.fits (T.value n) × T.fits (T.value k) }
     requires from_zero { (pos 0 ≤ℤ T.value n) × (pos 0 ≤ℤ T.value k) }
     requires coefficient_fits { T.fits (coefficient_of (T.value n) (T.value k)) }
-    ensures exact { FitsWith T.fits T.value (λ c. c ≡ coefficient_of (T.value n) (T.value k)) result }
+    ensures in_range { T.fits (T.value result) }
+    ensures exact { T.value result ≡ coefficient_of (T.value n) (T.value k) }
 {
     binomial(n, k)
 }
@@ -311,7 +316,8 @@ pub fn multinomial_coefficient<T: Integer>(counts: &[T]) -> T
     requires in_range { All (λ count. T.fits (T.value count)) counts.now }
     requires from_zero { All (λ count. pos 0 ≤ℤ T.value count) counts.now }
     requires multinomial_fits { EachFits T.fits (IsMultinomial (map T.value counts.now)) }
-    ensures exact { FitsWith T.fits T.value (IsMultinomial (map T.value counts.now)) result }
+    ensures in_range { T.fits (T.value result) }
+    ensures exact { IsMultinomial (map T.value counts.now) (T.value result) }
 {
     multinomial(counts)
 }
@@ -398,7 +404,8 @@ pub fn quotients_of_i64(n: i64, d: i64) -> (i64, i64)
 pub fn residue<T: Integer>(n: T, d: T) -> T
     requires in_range { T.fits (T.value n) × T.fits (T.value d) }
     requires nonzero { T.value d ≢ pos 0 }
-    ensures floored { FitsWith T.fits T.value (IsRemainder IsFloored (T.value n) (T.value d)) result }
+    ensures in_range { T.fits (T.value result) }
+    ensures floored { IsRemainder IsFloored (T.value n) (T.value d) (T.value result) }
 {
     mod_floor(n, d)
 }
@@ -508,7 +515,8 @@ pub fn one_less<T: Integer>(n: &mut T)
 pub fn least_common_multiple<T: Integer>(a: T, b: T) -> T
     requires in_range { T.fits (T.value a) × T.fits (T.value b) }
     requires lcm_fits { EachFits T.fits (IsLeastCommonMultiple (T.value a) (T.value b)) }
-    ensures least { FitsWith T.fits T.value (IsLeastCommonMultiple (T.value a) (T.value b)) result }
+    ensures in_range { T.fits (T.value result) }
+    ensures least { IsLeastCommonMultiple (T.value a) (T.value b) (T.value result) }
 {
     lcm(a, b)
 }
@@ -711,7 +719,8 @@ pub fn ends_of_types_without_roots() -> ((u128, u128), (u128, u128))
 pub fn iterations_for_gcd<T: GcdCounted>(a: T, b: T) -> (T, u32)
     requires in_range { T.fits (T.value a) × T.fits (T.value b) }
     requires gcd_fits { GcdFits T.fits (T.value a) (T.value b) }
-    ensures greatest { FitsWith T.fits T.value (IsGreatestCommonDivisor (T.value a) (T.value b)) result.0 }
+    ensures in_range { T.fits (T.value result.0) }
+    ensures greatest { IsGreatestCommonDivisor (T.value a) (T.value b) (T.value result.0) }
     ensures iterations { AreGcdIterations T.low (T.value a) (T.value b) result.1 }
     ensures bound { (k l : ℕ) → IsBitLength (T.value a) k → IsBitLength (T.value b) l
         → result.1 ≤ k + l }
@@ -735,7 +744,8 @@ pub fn iterations_for_bezout_pair<T: Integer>(a: T, b: T) -> (ExtendedGcd<T>, u3
     requires in_range { T.fits (T.value a) × T.fits (T.value b) }
     requires gcd_fits { GcdFits T.fits (T.value a) (T.value b) }
     requires has_pair { HasPair T.fits (T.value a) (T.value b) }
-    ensures in_range { PartsFit T.fits T.value result.0.gcd result.0.x result.0.y }
+    ensures in_range { T.fits (T.value result.0.gcd) × T.fits (T.value result.0.x)
+        × T.fits (T.value result.0.y) }
     ensures named { IsBezoutAnswer (T.value a) (T.value b)
         (T.value result.0.gcd) (T.value result.0.x) (T.value result.0.y) }
     ensures iterations { AreEuclidIterations (T.value a) (T.value b) result.1 }
@@ -764,7 +774,8 @@ pub fn iterations_for_binomial<T: Integer>(n: T, k: T) -> (T, u32)
     requires in_range { T.fits (T.value n) × T.fits (T.value k) }
     requires from_zero { (pos 0 ≤ℤ T.value n) × (pos 0 ≤ℤ T.value k) }
     requires coefficient_fits { T.fits (coefficient_of (T.value n) (T.value k)) }
-    ensures exact { FitsWith T.fits T.value (λ c. c ≡ coefficient_of (T.value n) (T.value k)) result.0 }
+    ensures in_range { T.fits (T.value result.0) }
+    ensures exact { T.value result.0 ≡ coefficient_of (T.value n) (T.value k) }
     ensures iterations { result.1
         ≡ min (unsigned_abs (T.value k)) (unsigned_abs (T.value n) - unsigned_abs (T.value k)) }
     ensures bound { T.value k ≤ℤ T.value n
@@ -934,8 +945,9 @@ pub fn line_of_words(words: &[&str]) -> (Buffer, u8)
 /// Otherwise the sink has finished, and if it shows its bytes, exactly the line was added to them.
 pub fn printed_line<S: Sink>(words: &[&str], out: &mut S) -> u8
     ensures failed { (result ≡ 4) ↔ IsTrue (S.has_failed out.new) }
-    ensures line { result ≢ 4
-        → PrintsLine (map (λ w. w.now) words.now) (S.contents out.old) (S.contents out.new) result }
+    ensures line { result ≢ 4 → (line : List ℕ)
+        × IsLine (map (λ w. w.now) words.now) line result
+        × Appends (S.contents out.old) (S.contents out.new) line }
     ensures finished { result ≢ 4 → IsTrue (S.is_finished out.new) }
 {
     run(words, out)
@@ -956,11 +968,12 @@ pub fn new_console<W: Write>(out: W) -> Console<W>
 pub fn put_on_console<W: Write>(console: &mut Console<W>, bytes: &[u8]) -> Option<usize>
     ensures bound { IfSome result (λ n. n ≤ length bytes.now) }
     ensures progress { 0 < length bytes.now → IfSome result (λ n. 0 < n) }
-    ensures added { IfSome result
-        (λ n. Appends (shown W.contents console.old) (shown W.contents console.new) (take n bytes.now)) }
+    ensures added { IfSome result (λ n. Appends (W.contents (writer_of console.old))
+        (W.contents (writer_of console.new)) (take n bytes.now)) }
     ensures failed { IsNone result ↔ IsTrue (has_failed console.new) }
     ensures for_good { IsTrue (has_failed console.old) → IsTrue (has_failed console.new) }
-    ensures kept { IsNone result → Keeps (shown W.contents console.old) (shown W.contents console.new) }
+    ensures kept { IsNone result
+        → Keeps (W.contents (writer_of console.old)) (W.contents (writer_of console.new)) }
     ensures unfinished { is_finished console.new ≡ false }
 {
     console.put(bytes)
@@ -969,7 +982,8 @@ pub fn put_on_console<W: Write>(console: &mut Console<W>, bytes: &[u8]) -> Optio
 /// Flushes the writer of a console, and returns `false` exactly if the console has failed. At `true` the console is
 /// finished, and the bytes of its writer are what they were. No clause says when the flush fails.
 pub fn finished_console<W: Write>(console: &mut Console<W>) -> bool
-    ensures kept { OnTrue result (Keeps (shown W.contents console.old) (shown W.contents console.new)) }
+    ensures kept { OnTrue result
+        (Keeps (W.contents (writer_of console.old)) (W.contents (writer_of console.new))) }
     ensures failed { (result ≡ false) ↔ IsTrue (has_failed console.new) }
     ensures for_good { IsTrue (has_failed console.old) → IsTrue (has_failed console.new) }
     ensures finished { is_finished console.new ≡ result }
