@@ -60,25 +60,6 @@ U64Congruent modulus Is r = AnswersModulo modulus not_fitting (IsBeyond (FitsUns
 abbrev pub IsReasonOfCongruences : ℕ → Type 0
 IsReasonOfCongruences status = (status ≡ bad_modulus) ⊎ StatusIsOneOf not_fitting no_solution status
 
--- If both moduli are positive, the status is 0 and the value is the least of the numbers, it is `not_fitting` if that one does not fit,
--- or `no_solution` if there is no such number. Otherwise it is `bad_modulus`. The value is zero if the status is not 0.
--- Examples: of 'is 1 modulo 4 and 3 modulo 6' and 'is the least of these from 10 on': 0 and 21.
-abbrev pub AnswersCommon : {X : Type 0} → (X → ℤ) → (ℤ → Type 0) → (m n : ℤ) → (Is IsLeast : ℤ → Type 0) → X → ℕ → X → Type 0
-AnswersCommon value fits m n Is IsLeast zero_value status found =
-    ((pos 0 <ℤ m) → (pos 0 <ℤ n) → MatchCommonSolution (common_solution_of status found) (IsNever Is) (IsBeyond fits IsLeast) (λ t. IsLeast (value t)))
-    × ((status ≡ bad_modulus) ↔ ((m ≤ℤ pos 0) ⊎ (n ≤ℤ pos 0)))
-    × Refuses IsReasonOfCongruences zero_value status found
-
--- The same of a result that is a signed number.
--- Examples: those of `AnswersCommon`.
-abbrev pub I64Common : (m n : ℤ) → (Is IsLeast : ℤ → Type 0) → I64Answer → Type 0
-I64Common m n Is IsLeast r = AnswersCommon (λ z. z) (FitsSigned w64) m n Is IsLeast (pos 0) r.status r.value
-
--- The same of a result that is a natural number.
--- Examples: those of `AnswersCommon`.
-abbrev pub U64Common : (m n : ℤ) → (Is IsLeast : ℤ → Type 0) → U64Answer → Type 0
-U64Common m n Is IsLeast r = AnswersCommon (λ n. pos n) (FitsUnsignedBits 64) m n Is IsLeast 0 r.status r.value
-
 -- The status is 0 and the value is the first number that solves two congruences and the step to the next one. It is `no_solution` if
 -- no number solves both, `not_fitting` if one does and the least common multiple of the moduli does not fit, and `bad_modulus` if a
 -- modulus is not positive. The value is zeros if the status is not 0, and it fits.

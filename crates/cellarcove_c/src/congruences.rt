@@ -3,12 +3,13 @@
 
 ghost use Rattle.std.specs.Prelude.{◌≡◌, ◌⊎◌, ◌↔◌, ◌<ℤ◌, ◌≤ℤ◌, ℕ, ℤ, pos, FitsSigned, IsTrue, MatchOption};
 ghost use Rattle.std.specs.Int.{FitsUnsignedBits, w64};
+ghost use Rattle.modular.specs.CommonSolutions.{MatchCommonSolution};
 ghost use Rattle.modular.specs.Congruences.{IsCountOfCongruent, IsNextCommonSolution, IsNextCongruent, IsPreviousCongruent, IsReducedModulus, IsResidueClass, Solves, SolvesBothCongruences};
 ghost use Rattle.num_integer.specs.Divisors.{IsLeastCommonMultiple};
 ghost use Rattle.num_integer.specs.Range.{EachFits};
 ghost use Rattle.cellarcove_c.specs.Answers.{Refuses};
-ghost use Rattle.cellarcove_c.specs.Congruences.{AnswersModulo, I64Common, I64Congruent, IsClassOfBoth, IsNever, IsReasonOfCongruences, U64Common, U64Congruent};
-ghost use Rattle.cellarcove_c.specs.Statuses.{StatusIsOneOf, answer_of, bad_modulus, no_solution, not_fitting};
+ghost use Rattle.cellarcove_c.specs.Congruences.{AnswersModulo, I64Congruent, IsBeyond, IsClassOfBoth, IsNever, IsReasonOfCongruences, U64Congruent};
+ghost use Rattle.cellarcove_c.specs.Statuses.{StatusIsOneOf, answer_of, bad_modulus, common_solution_of, no_solution, not_fitting};
 
 use crate::answers::{BAD_MODULUS, I64Answer, NO_SOLUTION, NOT_FITTING, U64Answer, with_status};
 use crate::modulo::reason_for_modulus;
@@ -275,12 +276,28 @@ pub extern "C" fn cellarcove_next_common_solution_i64(
     b: i64,
     n: i64,
 ) -> I64Answer
-    ensures { I64Common m n (SolvesBothCongruences a m b n) (IsNextCommonSolution from a m b n) result }
+    ensures answer { (pos 0 <ℤ m) → (pos 0 <ℤ n)
+        → MatchCommonSolution (common_solution_of result.status result.value)
+        (IsNever (SolvesBothCongruences a m b n))
+        (IsBeyond (FitsSigned w64) (IsNextCommonSolution from a m b n))
+        (IsNextCommonSolution from a m b n) }
+    ensures bad_modulus { (result.status ≡ bad_modulus) ↔ ((m ≤ℤ pos 0) ⊎ (n ≤ℤ pos 0)) }
+    ensures refusal { Refuses IsReasonOfCongruences (pos 0) result.status result.value }
 {
     if m <= 0 || n <= 0 {
         return I64Answer::none(BAD_MODULUS);
     }
-    I64Answer::of_common(next_common_solution(from, (a, m).into(), (b, n).into()))
+    I64Answer::of_common(next_common_solution(
+        from,
+        Congruence {
+            residue: a,
+            modulus: m,
+        },
+        Congruence {
+            residue: b,
+            modulus: n,
+        },
+    ))
 }
 
 /// Returns the smallest number from `from` on that is `a` modulo `m` and `b` modulo `n`. The least
@@ -297,13 +314,29 @@ pub extern "C" fn cellarcove_next_common_solution_u64(
     b: u64,
     n: u64,
 ) -> U64Answer
-    ensures { U64Common (pos m) (pos n) (SolvesBothCongruences (pos a) (pos m) (pos b) (pos n))
-        (IsNextCommonSolution (pos from) (pos a) (pos m) (pos b) (pos n)) result }
+    ensures answer { (pos 0 <ℤ pos m) → (pos 0 <ℤ pos n)
+        → MatchCommonSolution (common_solution_of result.status result.value)
+        (IsNever (SolvesBothCongruences (pos a) (pos m) (pos b) (pos n)))
+        (IsBeyond (FitsUnsignedBits 64)
+        (IsNextCommonSolution (pos from) (pos a) (pos m) (pos b) (pos n)))
+        (λ t. IsNextCommonSolution (pos from) (pos a) (pos m) (pos b) (pos n) (pos t)) }
+    ensures bad_modulus { (result.status ≡ bad_modulus) ↔ ((pos m ≤ℤ pos 0) ⊎ (pos n ≤ℤ pos 0)) }
+    ensures refusal { Refuses IsReasonOfCongruences 0 result.status result.value }
 {
     if m == 0 || n == 0 {
         return U64Answer::none(BAD_MODULUS);
     }
-    U64Answer::of_common(next_common_solution(from, (a, m).into(), (b, n).into()))
+    U64Answer::of_common(next_common_solution(
+        from,
+        Congruence {
+            residue: a,
+            modulus: m,
+        },
+        Congruence {
+            residue: b,
+            modulus: n,
+        },
+    ))
 }
 
 /// Returns the status of the numbers that solve both congruences, and the numbers as a congruence. If there is no result,

@@ -1,9 +1,13 @@
 //! Times that recur after a period.
 
-ghost use Rattle.std.specs.Prelude.{pos};
+ghost use Rattle.std.specs.Prelude.{◌≡◌, ◌⊎◌, ◌↔◌, ◌<ℤ◌, ◌≤ℤ◌, pos, FitsSigned};
+ghost use Rattle.std.specs.Int.{FitsUnsignedBits, w64};
 ghost use Rattle.applied.specs.Schedules.{IsCountOfTimes, IsMeeting};
+ghost use Rattle.modular.specs.CommonSolutions.{MatchCommonSolution};
 ghost use Rattle.num_integer.specs.Least.{IsLeastFrom};
-ghost use Rattle.cellarcove_c.specs.Congruences.{I64Common, I64Congruent, U64Common, U64Congruent};
+ghost use Rattle.cellarcove_c.specs.Answers.{Refuses};
+ghost use Rattle.cellarcove_c.specs.Congruences.{I64Congruent, IsBeyond, IsNever, IsReasonOfCongruences, U64Congruent};
+ghost use Rattle.cellarcove_c.specs.Statuses.{bad_modulus, common_solution_of};
 
 use crate::answers::{BAD_MODULUS, I64Answer, NOT_FITTING, U64Answer};
 use applied::schedules::{Schedule, count, next_meeting};
@@ -17,12 +21,28 @@ use applied::schedules::{Schedule, count, next_meeting};
 #[unsafe(no_mangle)]
 #[tactic(auto, using(crate::proofs::NumbersReadBack::read_back))]
 pub extern "C" fn cellarcove_next_meeting_i64(now: i64, a: i64, p: i64, b: i64, q: i64) -> I64Answer
-    ensures { I64Common p q (IsMeeting a p b q) (IsLeastFrom now (IsMeeting a p b q)) result }
+    ensures answer { (pos 0 <ℤ p) → (pos 0 <ℤ q)
+        → MatchCommonSolution (common_solution_of result.status result.value)
+        (IsNever (IsMeeting a p b q))
+        (IsBeyond (FitsSigned w64) (IsLeastFrom now (IsMeeting a p b q)))
+        (IsLeastFrom now (IsMeeting a p b q)) }
+    ensures bad_modulus { (result.status ≡ bad_modulus) ↔ ((p ≤ℤ pos 0) ⊎ (q ≤ℤ pos 0)) }
+    ensures refusal { Refuses IsReasonOfCongruences (pos 0) result.status result.value }
 {
     if p <= 0 || q <= 0 {
         return I64Answer::none(BAD_MODULUS);
     }
-    I64Answer::of_common(next_meeting(now, (a, p).into(), (b, q).into()))
+    I64Answer::of_common(next_meeting(
+        now,
+        Schedule {
+            first: a,
+            period: p,
+        },
+        Schedule {
+            first: b,
+            period: q,
+        },
+    ))
 }
 
 /// Returns the first time, not before `now`, that is in two schedules. One has the times `a`, `a + p`,
@@ -33,13 +53,29 @@ pub extern "C" fn cellarcove_next_meeting_i64(now: i64, a: i64, p: i64, b: i64, 
 /// not fit.
 #[unsafe(no_mangle)]
 pub extern "C" fn cellarcove_next_meeting_u64(now: u64, a: u64, p: u64, b: u64, q: u64) -> U64Answer
-    ensures { U64Common (pos p) (pos q) (IsMeeting (pos a) (pos p) (pos b) (pos q))
-        (IsLeastFrom (pos now) (IsMeeting (pos a) (pos p) (pos b) (pos q))) result }
+    ensures answer { (pos 0 <ℤ pos p) → (pos 0 <ℤ pos q)
+        → MatchCommonSolution (common_solution_of result.status result.value)
+        (IsNever (IsMeeting (pos a) (pos p) (pos b) (pos q)))
+        (IsBeyond (FitsUnsignedBits 64) (IsLeastFrom (pos now) (IsMeeting (pos a) (pos p) (pos b) (pos q))))
+        (λ t. IsLeastFrom (pos now)
+        (IsMeeting (pos a) (pos p) (pos b) (pos q)) (pos t)) }
+    ensures bad_modulus { (result.status ≡ bad_modulus) ↔ ((pos p ≤ℤ pos 0) ⊎ (pos q ≤ℤ pos 0)) }
+    ensures refusal { Refuses IsReasonOfCongruences 0 result.status result.value }
 {
     if p == 0 || q == 0 {
         return U64Answer::none(BAD_MODULUS);
     }
-    U64Answer::of_common(next_meeting(now, (a, p).into(), (b, q).into()))
+    U64Answer::of_common(next_meeting(
+        now,
+        Schedule {
+            first: a,
+            period: p,
+        },
+        Schedule {
+            first: b,
+            period: q,
+        },
+    ))
 }
 
 /// Returns how many times of a schedule are in the range of numbers between `from` and `to`, and at them.

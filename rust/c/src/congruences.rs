@@ -230,7 +230,17 @@ pub extern "C" fn cellarcove_next_common_solution_i64(
     if m <= 0 || n <= 0 {
         return I64Answer::none(BAD_MODULUS);
     }
-    I64Answer::of_common(next_common_solution(from, (a, m).into(), (b, n).into()))
+    I64Answer::of_common(next_common_solution(
+        from,
+        Congruence {
+            residue: a,
+            modulus: m,
+        },
+        Congruence {
+            residue: b,
+            modulus: n,
+        },
+    ))
 }
 
 /// Returns the smallest number from `from` on that is `a` modulo `m` and `b` modulo `n`. The least
@@ -250,7 +260,17 @@ pub extern "C" fn cellarcove_next_common_solution_u64(
     if m == 0 || n == 0 {
         return U64Answer::none(BAD_MODULUS);
     }
-    U64Answer::of_common(next_common_solution(from, (a, m).into(), (b, n).into()))
+    U64Answer::of_common(next_common_solution(
+        from,
+        Congruence {
+            residue: a,
+            modulus: m,
+        },
+        Congruence {
+            residue: b,
+            modulus: n,
+        },
+    ))
 }
 
 /// Returns the status of the numbers that solve both congruences, and the numbers as a congruence.

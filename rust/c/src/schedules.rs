@@ -21,7 +21,17 @@ pub extern "C" fn cellarcove_next_meeting_i64(
     if p <= 0 || q <= 0 {
         return I64Answer::none(BAD_MODULUS);
     }
-    I64Answer::of_common(next_meeting(now, (a, p).into(), (b, q).into()))
+    I64Answer::of_common(next_meeting(
+        now,
+        Schedule {
+            first: a,
+            period: p,
+        },
+        Schedule {
+            first: b,
+            period: q,
+        },
+    ))
 }
 
 /// Returns the first time, not before `now`, that is in two schedules. One has the times `a`,
@@ -41,7 +51,17 @@ pub extern "C" fn cellarcove_next_meeting_u64(
     if p == 0 || q == 0 {
         return U64Answer::none(BAD_MODULUS);
     }
-    U64Answer::of_common(next_meeting(now, (a, p).into(), (b, q).into()))
+    U64Answer::of_common(next_meeting(
+        now,
+        Schedule {
+            first: a,
+            period: p,
+        },
+        Schedule {
+            first: b,
+            period: q,
+        },
+    ))
 }
 
 /// Returns how many times of a schedule are in the range of numbers between `from` and `to`, and at
