@@ -50,7 +50,11 @@ fn is_floor_root(root: u64, x: u64) -> bool
 /// `y`. What is added is more than the last error, so the root of a square is not 1 less. A root of at most 16 bits
 /// needs one iteration less.
 fn guessed_square_root(x: u64) -> u64 {
-    let (iterations, error) = if x < 1 << 32 { (2, 1 << 45) } else { (3, 1 << 27) };
+    let (iterations, error) = if x < 1 << 32 {
+        (2, 1 << 45)
+    } else {
+        (3, 1 << 27)
+    };
     let places = x.leading_zeros() / 2;
     let scaled = x.wrapping_shl(2 * places);
     let gap = high_product(!scaled, !scaled);

@@ -66,9 +66,14 @@ pub fn multiples_at_two_types<S: Integer, T: Integer>(n: S, d: S, m: T, e: T) ->
 
 /// Returns the greatest common divisor, at two types.
 pub fn gcd_at_two_types<S: Integer, T: Integer>(a: S, b: S, m: T, n: T) -> (S, T)
-    requires same { MeanSame S.fits S.value T.fits T.value a b m n }
-    requires fit { GcdFits S.fits (S.value a) (S.value b) × GcdFits T.fits (T.value m) (T.value n) }
-    ensures { Agree S.value T.value (IsGreatestCommonDivisor (S.value a) (S.value b)) result.0 result.1 }
+    requires first_in_range { S.fits (S.value a) × S.fits (S.value b) }
+    requires second_in_range { T.fits (T.value m) × T.fits (T.value n) }
+    requires same_first { S.value a ≡ T.value m }
+    requires same_second { S.value b ≡ T.value n }
+    requires first_fits { GcdFits S.fits (S.value a) (S.value b) }
+    requires second_fits { GcdFits T.fits (T.value m) (T.value n) }
+    ensures defined { IsGreatestCommonDivisor (S.value a) (S.value b) (S.value result.0) }
+    ensures same { S.value result.0 ≡ T.value result.1 }
 {
     (gcd(a, b), gcd(m, n))
 }
