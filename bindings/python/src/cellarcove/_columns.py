@@ -34,6 +34,8 @@ ERRORS = ('raise', 'mask', 'status')
 NO_DAY = -(2**63)  # the number of `NaT`
 NOT_FITTING = 2  # the status
 COUNTED = '_counted'  # the end of the name of a ufunc that counts failures, and returns no statuses
+ORDER = '<' if sys.byteorder == 'little' else '>'
+WORDS = {ORDER + 'i8': 'q', ORDER + 'u8': 'Q', 'q': 'q', 'l': 'q', 'Q': 'Q', 'L': 'Q'}
 PER_DAY = {'s': 86400, 'ms': 86400 * 10**3, 'us': 86400 * 10**6, 'ns': 86400 * 10**9}
 WITH_MISSING = (
     ": with missing values, pass pandas' Int64 by `.astype('Int64')`, which raises for a number "
@@ -331,12 +333,26 @@ def listed(value: Any, width: int) -> list[Any]:
     return [pair_of(classes['c'], pair) for pair in pairs]
 
 
-def items(name: str, value: Any, width: int, has_signed: bool) -> list[Any] | tuple[bytes, str]:
-    """The items of an iterable, or the bytes of an array of one dimension, with the letter of
+def words_of(numpy: Any, value: Any) -> tuple[Any, str]:
+    """An array of integers of 64 bits that lie side by side, or its bytes, with the letter of
+    their type. The letter of what is no such array is none."""
+    if isinstance(value, array.array) and value.itemsize == 8:
+        return value.tobytes(), WORDS.get(value.typecode, '')
+    if type(value) is not numpy.ndarray or value.ndim != 1:
+        return value, ''
+    lies_so = value.flags.c_contiguous and value.flags.aligned
+    return value, WORDS.get(value.dtype.str, '') if lies_so else ''
+
+
+def items(name: str, value: Any, width: int, has_signed: bool) -> list[Any] | tuple[Any, str]:
+    """The items of an iterable, or an array of one dimension, or its bytes, with the letter of
     their type."""
     if width > 1 or not is_column(value):
         return listed(value, width)
     numpy, _ = modules(name)
+    words, letter = words_of(numpy, value)
+    if letter == 'Q' or letter and has_signed:
+        return words, letter
     data, missing = plain(numpy, name, Leaf(value, 'the list'))
     if missing is not None and missing.any():
         raise ValueError(f'{name}(): an item of the array is missing')
