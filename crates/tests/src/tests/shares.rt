@@ -4,8 +4,6 @@ use super::rows::holds_at;
 use applied::shares::{
     SharesError, instalments, shares_by_largest_remainder, signed_shares_by_largest_remainder,
 };
-use std::fmt::Debug;
-use std::process::Abort;
 
 const MAX: u64 = u64::MAX;
 
@@ -37,26 +35,16 @@ static SHARES: [(u64, &[u64], &[u64]); 18] = [
     (1, &[MAX, MAX, MAX], &[1, 0, 0]),
 ];
 
-/// Checks the shares of each row.
-fn check_shares<T: Copy + Debug + Drop + PartialEq>(
-    rt: &impl Abort,
-    zero: T,
-    table: &[(T, &[u64], &[T])],
-    share: impl Fn(T, &[u64], &mut [T]) -> Result<(), SharesError>,
-) {
-    for row in table {
-        let &(amount, weights, expected) = row;
-        let mut parts = [zero; 7];
-        holds_at(rt, weights.len() <= parts.len(), row);
-        let length = weights.len();
-        let shared = share(amount, weights, &mut parts[..length]);
-        holds_at(rt, shared.is_ok() && &parts[..length] == expected, row);
-    }
-}
-
 #[test]
 fn largest_remainders(rt: HostRuntime) {
-    check_shares(&rt, 0, &SHARES, shares_by_largest_remainder);
+    for row in &SHARES {
+        let &(amount, weights, expected) = row;
+        let mut parts = [0; 7];
+        holds_at(&rt, weights.len() <= parts.len(), row);
+        let length = weights.len();
+        let shared = shares_by_largest_remainder(amount, weights, &mut parts[..length]);
+        holds_at(&rt, shared.is_ok() && &parts[..length] == expected, row);
+    }
 }
 
 /// A signed amount, weights, and their shares.
@@ -76,7 +64,14 @@ static SIGNED_SHARES: [(i64, &[u64], &[i64]); 7] = [
 
 #[test]
 fn signed_largest_remainders(rt: HostRuntime) {
-    check_shares(&rt, 0, &SIGNED_SHARES, signed_shares_by_largest_remainder);
+    for row in &SIGNED_SHARES {
+        let &(amount, weights, expected) = row;
+        let mut parts = [0; 4];
+        holds_at(&rt, weights.len() <= parts.len(), row);
+        let length = weights.len();
+        let shared = signed_shares_by_largest_remainder(amount, weights, &mut parts[..length]);
+        holds_at(&rt, shared.is_ok() && &parts[..length] == expected, row);
+    }
 }
 
 /// Weights, how many shares there are, and why the call writes none.
