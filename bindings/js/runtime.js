@@ -5,7 +5,7 @@ import * as rows from './table.js';
 import {STATUSES, STRUCTS} from './table.js';
 export {VERSION} from './table.js';
 
-/** The exports for C, once they are loaded. A struct is passed by a pointer into `memory`, and a result that is one is the first argument. */
+/** The exports for C, once they are loaded. A struct is passed by a pointer into `memory`, a result that is one first. */
 export let exports;
 
 /** Who made the WebAssembly: cargo, or Rattle of the proved sources, with addresses of 64 bits. */
@@ -283,7 +283,7 @@ function layout(kind) {
   return {size: up(end, align), align, leaves};
 }
 
-// A call has the memory behind the program's own: a place for a struct of the result, one for each parameter, and room for lists.
+// A call has the memory behind the program's own: a place for the result, one for each parameter, and room for lists.
 // A `var` is faster to read than a `let`.
 const PLACE = 64, TEXT = 64, ENCODER = /*#__PURE__*/ new TextEncoder();
 var RESULT, ROOM, RESULT_WORD, ROOM_WORD, WORDS, view, I64, U64, I32, U32, U8;
@@ -457,7 +457,7 @@ function run({raw, parameters, inMemory, hasStatus, read}, given) {
 var value;
 var turns = 0; // how often a call has written arguments
 
-/** The arguments of a call, as numbers, arrays of parts, and lists of such arrays, and the numbers that choose the form. */
+/** The arguments of a call, as numbers, arrays of parts, and lists of these, and the numbers that choose the form. */
 function taken({forms: [, other], parameters, hasWritten}, given, seen) {
   if (given.length !== parameters.length) throw new TypeError(`${seen.call} takes ${parameters.map((it) => it.isWritten ? 'count' : it.name).join(', ')}`);
   const wide = [];
@@ -509,7 +509,7 @@ function statusOf(plan, given, seen) {
   return status === Status.NOT_FITTING && areUnsigned ? run(unsigned, found) : status;
 }
 
-// ---- the short ways, for usual arguments: without a result a call is made again, with what errors need
+// ---- the short ways, for usual arguments: without a result a call is made again, for its error
 
 /** How a short way takes a parameter: below FRACTION as a number. */
 const SHORT = {i64: 0, u64: 1, i32: 2, u32: 3, u16: 4, u8: 5, Fraction: 6, Date: 7}, FRACTION = 6, LIST = 8, BYTES = 10;
@@ -679,7 +679,7 @@ function takesText(plan, text) {
   return parses(plan, text) && hasResult(plan);
 }
 
-/** That of a list: before a number, alone, or behind a number if the call writes another list. */
+/** That of a list: before a number, alone, or behind one if the call writes another list. */
 function takesList(plan, a, b) {
   const {kinds, raw, written} = plan, turn = ++turns, items = written ? b : a, place = written ? 0 : 1;
   const number = kinds.length === 1 ? 0n : numberOf(written ? a : b, kinds[place]);
@@ -719,7 +719,7 @@ function attemptSlowly(name, row, many, ...given) {
   return {status, value};
 }
 
-/** The function of a call, which throws if there is no result. One of any count of numbers has the row of a list as well. */
+/** The function of a call, which throws if there is no result. One of any count of numbers has the row of a list too. */
 export function call(name, row, many) {
   let plan = null;
   return (...given) => {
@@ -748,7 +748,7 @@ function hasColumns(x, parameter) {
   return parameter.leaves.some(({name}, place) => ArrayBuffer.isView(Array.isArray(x) ? x[place] : x[name]));
 }
 
-/** The form of a call of arrays: that of the items of the arrays, or else that which the numbers fit. */
+/** The form of a call of arrays: that of their items, or else that which the numbers fit. */
 function formOfArrays([form, other], cells, seen) {
   if (!other) return form;
   const wide = cells.filter((cell) => cell.kind !== cell.otherKind), arrays = wide.filter(({given}) => ArrayBuffer.isView(given));
