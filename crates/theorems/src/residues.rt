@@ -7,7 +7,6 @@ ghost use Rattle.modular.specs.declared.common_solutions.CommonSolution.TheVaria
 ghost use Rattle.num_integer.specs.Divisors.{IsLeastCommonMultiple};
 ghost use Rattle.num_integer.specs.Least.{IsLeastFrom};
 ghost use Rattle.num_integer.specs.Range.{EachFits};
-ghost use Rattle.theorems.specs.Results.{AnswersI64};
 
 use modular::{
     CommonSolution, Congruence, chinese_remainder, inverse_modulo, next_common_solution,
@@ -128,17 +127,28 @@ pub fn next_common_solution_or_none(
 ) -> Option<i64>
     requires a_positive { pos 0 <ℤ a.modulus }
     requires b_positive { pos 0 <ℤ b.modulus }
-    ensures { AnswersI64 (IsNextCommonSolution from a.residue a.modulus b.residue b.modulus) result }
+    ensures { MatchOption result
+        ((t : ℤ) → IsNextCommonSolution from a.residue a.modulus b.residue b.modulus t
+        → ¬ (FitsSigned w64 t))
+        (λ t. IsNextCommonSolution from a.residue a.modulus b.residue b.modulus t) }
 {
-    let solution = next_common_solution(from, a, b);
-    solution.value()
+    match next_common_solution(from, a, b) {
+        CommonSolution::At(t) => Some(t),
+        CommonSolution::Beyond | CommonSolution::Never => None,
+    }
 }
 
 /// Returns the next number that solves each of the congruences, or `None` if no such number is in range.
 pub fn next_solution_of_each(from: i64, congruences: &[Congruence<i64>]) -> Option<i64>
     requires in_range { All (λ c. FitsSigned w64 c.residue × FitsSigned w64 c.modulus) congruences.now }
     requires positive { All (λ c. pos 0 <ℤ c.modulus) congruences.now }
-    ensures { AnswersI64 (IsLeastFrom from (SolvesEach (λ x. x) congruences.now)) result }
+    ensures { MatchOption result
+        ((t : ℤ) → IsLeastFrom from (SolvesEach (λ x. x) congruences.now) t
+        → ¬ (FitsSigned w64 t))
+        (λ t. IsLeastFrom from (SolvesEach (λ x. x) congruences.now) t) }
 {
-    next_common_solution_of(from, congruences).value()
+    match next_common_solution_of(from, congruences) {
+        CommonSolution::At(t) => Some(t),
+        CommonSolution::Beyond | CommonSolution::Never => None,
+    }
 }
