@@ -28,13 +28,13 @@ export class Refused extends RangeError {
 
 /** What a call knows of its arguments: its name, the parameter, the place in a list, and the first refusal. */
 const reading = (call) => ({call, parameter: '', place: -1, status: 0, words: ''});
-const named = ({parameter, place}) => place < 0 ? parameter : `${parameter}[${place}]`;
+const named = ({alias, parameter, place}) => place < 0 ? alias ?? parameter : `${parameter}[${place}]`;
 
 /** A value as an error shows it: a text in quotes. */
 function shown(x) {
   if (typeof x === 'string') return JSON.stringify(x.length > 60 ? `${x.slice(0, 60)}..` : x);
-  if (typeof x === 'object' && x !== null && !ArrayBuffer.isView(x)) return Array.isArray(x) ? `[${x.slice(0, 4).map(shown).join(', ')}${x.length > 4 ? ', ..' : ''}]` : `of type ${x.constructor?.name ?? 'object'}`;
-  return typeof x === 'function' ? 'a function' : ArrayBuffer.isView(x) ? `of type ${x.constructor.name}` : String(x);
+  if (typeof x === 'object' && x !== null) return Array.isArray(x) ? `[${x.slice(0, 4).map(shown).join(', ')}${x.length > 4 ? ', ..' : ''}]` : `of type ${x.constructor?.name ?? 'object'}`;
+  return typeof x === 'function' ? 'a function' : String(x);
 }
 
 const wrong = (seen, x, words) => new TypeError(`${seen.call}: ${named(seen)} is ${shown(x)}, ${words}`);
@@ -66,7 +66,7 @@ export class Fraction {
   }
 
   static from(given) {
-    return hasShort(planOf(rows.fractionAdd), [given, 0n]) ? value : ofParts('Fraction.from', rows.fractionNew, partsOf('Fraction', given, ['num', 'den'], 'Fraction.from'));
+    return ofParts('Fraction.from', rows.fractionAdd, [given, 0n], 'value');
   }
 
   toString() {
@@ -124,13 +124,11 @@ export class Decimal {
   }
 }
 
-const DATE = ['year', 'month', 'day'];
-
 export class PlainDate {
   #exists = true; // its parts are those of a date
 
   constructor(year, month, day, made) {
-    if (made !== MADE) [year, month, day] = checkedDate('PlainDate', [year, month, day]);
+    if (made !== MADE) ({year, month, day} = dateOf('PlainDate', [year, month, day]));
     this.year = year;
     this.month = month;
     this.day = day;
@@ -138,18 +136,17 @@ export class PlainDate {
   }
 
   static from(given) {
-    if (typeof given === 'object' && given !== null && #exists in given) return given;
-    return hasShort(planOf(rows.plusMonths), [given, 0n]) ? value : new PlainDate(...checkedDate('PlainDate.from', partsOf('Date', given, DATE, 'PlainDate.from')), MADE);
+    return #exists in Object(given) ? given : dateOf('PlainDate.from', given, 'value');
   }
 
   /** -1, 0 or 1, as one date is before, the same as or after another. */
-  static compare(one, other) {
-    const a = PlainDate.from(one), b = PlainDate.from(other);
+  static compare(one, other, name = 'PlainDate.compare') {
+    const a = #exists in Object(one) ? one : dateOf(name, one, 'one'), b = #exists in Object(other) ? other : dateOf(name, other, 'other');
     return a.year < b.year ? -1 : a.year > b.year ? 1 : Math.sign(a.month - b.month || a.day - b.day);
   }
 
   equals(other) {
-    return PlainDate.compare(this, other) === 0;
+    return PlainDate.compare(this, other, 'PlainDate.equals') === 0;
   }
 
   toString() {
@@ -173,23 +170,13 @@ export class PlainDate {
   }
 }
 
-/** The year, month and day of a date that exists. */
-function checkedDate(name, [year, month, day]) {
-  ofParts(name, rows.dayOfYear, [[year, month, day]]);
-  return [BigInt(year), Number(month), Number(day)];
-}
+/** The date of a parameter of another call. */
+const dateOf = (name, given, parameter) => ofParts(name, rows.plusMonths, [given, 0n], parameter);
 
-/** The result of a call of parts, by the name of another. */
-function ofParts(name, row, given) {
+/** The result of a call, by the name of another and of its parameter. */
+function ofParts(name, row, given, parameter) {
   const plan = planOf(row);
-  return hasShort(plan, given) ? value : resultOf(name, plan, given);
-}
-
-/** The parts of one value. */
-function partsOf(kind, value, names, name) {
-  const seen = {...reading(name), parameter: 'value'}, found = parts(whole(kind, value, seen), names, seen);
-  if (seen.status !== 0) throw new Refused(seen.status, name, seen.words);
-  return found;
+  return hasShort(plan, given) ? value : resultOf(name, plan, given, parameter);
 }
 
 const NO_PARTS = {Fraction: {num: 0n, den: 1n}, Date: {year: 0n, month: 1, day: 1}}; // in the place of those of a text that is refused
@@ -207,9 +194,14 @@ function ofText(kind, text, seen) {
   const isDecimal = kind === 'Fraction' && text.includes('.');
   const [status, found, words] = isDecimal ? ofDecimal(text) : parsed(kind === 'Date' ? rows.dateFromText : rows.fractionFromText, text);
   if (status === 0) return found;
-  const what = kind === 'Date' ? 'date such as 2024-02-29' : 'fraction such as -3/4 or -0.75';
-  refuse(seen, status, `${named(seen)} is ${shown(text)}${words ?? (status === Status.OUTSIDE || status === Status.NO_DATE ? `, which is no ${what}` : `: ${STATUSES[status][1]}`)}`);
+  refuseText(seen, status, text, words, ' or -0.75');
   return NO_PARTS[kind];
+}
+
+/** Refuses a text, for these words or those of the status. */
+function refuseText(seen, status, text, words, also = '') {
+  const what = {[Status.NO_DATE]: 'date such as 2024-02-29', [Status.OUTSIDE]: `fraction such as -3/4${also}`}[status];
+  refuse(seen, status, `${named(seen)} is ${shown(text)}${words ?? (what ? `, which is no ${what}` : `: ${STATUSES[status][1]}`)}`);
 }
 
 /** The status and the result of a call of a text. */
@@ -220,14 +212,13 @@ function parsed(row, text) {
 
 /** The status of a decimal text, its fraction, and what is wrong with it. */
 function ofDecimal(text) {
-  const found = /^(-?)0*(\d+)(?:\.(\d*?)0*)?$/.exec(text);
-  if (!found || text.endsWith('.')) return [Status.OUTSIDE, undefined, notDecimal(text)];
+  const found = /^(-?)(?=\d)0*([1-9]\d*|)(?:\.(?=\d)(\d*[1-9]|)0*)?$/.exec(text); // in linear time
+  if (!found) return [Status.OUTSIDE, undefined, notDecimal(text)];
   const [, sign, integral, places = ''] = found;
-  if (integral.length > 19 || places.length > 62) return [Status.NOT_FITTING, undefined, `: ${STATUSES[Status.NOT_FITTING][1]}`]; // a power of 2 or 5 divides the denominator
-  let num = BigInt(integral + places), den = 10n ** BigInt(places.length);
+  if (integral.length > 19 || places.length > 62) return [Status.NOT_FITTING]; // a power of 2 or 5 divides the denominator
+  let num = BigInt(`${sign}0${integral}${places}`), den = 10n ** BigInt(places.length);
   for (const prime of [2n, 5n]) while (den % prime === 0n && num % prime === 0n) [num, den] = [num / prime, den / prime];
-  const given = [sign === '-' ? -num : num, den];
-  return given.every(isSigned) ? [run(planOf(rows.fractionNew).forms[0], given), value] : [Status.NOT_FITTING, undefined, `: ${STATUSES[Status.NOT_FITTING][1]}`];
+  return isSigned(num) && isSigned(den) ? [run(planOf(rows.fractionNew).forms[0], [num, den]), value] : [Status.NOT_FITTING];
 }
 
 /** Why a text is no decimal number. */
@@ -243,7 +234,7 @@ function statusOfDecimal(given, seen) {
   seen.parameter = 'text';
   if (typeof given[0] !== 'string') throw wrong(seen, given[0], 'which is no text');
   const [status, found, words] = ofDecimal(given[0]);
-  if (status !== 0) refuse(seen, status, `text is ${shown(given[0])}${words ?? `: ${STATUSES[status][1]}`}`);
+  if (status !== 0) refuseText(seen, status, given[0], words);
   value = found;
   return status;
 }
@@ -379,18 +370,12 @@ function readerOf(result, leaves, inMemory) {
   if (leaves.length === 1) return a;
   const [first, second, third] = leaves.map(({name}) => name);
   const model = Object.fromEntries(leaves.map(({name, kind}) => [name, GET[kind](RESULT)])); // a copy is faster than an object of names
-  if (!third) return () => {
-    const found = {...model};
-    found[first] = a();
-    found[second] = b();
-    return first === 'first' ? Object.freeze(found) : found; // solutions
-  };
   return () => {
     const found = {...model};
     found[first] = a();
     found[second] = b();
-    found[third] = c();
-    return found;
+    if (third) found[third] = c();
+    return first === 'first' ? Object.freeze(found) : found; // solutions
   };
 }
 
@@ -694,10 +679,11 @@ function takesList(plan, a, b) {
 const hasShort = (plan, given) => given.length === plan.count && plan.way(plan, given[0], given[1], given[2], given[3], given[4]);
 
 /** The result of a plan, by the name of a call. */
-function resultOf(name, plan, given) {
-  const seen = reading(name), status = statusOf(plan, given, seen);
-  if (status !== 0) throw new Refused(status, name, seen.words);
-  return value;
+function resultOf(name, plan, given, alias) {
+  const seen = {...reading(name), alias}, status = statusOf(plan, given, seen);
+  if (status === 0) return value;
+  if (plan.kinds[0] === BYTES) refuseText(seen, status, given[0]);
+  throw new Refused(status, name, seen.words);
 }
 
 /** The plan of a call and its arguments. Any count of numbers is a list, but for two of a call that has two. */

@@ -176,6 +176,17 @@ test('an error has the name of the call, the parameter and the value in quotes',
     [() => daysBetween('2024-01-01', 'x'), 'daysBetween: NO_DATE: to is "x", which is no date such as 2024-02-29'],
     [() => plusMonths([2024, 2, 30], 1), 'plusMonths: NO_DATE: there is no such date'],
     [() => PlainDate.from('x'), 'PlainDate.from: NO_DATE: value is "x", which is no date such as 2024-02-29'],
+    [() => PlainDate.compare('2024-02-29', 'x'), 'PlainDate.compare: NO_DATE: other is "x", which is no date such as 2024-02-29'],
+    [() => PlainDate.compare('x', '2024-02-29'), 'PlainDate.compare: NO_DATE: one is "x", which is no date such as 2024-02-29'],
+    [() => PlainDate.from('2024-02-29').equals('x'), 'PlainDate.equals: NO_DATE: other is "x", which is no date such as 2024-02-29'],
+    [() => PlainDate.from('2024-02-29').equals(null), 'PlainDate.equals: other is null, which has not the parts year, month, day'],
+    [() => calls.dateFromText('hello'), 'dateFromText: NO_DATE: text is "hello", which is no date such as 2024-02-29'],
+    [() => calls.fractionFromText('19.99'), 'fractionFromText: OUTSIDE: text is "19.99", which is no fraction such as -3/4'],
+    [() => calls.fractionFromText('1/0'), 'fractionFromText: ZERO_DENOMINATOR: text is "1/0": the denominator of a fraction is 0, or a divisor of fractions is'],
+    [() => Fraction.from(0.5), 'Fraction.from: value is 0.5, which is no safe integer'],
+    [() => Fraction.from('x/y'), 'Fraction.from: OUTSIDE: value is "x/y", which is no fraction such as -3/4 or -0.75'],
+    [() => gcd(new Uint8Array(1), 2), 'gcd: the items of the arrays have different types, or are no integers of 64 bits'],
+    [() => plusMonths(new Uint8Array(1), 2), 'plusMonths: date is of type Uint8Array, which has not the parts year, month, day'],
     [() => new PlainDate(2024, 13, 99), 'PlainDate: NO_DATE: there is no such date'],
     [() => fractionAdd('1/2', 'x/y'), 'fractionAdd: OUTSIDE: b is "x/y", which is no fraction such as -3/4 or -0.75'],
     [() => fractionAdd('1/0', 1), 'fractionAdd: ZERO_DENOMINATOR: a is "1/0": the denominator of a fraction is 0, or a divisor of fractions is'],
@@ -252,6 +263,16 @@ test('a decimal text is read exactly', () => {
   for (const given of [[19.99], [], ['1', '2'], [null]]) assert.throws(() => fractionFromDecimal(...given), TypeError);
   assert.equal(`${fractionAdd('19.99', '0.01')} ${fractionToDecimal('19.99', 2)}`, '20 19.99');
   assert.throws(() => fractionAdd('1,999.00', 1), {message: 'fractionAdd: OUTSIDE: a is "1,999.00", which is no decimal number such as -19.99: it has a group separator or a decimal comma'});
+});
+
+test('a long decimal text is read, or refused, in a time as its length', () => {
+  const zeros = '0'.repeat(50_000), began = performance.now();
+  for (const [text, status] of [[`${zeros}x`, Status.OUTSIDE], [`0.${zeros}x`, Status.OUTSIDE], [`0.${zeros}1`, Status.NOT_FITTING], [`0.1${zeros}x`, Status.OUTSIDE],
+    [`1${zeros}x`, Status.OUTSIDE], [`0.${'10'.repeat(25_000)}x`, Status.OUTSIDE], [`${zeros}1.5${zeros}`, Status.ANSWER]]) {
+    assert.equal(tryFractionFromDecimal(text).status, status);
+    assert.equal(calls.tryFractionAdd(text.includes('.') ? text : `${text}.0`, 1).status, status);
+  }
+  assert.ok(performance.now() - began < 2000); // the square of the length takes minutes
 });
 
 test('a list, or any count of numbers', () => {

@@ -1,3 +1,5 @@
+# SPDX-FileCopyrightText: 2026 The Cellarcove authors
+# SPDX-License-Identifier: MIT OR Apache-2.0
 # What bash completes of `intcalc`.
 _intcalc() {
     local words=

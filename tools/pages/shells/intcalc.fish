@@ -1,3 +1,5 @@
+# SPDX-FileCopyrightText: 2026 The Cellarcove authors
+# SPDX-License-Identifier: MIT OR Apache-2.0
 # What fish completes of `intcalc`.
 complete -c intcalc -f
 set -l second 'test (count (commandline -opc)) = 2'

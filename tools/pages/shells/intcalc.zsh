@@ -1,4 +1,6 @@
 #compdef intcalc
+# SPDX-FileCopyrightText: 2026 The Cellarcove authors
+# SPDX-License-Identifier: MIT OR Apache-2.0
 # What zsh completes of `intcalc`.
 _intcalc_calls() {
     local calls=(
