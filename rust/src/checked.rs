@@ -12,15 +12,15 @@ mod roots;
 mod scaling;
 
 #[doc(inline)]
-pub use crate::applied::counting::checked::{factorial, falling};
+pub use crate::applied::counting::checked_calls::{factorial, falling};
 #[doc(inline)]
-pub use crate::applied::lists::checked::{dot_product, gcd_of, lcm_of, sum_of};
+pub use crate::applied::lists::checked_calls::{dot_product, gcd_of, lcm_of, sum_of};
 #[doc(inline)]
-pub use crate::applied::powers::checked::{ilog, sqrt_rem};
+pub use crate::applied::powers::checked_calls::{ilog, sqrt_rem};
 #[doc(inline)]
-pub use crate::applied::rounding::checked::{product_div_round, product_div_round_even};
+pub use crate::applied::rounding::checked_calls::{product_div_round, product_div_round_even};
 #[doc(inline)]
-pub use crate::modular::checked::{
+pub use crate::modular::checked_calls::{
     chinese_remainder, count_congruent, difference_modulo, inverse_modulo, negation_modulo,
     next_common_solution, next_common_solution_of, next_congruent, power_modulo,
     previous_congruent, product_modulo, quotient_modulo, residue, solutions, sum_modulo,

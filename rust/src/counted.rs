@@ -5,4 +5,4 @@ pub use crate::coefficients::binomial_counted;
 pub use crate::integer_core::counted::{extended_gcd_counted, GcdCounted};
 pub use crate::integer_roots::counted::SqrtCounted;
 #[doc(inline)]
-pub use crate::modular::counted::power_modulo_counted;
+pub use crate::modular::counted_calls::power_modulo_counted;

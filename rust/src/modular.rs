@@ -2,10 +2,12 @@
 //! Arithmetic modulo a positive number, at every modulus of every integer type.
 //! `sum_modulo(5, 4, 7)` is `2`.
 
-pub mod checked;
+pub(crate) mod checked_calls;
+pub use crate::checked;
 mod common_solutions;
 mod congruent_numbers;
-pub mod counted;
+pub(crate) mod counted_calls;
+pub use crate::counted;
 mod exponentiation;
 pub(crate) mod guards;
 mod inverses;

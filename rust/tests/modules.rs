@@ -126,6 +126,24 @@ fn one_import_of_checked_calls() {
     }
 }
 
+/// Each public module named `checked` is the one at the root, and so with `counted`: two imports of all names give one.
+mod imports_of_all_names {
+    #![deny(warnings)]
+    use cellarcove::applied::{counting::*, lists::*, powers::*, rounding::*};
+    use cellarcove::modular::*;
+    use cellarcove::*;
+
+    #[test]
+    fn one_module_of_a_name() {
+        assert_eq!((checked::lcm(4, 6), factorial(3)), (Some(12), 6));
+        assert_eq!((gcd_of(&[12, 18]), sqrt_rem(10)), (6, (3, 1)));
+        assert_eq!((cbrt(27), div_round(7, 2), residue(-1, 7)), (3, 4, 6));
+        assert_eq!(counted::extended_gcd_counted(8, 13).1, 5);
+        assert_eq!(cellarcove::modular::checked::lcm(4, 6), Some(12));
+        assert_eq!(cellarcove::applied::lists::checked::residue(-1, 7), Some(6));
+    }
+}
+
 /// What has no bound, holds any type.
 struct Rows<T>(Vec<IterBinomial<T>>);
 

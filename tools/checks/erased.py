@@ -64,6 +64,8 @@ TOKEN = re.compile(r'''\s+ | //[^\n]* | (?P<token> /\*
     | b?'(?:[^'\\\n]|\\(?:x..|u\{[^}]*\}|.))' | '\w+ | \d\w*(?:\.\d\w*)? | \w+
     | :: | -> | => | == | != | <= | >= | && | \|\| | \.\.=? | [-+*/%^&|]= | .)''', re.X | re.S)
 OPENING, CLOSING = ('(', '[', '{'), (')', ']', '}')
+# The private modules of Rust whose items are in the module of this name at the root too.
+PARTS = {'checked_calls': 'checked', 'counted_calls': 'counted'}
 NAME = re.compile(r'(?<= )(?<!:: )(?<! \. )[^\W\d]\w*(?: :: \w+)*(?= )')       # or a path
 GENERICS = re.compile(r'^impl (?:<(?:->|[^<>]|<(?:->|[^<>]|<[^<>]*>)*>)*> )?| where .*$')
 
@@ -272,7 +274,7 @@ class Tree:
 
     def note(self, scope: Scope, kind: str, name: str, tokens: list[str], count: int = 0) -> None:
         """Notes an item by its kind, its place and its name."""
-        place = (*self.at(scope.place), name)
+        place = self.at((*scope.place, name))
         path = '::'.join(place[place[0] == 'crate':])
         key = path if kind == 'fn' else f'{kind} {path}'
         lead = functools.partial(self.lead, scope.module, scope.roots)
@@ -322,7 +324,8 @@ class Tree:
         return self.at(place) if place else words
 
     def at(self, place: Place) -> Place:
-        return (*self.moved.get(place[0], place[:1]), *place[1:])
+        return (*self.moved.get(place[0], place[:1]),
+                *(PARTS.get(word, word) for word in place[1:]))
 
     def start(self, module: Place, roots: Roots, words: Place) -> Place | None:
         """Where a path leads on its own side."""

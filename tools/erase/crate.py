@@ -19,7 +19,7 @@ from tools.erase import copies, documentation
 from tools.erase.additions import Additions
 from tools.erase.callers import Callers
 from tools.erase.deletion import GHOST_NAMES
-from tools.erase.library import CRATES, JOINED, MOVED, ROOT, SINCE, WITHIN, RustLibrary
+from tools.erase.library import CRATES, JOINED, MOVED, PART, ROOT, SINCE, WITHIN, RustLibrary
 from tools.erase.prose import within_columns
 from tools.erase.source import Item, Unknown
 
@@ -39,9 +39,13 @@ class Eraser(documentation.Comments):
     def dress(self, item: Item, owner: Item | None) -> None:
         if self.only_returns(item, owner):
             self.put_before(item.first, '#[must_use]\n')
-        if item.kind == 'mod' and item.public and not self.library.is_open(
-                self.library.modules[self.crate, (*self.module.path, item.name)]):
-            self.write(item.word - 1, 'pub(crate)')
+        if item.kind == 'mod' and item.public:
+            below = self.library.modules[self.crate, (*self.module.path, item.name)]
+            if below.is_part or not self.library.is_open(below):
+                self.write(item.word - 1, 'pub(crate)')
+            if below.is_part:
+                self.write(item.word + 1, PART.format(item.name))
+                self.write(item.last, f';\npub use {self.root}::{item.name};')
         self.add_sections(item, owner)
         if self.crate == copies.CLONING:
             copies.write(self, item, owner)
@@ -77,6 +81,8 @@ class Eraser(documentation.Comments):
         names = [j for j in range(k + 1, last) if self.kind(j) == 'word']
         private = {name: path for path, name in imports if item.public and self.is_private(path)}
         gone = GHOST_NAMES | private.keys()
+        if item.public:
+            gone |= {name for path, name in imports if self.module.stands_at_root(path)}
         if [self.at(j) for j in names] == ['std', 'error', 'Error']:
             self.drop(k, last)
             return self.write(k, 'use crate::errors::Error;')
@@ -211,7 +217,8 @@ def texts_of(library: RustLibrary) -> dict[str, str]:
     # one import has all calls of modules of one name
     for name in JOINED:
         made[f'{name}.rs'] = made.get(f'{name}.rs', '') + ''.join(
-            f'#[doc(inline)]\npub use crate::{"::".join(place)}::{{{", ".join(names)}}};\n'
+            f'#[doc(inline)]\npub use crate::{"::".join(place[:-1])}::{PART.format(name)}::'
+            f'{{{", ".join(names)}}};\n'
             for place, names in library.joined(name).items())
     others = additions.modules()
     made['lib.rs'] = head_of_root(library, others, made['lib.rs'])

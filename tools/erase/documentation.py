@@ -188,6 +188,8 @@ class Comments(Deletion):
                      if (*base, *words) in found]
             if words[0][0].isupper() and words[:1] in found and words[0] not in self.words:
                 paths.append(words)
+            if self.module.stands_at_root(self.module.imported.get(words[0], ())):
+                paths.append((self.module.path[-1], *words))
             return f'[`{match[1]}`]({"::".join(("crate", *paths[0]))})' if paths else match[0]
 
         return re.sub(r'\[`(\w+(?:::\w+)*)`\](?!\()', link, comment)

@@ -19,8 +19,10 @@ CRATES = {'integer_core': 'mod', 'integer_roots': 'mod', 'num_integer': '', 'mod
           'applied': 'pub mod'}
 # The crate whose modules stood at the root until a version, and are there too, deprecated.
 MOVED, SINCE = 'applied', '0.5.0'
-# The names of modules of which one at the root has all items in the Rust crate.
+# The names of modules of which one at the root has all items in the Rust crate. There every public
+# module of the name is that one, so that two glob imports give one module.
 JOINED = ('checked', 'counted')
+PART = '{}_calls'    # the private module of what another crate adds to it
 # The public modules that are private in the Rust crate: others export what they have, or no caller
 # there needs it.
 WITHIN = {('integer_core', 'counted'), ('integer_core', 'guards'), ('integer_core', 'padded'),
@@ -47,9 +49,21 @@ class Module:
         return {name: path for item in self.items if item.kind == 'use'
                 for path, name in self.source.imports(item)}
 
+    @property
+    def is_part(self) -> bool:
+        """Whether the Rust crate has its items in the module of its name at the root."""
+        return (self.path[-1:] != () and self.path[-1] in JOINED and self.crate != ROOT
+                and (self.crate, '/'.join(self.path)) not in WITHIN)
+
+    def stands_at_root(self, path: Place) -> bool:
+        """Whether a path of an import leads to what the module at the root has itself."""
+        return self.is_part and path[:2] == (ROOT, self.path[-1])
+
     def rust_file(self) -> str:
         """Its file below src/ of the Rust crate."""
         names = self.path if self.crate == ROOT else (self.crate,) + self.path
+        if self.is_part:
+            names = (*names[:-1], PART.format(names[-1]))
         return '/'.join(names) + '.rs' if names else 'lib.rs'
 
 
@@ -146,7 +160,7 @@ class Library:
                     if self.shows(target, target_name):
                         self.note(public, (target.crate, target.path, target_name), place, name)
                 elif self.is_open(target):
-                    self.publish(public, target, place + (name,))
+                    self.export(public, target, place + (name,))
             if item.public and item.kind not in ('use', 'mod'):
                 public.setdefault((module.crate, module.path, item.name), place)
         for item in self.below(module):
@@ -154,6 +168,10 @@ class Library:
             if item.public and self.is_open(below):
                 self.publish(public, below, place + (item.name,))
         return public
+
+    def export(self, public: Public, module: Module, place: Place) -> None:
+        """Notes the public items of a module that is exported to this place."""
+        self.publish(public, module, place)
 
     def note(self, public: Public, key: Key, place: Place, name: str) -> None:
         """Notes an export of an item under a name."""
@@ -180,6 +198,8 @@ class Made(Library):
 
     def __init__(self, folder: Path) -> None:
         super().__init__(folder.parent, [folder.name])
+        # the further places of modules of the root
+        self.places: list[tuple[Place, Place]] = []
         self.name, root = folder.name, self.modules[folder.name, ()]
         below = [item.name for item in self.below(root) if item.public]
         self.late = {name for item in self.below(root) for first, _ in item.attributes
@@ -192,6 +212,12 @@ class Made(Library):
 
     def is_open(self, module: Module) -> bool:
         return not (module.path and module.path[0] in self.late)
+
+    def export(self, public: Public, module: Module, place: Place) -> None:
+        if len(module.path) == 1:               # its items are noted at the root
+            self.places.append((place, module.path))
+        else:
+            super().export(public, module, place)
 
     def note(self, public: Public, key: Key, place: Place, name: str) -> None:
         """Notes an export. The shortest place of an item counts, but for those in modules that are

@@ -90,6 +90,7 @@ def lines_of(made: Shown) -> Iterator[str]:
     for name, key in made.others:
         yield (f'use {"::".join(name)} = '
                f'{"::".join((*made.public[key], made.names.get(key, key[2])))}')
+    yield from (f'use {"::".join(there)} = {"::".join(place)}' for there, place in made.places)
     own = {item.name for module in made.modules.values() for item in module.items
            if item.kind in ('struct', 'enum', 'trait')}
     for source, item in ((module.source, item) for module in made.modules.values()

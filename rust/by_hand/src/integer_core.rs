@@ -1,8 +1,16 @@
-//! What the compiler says of a type that is no `Integer`; the attribute of `divides`; and hidden methods of `Integer`. At a type of
-//! one's own its operators decide if a result does not fit. No other crate can make a `Reason`, so no other crate calls them.
+//! What a type of one's own owes; what the compiler says of a type that is no `Integer`; the attribute of `divides`; and hidden
+//! methods of `Integer`. At a type of one's own its operators decide if a result does not fit. No other crate can make a `Reason`, so
+//! no other crate calls them.
 
 use guards::Reason;
 
+#[doc = "# Your own type"]
+#[doc = ""]
+#[doc = "Its operators `+`, `-`, `*`, `/` and `%` have to return the exact result if the type"]
+#[doc = "has it, and to panic if not, in a release build too: the methods that you do not write,"]
+#[doc = "and most functions here, are made of them, and return what they return. With a plain"]
+#[doc = "`self.0 * other.0` a product that does not fit is a wrong number. The methods that you"]
+#[doc = "write have to be exact too if the result fits."]
 #[cfg_attr(
     has_diagnostic,
     diagnostic::on_unimplemented(

@@ -2,7 +2,8 @@
 //! Squares and other powers of integers: tests of them, the root with what is left, and the integer
 //! logarithm.
 
-pub mod checked;
+pub(crate) mod checked_calls;
+pub use crate::checked;
 
 use crate::guards::check;
 use crate::operators::{difference, is_below, is_equal, is_negative, one, product, quotient, zero};

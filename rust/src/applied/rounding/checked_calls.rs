@@ -2,7 +2,6 @@
 //! The calls of this module for any two numbers, and those of a product. Each is `None` if the
 //! divisor is 0 or the quotient does not fit.
 
-pub use crate::checked::{div_round, div_round_even};
 use crate::operators::{is_minus_one, is_zero};
 use crate::sign_magnitude::{number_of, parts_of, parts_of_product};
 use crate::{Integer, NativeInteger};
@@ -20,7 +19,8 @@ enum Half {
 ///
 /// The product need not fit: then it is computed in 128 bits. No wider type has the products of
 /// `i128`, `u128` or a type of your own, so there call
-/// [`checked::product`](crate::checked::product) and then [`div_round`], if the product fits.
+/// [`checked::product`](crate::checked::product) and then [`div_round`](crate::checked::div_round),
+/// if the product fits.
 ///
 /// A part of a number is never `None`: if `a` and `b` are at least 0, and `b` is at most `d`, which
 /// is positive, the quotient is at most `a`.
