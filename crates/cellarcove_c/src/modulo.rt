@@ -3,6 +3,7 @@
 ghost use Rattle.std.specs.Prelude.{◌≡◌, ◌≢◌, ◌<ℤ◌, ◌+ℤ◌, ◌-ℤ◌, ◌*ℤ◌, neg_ℤ, pos, MatchBool};
 ghost use Rattle.std.specs.Int.{int_pow};
 ghost use Rattle.modular.specs.Congruences.{IsInverse, IsQuotientModulo, IsResidue};
+ghost use Rattle.num_integer.specs.Only.{IsOnly};
 ghost use Rattle.cellarcove_c.specs.Answers.{I64Answers, U64Answers};
 ghost use Rattle.cellarcove_c.specs.Congruences.{I64Solution, IsNever, U64Solution};
 ghost use Rattle.cellarcove_c.specs.Statuses.{StatusIs, bad_modulus};
@@ -173,7 +174,8 @@ pub extern "C" fn cellarcove_inverse_modulo_u64(a: u64, m: u64) -> U64Answer
 /// `BAD_MODULUS` if `m` is not positive. `NO_SOLUTION` if `b` has no inverse modulo `m`.
 #[unsafe(no_mangle)]
 pub extern "C" fn cellarcove_quotient_modulo_i64(a: i64, b: i64, m: i64) -> I64Answer
-    ensures { I64Solution m (IsNever (IsInverse b m)) (IsQuotientModulo a b m) result }
+    ensures answer { I64Solution m (IsNever (IsInverse b m)) (IsQuotientModulo a b m) result }
+    ensures only { result.status ≡ 0 → IsOnly (IsQuotientModulo a b m) result.value }
 {
     I64Answer::of(
         checked::quotient_modulo(a, b, m),
@@ -186,8 +188,10 @@ pub extern "C" fn cellarcove_quotient_modulo_i64(a: i64, b: i64, m: i64) -> I64A
 /// `BAD_MODULUS` if `m` is 0. `NO_SOLUTION` if `b` has no inverse modulo `m`.
 #[unsafe(no_mangle)]
 pub extern "C" fn cellarcove_quotient_modulo_u64(a: u64, b: u64, m: u64) -> U64Answer
-    ensures { U64Solution (pos m) (IsNever (IsInverse (pos b) (pos m)))
+    ensures answer { U64Solution (pos m) (IsNever (IsInverse (pos b) (pos m)))
         (IsQuotientModulo (pos a) (pos b) (pos m)) result }
+    ensures only { result.status ≡ 0
+        → IsOnly (IsQuotientModulo (pos a) (pos b) (pos m)) (pos result.value) }
 {
     U64Answer::of(
         checked::quotient_modulo(a, b, m),

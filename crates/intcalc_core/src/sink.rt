@@ -113,7 +113,7 @@ impl<W: Write> Sink for Console<W> {
     }
 }
 
-/// Puts all of the bytes, or returns `None` if the sink has failed. Without bytes it makes no `put`.
+/// Puts all of the bytes, or returns `None` if the sink has failed.
 pub fn put_all<S: Sink>(out: &mut S, bytes: &[u8]) -> Option<()>
     ensures added { MatchOption result (IsTrue (S.has_failed out.new))
         (λ _. Appends (S.contents out.old) (S.contents out.new) bytes.now) }

@@ -38,7 +38,13 @@ first_is_below {m = m} {times = times} {step = step} up rest below =
     let apart = multiples_apart times step m up below.below in
     (from_zero, record { from_zero = omega (arith, linear, rest.below.from_zero); below = omega (arith, products, rest.below.below) })
 
--- it fits, and so do both products, if the least common multiple does
+-- The least common multiple fits if it does wherever a number solves both, since start + m·times does.
+pub fits_where_found : {fits : ℤ → Type 0} {a m b n start gap times s : ℤ} → ((x : ℤ) → SolvesBothCongruences a m b n x → EachFits fits (IsLeastCommonMultiple m n)) → IsResidue m a start → IsResidue n (b -ℤ start) gap
+    → IsResidueClass (Solves m gap n) times s → EachFits fits (IsLeastCommonMultiple m n)
+fits_where_found {times = times} lcm_fits at_start at_gap solutions =
+    lcm_fits _ (both_by_gap times at_start.congruent at_gap.congruent refl (solutions.no_other times (congruent_refl times)))
+
+-- then that number fits too, and so do both products
 pub both_fit : {fits : ℤ → Type 0} {low high a m gap n start times s : ℤ} → IsRange fits low high → EachFits fits (IsLeastCommonMultiple m n) → pos 0 <ℤ m → pos 0 <ℤ n → IsResidue m a start
     → IsResidueClass (Solves m gap n) times s → IsReducedModulus m n s → fits (m *ℤ times) × fits (start +ℤ m *ℤ times) × fits (m *ℤ s)
 both_fit range lcm_fits m_up n_up rest solutions step =

@@ -2,7 +2,7 @@
 //! `power_modulo` returns the power of `counted::power_modulo_counted`. `checked::sum_modulo(5, 4, 7)` is `Some(2)`, and
 //! `checked::sum_modulo(5, 4, 0)` is `None`.
 
-ghost use Rattle.std.specs.Prelude.{◌≡◌, ◌<ℤ◌, ◌+ℤ◌, ◌-ℤ◌, ◌*ℤ◌, ℤ, neg_ℤ, pos, MatchBool, MatchOption};
+ghost use Rattle.std.specs.Prelude.{◌≡◌, ◌<ℤ◌, ◌+ℤ◌, ◌-ℤ◌, ◌*ℤ◌, ℤ, neg_ℤ, pos, IfSome, MatchBool, MatchOption};
 ghost use Rattle.std.specs.Int.{int_pow};
 ghost use Rattle.std.specs.List.{All};
 ghost use Rattle.modular.specs.CommonSolutions.{AnswersCongruent, MatchCommonSolution, MatchWhere};
@@ -10,6 +10,7 @@ ghost use Rattle.modular.specs.Congruences.{IsCountOfCongruent, IsInverse, IsNex
 ghost use Rattle.num_integer.specs.Checked.{AnswersWhere, FitsWith};
 ghost use Rattle.num_integer.specs.Divisors.{IsLeastCommonMultiple};
 ghost use Rattle.num_integer.specs.Least.{IsLeastFrom};
+ghost use Rattle.num_integer.specs.Only.{IsOnly};
 ghost use Rattle.num_integer.specs.Range.{EachFits};
 
 use crate::common_solutions::CommonSolution;
@@ -92,8 +93,10 @@ pub fn inverse_modulo<T: Integer + Copy>(a: T, m: T) -> Option<T>
 /// `quotient_modulo(2, 3, 7)` is `Some(3)`, and `quotient_modulo(2, 3, 0)` is `None`.
 pub fn quotient_modulo<T: Modular>(a: T, b: T, m: T) -> Option<T>
     requires in_range { T.fits (T.value a) × T.fits (T.value b) × T.fits (T.value m) }
-    ensures { MatchOption result ((x : ℤ) → ¬ (IsInverse (T.value b) (T.value m) x))
+    ensures answer { MatchOption result ((x : ℤ) → ¬ (IsInverse (T.value b) (T.value m) x))
         (FitsWith T.fits T.value (IsQuotientModulo (T.value a) (T.value b) (T.value m))) }
+    ensures only { IfSome result (λ x. IsOnly (IsQuotientModulo (T.value a) (T.value b) (T.value m))
+        (T.value x)) }
 {
     crate::quotient_modulo(a, b, positive(m)?)
 }

@@ -1,7 +1,7 @@
 //! The main theorems, more theorems by subject, and the laws of the definitions. The contract of each function is a theorem: it fixes
-//! the result. Two write to the caller's writer, and don't say when that fails: `put_on_console` and `finished_console` of
-//! `headline.rt`. Twelve have a result that is known in advance, so their contracts also hold of a body that makes no call. The
-//! comment of each says so.
+//! the result. Three write to the caller's sink or writer, and don't say when that fails: `printed_line`, `put_on_console` and
+//! `finished_console` of `headline.rt`. Twelve have a result that is known in advance, so their contracts also hold of a body that
+//! makes no call. The comment of each says so.
 //!
 //! If the clauses of `requires` hold, a call returns, and the clauses of `ensures` hold for its result. The gate proves each
 //! function for every argument. Functions that only show how a call is written are in the crate `callers`.

@@ -37,7 +37,7 @@ chinese_remainder-requires g c =
       in_range = (class.in_range.0, class.in_range.1, rw is.residue pair.0.0, rw is.modulus pair.0.1);
       a_positive = class.kept.positive;
       b_positive = rw is.modulus pair.1;
-      lcm_fits = c.lcm_fits.ensures.0 c.if-not-lcm_fits.false;
+      lcm_fits = λ _ _. c.lcm_fits.ensures.0 c.if-not-lcm_fits.false;
     }
 
 pub loop-item-preserved : goal.loop-item-preserved
