@@ -29,7 +29,8 @@ fn push_next(line: &mut Buffer, n: i128) {
     push_number(line, n);
 }
 
-/// Adds the numbers of the answer, or `true` or `false`. Of `Answer::Two(-3, 1)` it adds `-3 1`.
+/// Adds the numbers of the answer, or `true` or `false`, to an empty line. Of `Answer::Two(-3, 1)`
+/// it adds `-3 1`.
 pub fn push_answer(line: &mut Buffer, answer: Answer) {
     match answer {
         Answer::One(a) => push_number(line, a),
@@ -47,7 +48,7 @@ pub fn push_answer(line: &mut Buffer, answer: Answer) {
     }
 }
 
-/// Adds `refused`, the number and the name, as `refused 2 ZeroDivisor`.
+/// Adds `refused`, the number and the name to an empty line, as `refused 2 ZeroDivisor`.
 pub fn push_refusal(line: &mut Buffer, refusal: Refusal) {
     line.push(b"refused ");
     push_unsigned(line, u128::from(refusal.number()));

@@ -62,8 +62,7 @@ impl<W: Write> Sink for Console<W> {
     }
 }
 
-/// Puts all of the bytes, or returns `None` if the sink has failed. Without bytes it makes no
-/// `put`.
+/// Puts all of the bytes, or returns `None` if the sink has failed.
 pub fn put_all<S: Sink>(out: &mut S, bytes: &[u8]) -> Option<()> {
     let mut rest = bytes;
     while !rest.is_empty() {

@@ -14,9 +14,9 @@ use crate::{checked, Fits};
 /// them that is not negative, and its modulus the least common multiple of the two. It is `None` if
 /// there is no such number.
 ///
-/// [`Fits::lcm_fits`] tests whether the least common multiple fits, and
-/// [`checked::chinese_remainder`](crate::modular::checked::chinese_remainder) returns `None` if the
-/// precondition does not hold.
+/// [`Fits::lcm_fits`] tests whether the least common multiple fits, which it has to only if there
+/// are such numbers, and [`checked::chinese_remainder`](crate::modular::checked::chinese_remainder)
+/// returns `None` if the precondition does not hold.
 ///
 /// # Examples
 ///

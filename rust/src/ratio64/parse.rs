@@ -77,8 +77,8 @@ impl fmt::Display for ParseRatioError {
 impl Error for ParseRatioError {}
 
 /// Reads `num/den`, or only `num`, as `Display` prints it. Each part is an optional `-`, then
-/// digits. Only the parts in lowest terms have to fit: `"18446744073709551614/2".parse()` is
-/// `Ok(Ratio::from(i64::MAX))`.
+/// digits. Of parts of at most 38 digits only those in lowest terms have to fit:
+/// `"18446744073709551614/2".parse()` is `Ok(Ratio::from(i64::MAX))`.
 ///
 /// # Examples
 ///
@@ -94,7 +94,8 @@ impl Error for ParseRatioError {}
 ///
 /// - [`ParseRatioError::NotAFraction`] if the string is neither a whole number nor two of them with
 ///   a slash between;
-/// - [`ParseRatioError::TooLong`] if a part has more than 38 digits, without its leading zeros;
+/// - [`ParseRatioError::TooLong`] if a part has more than 38 digits, without its leading zeros,
+///   even if the denominator is 0;
 /// - [`ParseRatioError::ZeroDenominator`] if the denominator is 0;
 /// - [`ParseRatioError::NotFitting`] if a part of the reduced fraction does not fit an `i64`.
 ///

@@ -69,7 +69,8 @@ impl Error for ParseDecimalError {}
 ///
 /// - [`ParseDecimalError::NotADecimal`] if the string is anything else;
 /// - [`ParseDecimalError::TooManyPlaces`] if a digit after the 18th place is not 0;
-/// - [`ParseDecimalError::NotFitting`] if the number without its point does not fit.
+/// - [`ParseDecimalError::NotFitting`] if the number does not fit 128 bits, without its point and
+///   the zeros that are dropped.
 ///
 /// [Contract](crate::definitions::ratio64#fromstr-for-decimal)
 impl FromStr for Decimal {
