@@ -20,7 +20,7 @@ from tools.checks import erased
 
 TABLE, PAGE, FRONT = ROOT / 'tools/pages/counts.txt', 'docs/TESTING.md', 'README.md'
 TRUST = 'docs/TRUST.md'
-EACH = 20_000                   # random calls of each export, which both archives answer alike
+EACH = 20_000                   # random calls of each export, with one result from both builds
 OTHERS = ('num-bigint', 'num-rational', 'bigdecimal', 'num', 'num-iter', 'chrono')
 # What a run prints of a count. Those of several lines are added.
 PRINTED = {
@@ -83,7 +83,7 @@ def rows(count: dict[str, int]) -> Iterator[tuple[str, str]]:
            f'{count["in_coq"]:,} of {count["definitions"]:,}')
     yield 'theorems on what the calls return', f'{count["theorems"]:,}'
     yield 'proved functions that call the libraries', f'{count["callers"]:,}'
-    yield (f'random calls of exports, {EACH:,} of each, that both archives answer alike',
+    yield (f'random calls of exports, {EACH:,} of each, with the same results from both builds',
            f'{count["exports"] * EACH:,}')
     yield 'tests of the crate, which run on 32 bits too', f'{count["crate"]:,}'
     yield ('tests of `num-integer`, and of six packages over it',
