@@ -221,8 +221,12 @@ static void constants() {
     std::vector<fraction> fractions;
     for (std::int64_t num : numbers) {
         for (std::int64_t den : numbers) {
-            if (auto made = fraction::make(num, den)) {
+            auto made = fraction::make(num, den);
+            auto constant = cellarcove::detail::constant::fraction_new(num, den);
+            CHECK(static_cast<status>(constant.status) == made.error());
+            if (made) {
                 fractions.push_back(*made);
+                CHECK(constant.value.num == made->num() && constant.value.den == made->den());
             }
         }
     }
@@ -235,6 +239,16 @@ static void constants() {
     static_assert(cellarcove::div_rem(-8, 3)->remainder == -2 && cellarcove::div_mod_floor(-8, 3)->remainder == 1);
     static_assert(cellarcove::div_ceil(7U, 2U) == cellarcove::result<std::uint64_t>(4) && cellarcove::div_floor(1U, 0U) == status::outside);
     static_assert(fraction(2) < fraction(3) && fraction(-2) > fraction(-3) && fraction(2) >= 2);
+    static_assert(*fraction::make(2, -4) < *fraction::make(-1, 3) && fraction::make(1, 0) == status::zero_denominator);
+    static_assert(*date::make(2024, 2, 29) < *date::make(2024, 3, 1) && date::make(1900, 2, 29) == status::no_date);
+    numbers.insert(numbers.end(), {1600, 1900, 2000, 2023, 2024});
+    for (std::int64_t year : numbers) {
+        for (int month = 0; month <= 13; month++) {
+            for (int day = 0; day <= 32; day++) {
+                CHECK(cellarcove::detail::constant::is_there(year, month, day) == date::make(year, month, day).has_value());
+            }
+        }
+    }
 }
 
 // What the standard library knows of the classes.

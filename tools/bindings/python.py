@@ -34,7 +34,8 @@ MODULI = {'m', 'n', 'modulus', 'p', 'q', 'period'}
 # a reason of a status that Python never meets, since it makes the parts
 SEEN_TO = 'there is not one part for each weight, or if '
 DIVIDES = ('division', 'products')  # the modules whose parameters `y` and `d` are divisors
-OPTIONS = "out=None, where=True, errors='raise'"  # of a call with columns
+ERRORS = "errors='raise'"  # of a call with columns
+OPTIONS = f'out=None, where=True, {ERRORS}'  # of one that writes one number for each element
 # What says, before there is room for the numbers that a call writes, whether it has a result.
 ASKED = {'choice_of_rank': 'is_below_binomial(numbers)'}
 
@@ -154,7 +155,7 @@ def signature(name: str, forms: list[Call]) -> str:
     given, numbers = parameter_names(forms[0]), names_of_one(forms[0])
     given = [*given[:-1], f'{given[-1]}=None', '*',
              *(f'{number}=None' for number in numbers)] if numbers else [*given, '*']
-    return f'{name}($module, /, {", ".join(given)}, {OPTIONS})'
+    return f'{name}($module, /, {", ".join(given)}, {ERRORS if forms[0].has_slice else OPTIONS})'
 
 
 RAISED = {'NOT_FITTING': '`NotFitting`', 'ZERO_DENOMINATOR': '`DivisionByZero`'}
@@ -345,7 +346,8 @@ PYTHON = {'Fraction': '_Fraction', 'Date': '_Date'} | {f'{sign}64{name}': f'{nam
                                                        for name, _ in PAIRS.values()}
 NUMBER, COLUMN = 'SupportsIndex', '_Column'
 # The parameters of a call with columns that have names alone.
-NAMED = 'out: Any = ..., where: Any = ..., errors: _Errors = ...'
+NAMED_ERRORS = 'errors: _Errors = ...'
+NAMED = f'out: Any = ..., where: Any = ..., {NAMED_ERRORS}'
 
 
 def scalar_result(call: Call) -> str:
@@ -400,8 +402,8 @@ def stub(name: str, forms: list[Call]) -> str:
     if len(call.taken) < len(call.parameters):
         amount, weights = names
         return overloads(name, [
-            (f'{amount}: {COLUMN} | {NUMBER}, {weights}: {COLUMN}, *, {NAMED}', 'Any'),
-            (f'{amount}: {COLUMN}, {weights}: Iterable[{NUMBER}], *, {NAMED}', 'Any'),
+            (f'{amount}: {COLUMN} | {NUMBER}, {weights}: {COLUMN}, *, {NAMED_ERRORS}', 'Any'),
+            (f'{amount}: {COLUMN}, {weights}: Iterable[{NUMBER}], *, {NAMED_ERRORS}', 'Any'),
             (f'{amount}: {NUMBER}, {weights}: Iterable[{NUMBER}]', 'tuple[int, ...]')])
     if call.has_slice:
         taken = ', '.join(f'{given}: {listed_type(parameter)}'

@@ -32,14 +32,21 @@ NAMED = ('out', 'where', 'errors')
 OF_ANY_COUNT = ('gcd', 'lcm')  # which take any count of numbers
 ERRORS = ('raise', 'mask', 'status')
 NO_DAY = -(2**63)  # the number of `NaT`
+DAYS = 'days'  # the parameter that takes a `timedelta64[D]`: no other one counts days
 NOT_FITTING = 2  # the status
 COUNTED = '_counted'  # the end of the name of a ufunc that counts failures, and returns no statuses
 ORDER = '<' if sys.byteorder == 'little' else '>'
 WORDS = {ORDER + 'i8': 'q', ORDER + 'u8': 'Q', 'q': 'q', 'l': 'q', 'Q': 'Q', 'L': 'Q'}
-PER_DAY = {'s': 86400, 'ms': 86400 * 10**3, 'us': 86400 * 10**6, 'ns': 86400 * 10**9}
+PER_DAY = {'D': 1, 'h': 24, 'm': 1440} | {
+    unit: 86400 * 1000**k for k, unit in enumerate(('s', 'ms', 'us', 'ns', 'ps'))
+}
 WITH_MISSING = (
     ": with missing values, pass pandas' Int64 by `.astype('Int64')`, which raises for a number "
     'that is no integer'
+)
+OF_TIMES = (
+    ': a number of days is timedelta64[D], or an integer: `.dt.days`, with missing values '
+    "`.dt.days.astype('Int64')`"
 )
 OF_FLOATS = "; 19.99 as cents is `(series * 100).round().astype('Int64')`, which rounds a float"
 
@@ -96,9 +103,9 @@ def wrong_type(name: str, parameter: str, value: object, wanted: str) -> TypeErr
         words += ': pass an array of numpy'
     elif hasattr(value, 'columns'):
         words += ': pass one of its columns'
-    elif unit(value).startswith('m8'):
+    elif unit(value).startswith('m8') and parameter == DAYS:
         words += ': a number of days is an int, or a timedelta64[D]'
-    elif wanted == 'integer' and (hasattr(value, 'toordinal') or unit(value)):
+    elif wanted == 'integer' and (hasattr(value, 'toordinal') or unit(value).startswith('M8')):
         words += ': its number is `day_from_date` of it'
     elif wanted == 'fraction':
         words += ': pass a Fraction, an int, a Decimal, or a tuple of a numerator and a denominator'
@@ -117,7 +124,7 @@ def cell(name: str, parameter: str, value: Any, wanted: str = 'integer') -> Leaf
     """A number, as an `int`, or a column of numbers."""
     if is_table(value) or is_column(value):
         return Leaf(value, parameter)
-    if unit(value) == 'm8[D]':
+    if unit(value) == 'm8[D]' and parameter == DAYS:
         value = value.astype('int64')
         if value == NO_DAY:
             raise TypeError(f'{name}(): {parameter} is NaT')
@@ -143,7 +150,7 @@ def date_cells(name: str, parameter: str, value: Any) -> list[Leaf]:
             if day == NO_DAY
             else operator.attrgetter('year', 'month', 'day')(_calls.date_from_day(day))
         )
-    elif named:
+    elif named and not isinstance(value.year, float):  # as that of pandas.NaT is
         parts = value.year, value.month, value.day
     if isinstance(value, tuple) and len(parts) != 3:
         raise ValueError(
@@ -391,10 +398,18 @@ def is_of(value: object, module: str, name: str) -> bool:
 def of_columns(task: Task, out: Any, where: Any) -> Any:
     """A call of columns, by the library whose they are."""
     numpy, _ = modules(task.name)
+    if where is not True:
+        where = numpy.asarray(where)
+        if where.dtype.kind != 'b':
+            raise TypeError(f'{task.name}(): where is of {where.dtype}, and not of bools')
     if CALLS[task.name].shapes != 'nl' and any(is_table(leaf.value) for leaf in task.leaves):
         if out is not None or where is not True:
             raise TypeError(f'{task.name}() takes no out and no where with a table')
         return of_tables(task)
+    leaves = task.leaves
+    if isinstance(leaves[-1].value, list):
+        leaves = (*leaves[:-1], leaves[-1]._replace(value=numpy.asarray(leaves[-1].value)))
+        task = task._replace(leaves=leaves)
     columns = [leaf.value for leaf in task.leaves if is_column(leaf.value)]
     if any(
         is_of(column, 'dask.array', 'Array') or hasattr(column, '__dask_graph__')
@@ -405,6 +420,8 @@ def of_columns(task: Task, out: Any, where: Any) -> Any:
         return classed(task, of_dask(task, columns))
     series = [column for column in columns if is_of(column, 'pandas', 'Series')]
     if CALLS[task.name].shapes == 'nl':
+        if out is not None or where is not True:
+            raise TypeError(f'{task.name}() takes no out and no where')
         return of_shares(numpy, task)
     if series and out is None and where is True:
         return classed(task, of_pandas(task, series))
@@ -450,8 +467,7 @@ def wrong_items(name: str, leaf: Leaf, data: Any) -> TypeError:
     else:
         words += {
             'M': ': pass its day numbers, by `cellarcove.day_from_date`',
-            'm': ': a number of days is timedelta64[D], or an integer: `.dt.days`, with missing '
-            "values `.dt.days.astype('Int64')`",
+            'm': OF_TIMES * (leaf.parameter == DAYS),
             'f': WITH_MISSING + OF_FLOATS,
             'O': with_objects(data),
             'U': with_objects(data),
@@ -480,8 +496,8 @@ def as_kind(numpy: Any, name: str, leaf: Leaf, missing: Any, kind: str) -> Any:
         if not low <= value <= high:
             raise out_of_range(value, kind)
         return numpy.array(value, kind)
-    if value.dtype.str[1:] == 'm8[D]':
-        value = value.view('int64')
+    if value.dtype.str[1:] == 'm8[D]' and leaf.parameter == DAYS:
+        value = value.astype('int64')
     if value.dtype.kind not in 'iub':
         raise wrong_items(name, leaf, value)
     if numpy.can_cast(value.dtype, kind, 'safe') or value.size == 0:
@@ -507,10 +523,16 @@ def days_of(numpy: Any, name: str, leaf: Leaf, data: Any) -> Any:
     if data.dtype.kind != 'M':
         raise wrong_items(name, leaf, data)
     unit, count = numpy.datetime_data(data.dtype)
-    if count == 1 and unit in PER_DAY:
-        # numpy's own cast wraps for the first day of a unit
-        return data.astype('int64') // PER_DAY[unit]
-    return data.astype('M8[D]', copy=False).view('int64')
+    # numpy's own cast wraps, also for the first day of a unit
+    if count > 1 or unit not in PER_DAY:
+        unit = unit if unit in PER_DAY else 'D'
+        cast = data.astype(f'M8[{unit}]')
+        if ((cast.astype(data.dtype) != data) & ~numpy.isnat(data)).any():
+            raise OverflowError(
+                f'{name}(): {leaf.parameter} has a date that is no datetime64[{unit}]'
+            )
+        data = cast
+    return data.astype('int64') // PER_DAY[unit]
 
 
 def cells_of(numpy: Any, ufuncs: Any, name: str, leaves: Sequence[Leaf]) -> tuple[list[Leaf], Any]:
@@ -582,7 +604,7 @@ def of_numpy(
     if outputs is None:
         outputs, status = ran(numpy, task.name, given, taken, returned, call, out, where)
     if where is not True:
-        missing = ~numpy.asarray(where) if missing is None else missing | ~numpy.asarray(where)
+        missing = ~where if missing is None else missing | ~where
     if dated:
         outputs, status = as_dates(numpy, ufuncs, outputs, status, last_day)
     if status is not None and missing is not None:
@@ -610,9 +632,10 @@ def places(numpy: Any, name: str, returned: str, out: Any) -> tuple[Any, ...]:
         raise ValueError(f'{name}(): out is a tuple of {len(returned)} arrays')
     for given, kind in zip(found, returned):
         dtype = numpy.dtype(kind)
-        if getattr(given, 'dtype', None) != dtype:
+        is_array = isinstance(given, numpy.ndarray)
+        if not is_array or given.dtype.newbyteorder('=') != dtype:
             raise TypeError(
-                f'{name}(): out is of {getattr(given, "dtype", type(given))}, '
+                f'{name}(): out is of {given.dtype if is_array else type(given)}, '
                 f'and a result is of {dtype}'
             )
     return found
@@ -809,8 +832,6 @@ def of_shares(numpy: Any, task: Task) -> Any:
 def weights_of(numpy: Any, name: str, leaf: Leaf) -> tuple[Any, Any]:
     """The weights as an array of numpy, and where they are missing, or `None`. A table has a weight
     in each column."""
-    if isinstance(leaf.value, list):
-        return numpy.asarray(leaf.value), None
     if not is_table(leaf.value) or leaf.value.shape[1] == 0:
         return plain(numpy, name, leaf)
     columns = [
@@ -873,6 +894,13 @@ class Ufunc:
             leaf._replace(value=next(rest)) if is_of(leaf.value, 'pandas', 'Series') else leaf
             for leaf in self.task.leaves
         ]
+        for leaf, given in zip(leaves, self.task.leaves):
+            # a label that another index lacks makes floats of integers
+            if is_column(given.value) and leaf.value.dtype != given.value.dtype:
+                raise ValueError(
+                    f'{self.task.name}(): the columns have not the same index: with missing '
+                    "values, pass pandas' Int64 by `.astype('Int64')`"
+                )
         found = of_numpy(self.task, leaves, None, True, last_day())
         made = tuple(map(nullable, found))
         return made if self.nout > 1 else made[0]
@@ -896,12 +924,16 @@ def nullable(column: Any) -> Any:
     return kind(column.data, numpy.ma.getmaskarray(column).copy())
 
 
-def of_pandas(task: Task, series: Sequence[Any]) -> Sequence[Any]:
-    """The columns of a result, with the index of the columns."""
+def results_of(task: Task) -> int:
+    """How many columns a call returns. Dates are one if they are given as columns of dates."""
     call = CALLS[task.name]
     is_day = call.result == 'Date' and any(leaf.is_dates for leaf in task.leaves)
-    count = (1 if is_day else len(call.forms[0][1])) + (task.errors == 'status')
-    ufunc = Ufunc(task, count)
+    return (1 if is_day else len(call.forms[0][1])) + (task.errors == 'status')
+
+
+def of_pandas(task: Task, series: Sequence[Any]) -> Sequence[Any]:
+    """The columns of a result, with the index of the columns."""
+    ufunc = Ufunc(task, results_of(task))
     found = series[0].__array_ufunc__(ufunc, '__call__', *series)
     if found is NotImplemented:
         raise TypeError(f'{task.name}(): pandas has no way to join these columns')
@@ -963,8 +995,15 @@ def of_dask(task: Task, columns: Sequence[Any]) -> Sequence[Any]:
     )
     block = functools.partial(of_block, empty)
     if any(hasattr(column, 'map_partitions') for column in columns):
+        if results_of(task) > 1:
+            raise TypeError(
+                f'{task.name}() returns one column of dask.dataframe: for {results_of(task)} pass '
+                'arrays, by `.to_dask_array()`'
+            )
         return (importlib.import_module('dask.dataframe').map_partitions(block, *columns),)
     shares = CALLS[task.name].shapes == 'nl'
+    # dask.array takes no `Series`
+    columns = [numpy.asarray(c) if is_of(c, 'pandas', 'Series') else c for c in columns]
     cores = [
         '(n)' if shares and leaf is task.leaves[-1] else '()'
         for leaf in task.leaves
@@ -973,6 +1012,9 @@ def of_dask(task: Task, columns: Sequence[Any]) -> Sequence[Any]:
     sample = block(
         *(numpy.ones((1,) * (core == '(n)'), column.dtype) for core, column in zip(cores, columns))
     )
+    if not shares and not isinstance(sample, tuple):
+        elemwise = importlib.import_module('dask.array.core').elemwise
+        return (elemwise(block, *columns, dtype=sample.dtype),)
     made = sample if isinstance(sample, tuple) else (sample,)
     ends = ['(n)' if shares and k == 0 else '()' for k in range(len(made))]
     signature = f'{",".join(cores)}->{",".join(ends)}'
