@@ -88,6 +88,7 @@ def is_column(value: object) -> bool:
         isinstance(value, (array.array, memoryview))
         or hasattr(value, 'dtype')
         and hasattr(value, '__len__')
+        and not is_of(value, 'dask.delayed', 'Delayed')  # which has any attribute
     )
 
 
@@ -994,14 +995,21 @@ def of_dask(task: Task, columns: Sequence[Any]) -> Sequence[Any]:
         )
     )
     block = functools.partial(of_block, empty)
+    shares = CALLS[task.name].shapes == 'nl'
     if any(hasattr(column, 'map_partitions') for column in columns):
         if results_of(task) > 1:
             raise TypeError(
                 f'{task.name}() returns one column of dask.dataframe: for {results_of(task)} pass '
                 'arrays, by `.to_dask_array()`'
             )
-        return (importlib.import_module('dask.dataframe').map_partitions(block, *columns),)
-    shares = CALLS[task.name].shapes == 'nl'
+        map_partitions = importlib.import_module('dask.dataframe').map_partitions
+        none = [
+            column._meta
+            if hasattr(column, '_meta')
+            else column[: len(column) * (shares and column is columns[-1])]
+            for column in columns
+        ]
+        return (map_partitions(block, *columns, meta=block(*none)),)
     # dask.array takes no `Series`
     columns = [numpy.asarray(c) if is_of(c, 'pandas', 'Series') else c for c in columns]
     cores = [
@@ -1009,8 +1017,11 @@ def of_dask(task: Task, columns: Sequence[Any]) -> Sequence[Any]:
         for leaf in task.leaves
         if is_column(leaf.value)
     ]
-    sample = block(
-        *(numpy.ones((1,) * (core == '(n)'), column.dtype) for core, column in zip(cores, columns))
+    # the types of the results are those of ones, for which the call may have no result
+    masked = empty._replace(errors='mask') if task.errors == 'raise' else empty
+    sample = of_block(
+        masked,
+        *(numpy.ones((1,) * (core == '(n)'), column.dtype) for core, column in zip(cores, columns)),
     )
     if not shares and not isinstance(sample, tuple):
         elemwise = importlib.import_module('dask.array.core').elemwise
