@@ -10,6 +10,7 @@ import sys
 import threading
 import time
 import unittest
+import warnings
 
 import cellarcove
 
@@ -329,6 +330,21 @@ class Dates(unittest.TestCase):
             with self.assertRaises(cellarcove.NotFitting):
                 cellarcove.plus_days(first, beyond)
             self.assertTrue(cellarcove.plus_days(first, beyond, errors='mask').isna().all())
+
+
+@unittest.skipIf(missing, f'there is no {missing}')
+class Scalars(unittest.TestCase):
+    def test_bools(self):
+        """A bool of numpy is 0 or 1, and its `__index__`, which warns, is not called."""
+        yes, no = numpy.bool_(True), numpy.bool_(False)
+        with warnings.catch_warnings():
+            warnings.simplefilter('error')
+            self.assertEqual((cellarcove.gcd(12, yes), cellarcove.gcd(no, 12)), (1, 12))
+            self.assertEqual(cellarcove.gcd(numpy.array([12, 18]), no).tolist(), [12, 18])
+            self.assertEqual((cellarcove.sum_of([yes, 4, no]), cellarcove.gcd_of((yes, 3))), (5, 1))
+            self.assertEqual(cellarcove.shares(numpy.array([3]), [yes, 1]).tolist(), [[2, 1]])
+            self.assertEqual(cellarcove.fraction_floor((yes, 1)), 1)
+            self.assertEqual(str(cellarcove.Date(2024, yes, yes) + yes), '2024-01-02')
 
 
 def pick(nested, k):

@@ -121,6 +121,11 @@ def unit(value: Any) -> str:
     return str(value.dtype.str[1:]) if kind and kind in 'mM' and hasattr(value.dtype, 'str') else ''
 
 
+def index(value: Any) -> int:
+    """The integer of an object. That of a bool of numpy warns of its `__index__`."""
+    return int(value) if is_of(value, 'numpy', 'bool_') else operator.index(value)
+
+
 def cell(name: str, parameter: str, value: Any, wanted: str = 'integer') -> Leaf:
     """A number, as an `int`, or a column of numbers."""
     if is_table(value) or is_column(value):
@@ -130,7 +135,7 @@ def cell(name: str, parameter: str, value: Any, wanted: str = 'integer') -> Leaf
         if value == NO_DAY:
             raise TypeError(f'{name}(): {parameter} is NaT')
     try:
-        return Leaf(operator.index(value), parameter)
+        return Leaf(index(value), parameter)
     except TypeError:
         raise wrong_type(name, parameter, value, wanted) from None
 
@@ -187,7 +192,7 @@ def weight_cell(name: str, parameter: str, value: Any) -> Leaf:
     """A column of weights, or a list of them."""
     if is_column(value) or hasattr(value, 'columns'):
         return Leaf(value, parameter)
-    return Leaf(list(map(operator.index, value)), parameter)
+    return Leaf(list(map(index, value)), parameter)
 
 
 def pair_cells(name: str, parameter: str, value: Any, wanted: Any) -> list[Leaf]:
