@@ -538,6 +538,8 @@ def days_of(numpy: Any, name: str, leaf: Leaf, data: Any) -> Any:
                 f'{name}(): {leaf.parameter} has a date that is no datetime64[{unit}]'
             )
         data = cast
+    if unit == 'D':
+        return data.astype('M8[D]', copy=False).view('int64')
     return data.astype('int64') // PER_DAY[unit]
 
 
@@ -902,7 +904,7 @@ class Ufunc:
         ]
         for leaf, given in zip(leaves, self.task.leaves):
             # a label that another index lacks makes floats of integers
-            if is_column(given.value) and leaf.value.dtype != given.value.dtype:
+            if leaf.value is not given.value and leaf.value.dtype != given.value.dtype:
                 raise ValueError(
                     f'{self.task.name}(): the columns have not the same index: with missing '
                     "values, pass pandas' Int64 by `.astype('Int64')`"
@@ -1015,8 +1017,13 @@ def of_dask(task: Task, columns: Sequence[Any]) -> Sequence[Any]:
             for column in columns
         ]
         return (map_partitions(block, *columns, meta=block(*none)),)
-    # dask.array takes no `Series`
-    columns = [numpy.asarray(c) if is_of(c, 'pandas', 'Series') else c for c in columns]
+    # dask.array takes no `Series` and no buffer
+    columns = [
+        numpy.asarray(c)
+        if is_of(c, 'pandas', 'Series') or isinstance(c, (array.array, memoryview))
+        else c
+        for c in columns
+    ]
     cores = [
         '(n)' if shares and leaf is task.leaves[-1] else '()'
         for leaf in task.leaves
