@@ -345,6 +345,8 @@ PYTHON = {'Fraction': '_Fraction', 'Date': '_Date'} | {f'{sign}64{name}': f'{nam
                                                        for sign in 'IU'
                                                        for name, _ in PAIRS.values()}
 NUMBER, COLUMN = 'SupportsIndex', '_Column'
+# The types of parameters that may be other numbers.
+NUMBERS = {WEEKDAY: f'Weekday | {NUMBER}', 'days': f'_Days | {NUMBER}'}
 # The parameters of a call with columns that have names alone.
 NAMED_ERRORS = 'errors: _Errors = ...'
 NAMED = f'out: Any = ..., where: Any = ..., {NAMED_ERRORS}'
@@ -363,8 +365,7 @@ def scalar_result(call: Call) -> str:
 
 def scalar_type(parameter: Field) -> str:
     """The type of a parameter that has no column."""
-    return (f'Weekday | {NUMBER}' if parameter.name == WEEKDAY
-            else PYTHON.get(parameter.kind, NUMBER))
+    return NUMBERS.get(parameter.name, PYTHON.get(parameter.kind, NUMBER))
 
 
 def column_types(parameter: Field, chosen: bool) -> str:
