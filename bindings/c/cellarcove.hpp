@@ -2123,6 +2123,14 @@ template <> struct std::formatter<cellarcove::week_of_year> : cellarcove::detail
 template <> struct std::formatter<cellarcove::status> : std::formatter<std::string_view> {
     auto format(cellarcove::status a, std::format_context &to) const { return std::formatter<std::string_view>::format(text(a), to); }
 };
+/// The value by its own format, or the words for the status.
+template <class T>
+    requires std::is_default_constructible_v<std::formatter<T>>
+struct std::formatter<cellarcove::result<T>> : std::formatter<T> {
+    auto format(const cellarcove::result<T> &a, std::format_context &to) const {
+        return a ? std::formatter<T>::format(*a, to) : std::formatter<cellarcove::status>().format(a.error(), to);
+    }
+};
 #endif
 
 #endif

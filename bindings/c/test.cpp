@@ -298,6 +298,10 @@ static void idioms() {
     CHECK(std::format("{} {:>6} {} {}", half, half, day, status::no_date) == "1/2    1/2 2024-01-31 there is no such date");
     CHECK(std::format("{:*^12}|{}", day, cellarcove::decimal{true, 0, 5, 2}) == "*2024-01-31*|-0.05");
     CHECK(std::format("{}", *cellarcove::iso_week(day)) == "2024-W05");
+    CHECK(std::format("{} {:>6}|{}", half + half, half + 1, fraction::make(1, 0)) == "1    3/2|" + std::string(text(status::zero_denominator)));
+    CHECK(std::format("{:+05}|{:05}", cellarcove::div_floor(7, 2), cellarcove::div_floor(7, 0)) == "+0003|" + std::string(text(status::outside)));
+    CHECK(std::format("{} {}", cellarcove::iso_week(day), day - day) == "2024-W05 0");
+    static_assert(!std::is_default_constructible_v<std::formatter<cellarcove::result<cellarcove::bezout>>>);
 #endif
     static_assert(CELLARCOVE_VERSION_NUMBER == CELLARCOVE_VERSION_MAJOR * 10000 + CELLARCOVE_VERSION_MINOR * 100 + CELLARCOVE_VERSION_PATCH);
 }
