@@ -215,7 +215,7 @@ def of_columns(call: Call) -> str:
     if call.has_slice:
         shared = len(call.taken) < len(call.parameters)
         return ('Of a column of amounts, or of weights, it is an array, whose last axis is that '
-                'of the weights.' * shared)
+                'of the weights, or a table or a `Series` with their index.' * shared)
     if call.result.startswith('Date'):
         days = any(parameter.kind == 'Date' for parameter in call.parameters)
         return ('Of columns it is '

@@ -814,9 +814,9 @@ def quick(name: str, given: Sequence[Any]) -> Any:
 def of_shares(numpy: Any, task: Task) -> Any:
     """The shares of each amount by weights, which lie along the last axis."""
     amount, weights = task.leaves
-    frame = weights.value if hasattr(weights.value, 'columns') else None
-    if is_table(frame):
-        amount = amount._replace(value=joined(numpy, task.name, amount, frame.index))
+    if is_table(weights.value):
+        index = weights.value.index
+        amount = amount._replace(value=joined(numpy, task.name, amount, index))
     parts_of, none = weights_of(numpy, task.name, weights)
     amounts, missing = (
         (amount.value, None) if isinstance(amount.value, int) else plain(numpy, task.name, amount)
@@ -834,7 +834,7 @@ def of_shares(numpy: Any, task: Task) -> Any:
     given = [first, as_kind(numpy, task.name, cells[1], None, 'Q')]
     taken, returned = call.forms[0 if kind == 'q' else -1]
     (parts,), status = ran(numpy, task.name, given, taken, returned, call, None, True)
-    return divided(numpy, task, frame, parts, status, given)
+    return divided(numpy, task, weights.value, parts, status)
 
 
 def weights_of(numpy: Any, name: str, leaf: Leaf) -> tuple[Any, Any]:
@@ -868,17 +868,28 @@ def joined(numpy: Any, name: str, amount: Leaf, index: Any) -> Any:
     )
 
 
-def divided(
-    numpy: Any, task: Task, frame: Any, parts: Any, status: Any, given: Sequence[Any]
-) -> Any:
+def divided(numpy: Any, task: Task, weights: Any, parts: Any, status: Any) -> Any:
     """The shares of each row, as what the weights are."""
     if task.errors == 'raise' and status.max(initial=0):
         raise first_error(numpy, CALLS[task.name], [], status)
     if task.errors == 'mask':
         parts = with_missing(numpy, parts, (status != 0)[..., None])
-    elif frame is not None:
-        parts = type(frame)(parts, index=frame.index, columns=frame.columns)
+    parts = as_weights(weights, parts)
     return (parts, status) if task.errors == 'status' else parts
+
+
+def as_weights(weights: Any, parts: Any) -> Any:
+    """The shares in the places of the weights of a table, or of a `Series` by which one amount is
+    divided. Other ones are an array."""
+    if is_of(weights, 'pandas', 'Series') and parts.ndim == 1:
+        return type(weights)(nullable(parts), index=weights.index, name=weights.name)
+    if not is_table(weights):
+        return parts
+    if hasattr(parts, 'mask'):
+        parts = {k: nullable(parts[:, k]) for k in range(parts.shape[1])}
+    found = type(weights)(parts, index=weights.index)
+    found.columns = weights.columns
+    return found
 
 
 # ---- pandas
