@@ -405,9 +405,7 @@ def of_columns(task: Task, out: Any, where: Any) -> Any:
     """A call of columns, by the library whose they are."""
     numpy, _ = modules(task.name)
     if where is not True:
-        where = numpy.asarray(where)
-        if where.dtype.kind != 'b':
-            raise TypeError(f'{task.name}(): where is of {where.dtype}, and not of bools')
+        where = chosen(numpy, task.name, where)
     if CALLS[task.name].shapes != 'nl' and any(is_table(leaf.value) for leaf in task.leaves):
         if out is not None or where is not True:
             raise TypeError(f'{task.name}() takes no out and no where with a table')
@@ -429,9 +427,21 @@ def of_columns(task: Task, out: Any, where: Any) -> Any:
         if out is not None or where is not True:
             raise TypeError(f'{task.name}() takes no out and no where')
         return of_shares(numpy, task)
-    if series and out is None and where is True:
-        return classed(task, of_pandas(task, series))
+    if series and out is None:
+        return classed(task, of_pandas(task, series, where))
+    if is_of(where, 'pandas', 'Series'):
+        series, where = [*series, where], numpy.asarray(where)
+    if any(not column.index.equals(series[0].index) for column in series):
+        raise ValueError(f'{task.name}(): the columns have not the same index, and out has none')
     return classed(task, of_numpy(task, task.leaves, out, where))
+
+
+def chosen(numpy: Any, name: str, where: Any) -> Any:
+    """Which elements have a result: a column of pandas, or an array, of bools."""
+    flags = numpy.asarray(where)
+    if flags.dtype.kind != 'b':
+        raise TypeError(f'{name}(): where is of {flags.dtype}, and not of bools')
+    return where if is_of(where, 'pandas', 'Series') else flags
 
 
 def classed(task: Task, found: Sequence[Any]) -> Any:
@@ -899,13 +909,9 @@ class Ufunc:
     """A call as pandas wants a ufunc of its columns alone: it joins them by their index, and makes
     the columns of the result."""
 
-    def __init__(self, task: Task, nout: int) -> None:
-        self.task, self.nout, self.nin, self.__name__ = (
-            task,
-            nout,
-            max(len(task.leaves), 3),
-            'cellarcove',
-        )
+    def __init__(self, task: Task, where: Any) -> None:
+        self.task, self.where, self.__name__ = task, where, 'cellarcove'
+        self.nout, self.nin = results_of(task), max(len(task.leaves) + 1, 3)
 
     def __call__(self, *columns: Any) -> Any:
         rest = iter(columns)
@@ -913,14 +919,16 @@ class Ufunc:
             leaf._replace(value=next(rest)) if is_of(leaf.value, 'pandas', 'Series') else leaf
             for leaf in self.task.leaves
         ]
-        for leaf, given in zip(leaves, self.task.leaves):
+        where = next(rest, self.where)
+        joined = [(leaf.value, given.value) for leaf, given in zip(leaves, self.task.leaves)]
+        for column, given in [*joined, (where, self.where)]:
             # a label that another index lacks makes floats of integers
-            if leaf.value is not given.value and leaf.value.dtype != given.value.dtype:
+            if column is not given and column.dtype != given.dtype:
                 raise ValueError(
                     f'{self.task.name}(): the columns have not the same index: with missing '
                     "values, pass pandas' Int64 by `.astype('Int64')`"
                 )
-        found = of_numpy(self.task, leaves, None, True, last_day())
+        found = of_numpy(self.task, leaves, None, where, last_day())
         made = tuple(map(nullable, found))
         return made if self.nout > 1 else made[0]
 
@@ -950,9 +958,11 @@ def results_of(task: Task) -> int:
     return (1 if is_day else len(call.forms[0][1])) + (task.errors == 'status')
 
 
-def of_pandas(task: Task, series: Sequence[Any]) -> Sequence[Any]:
+def of_pandas(task: Task, series: Sequence[Any], where: Any) -> Sequence[Any]:
     """The columns of a result, with the index of the columns."""
-    ufunc = Ufunc(task, results_of(task))
+    if is_of(where, 'pandas', 'Series'):
+        series = [*series, where.rename(series[0].name)]
+    ufunc = Ufunc(task, where)
     found = series[0].__array_ufunc__(ufunc, '__call__', *series)
     if found is NotImplemented:
         raise TypeError(f'{task.name}(): pandas has no way to join these columns')
