@@ -10,6 +10,7 @@ import sys
 import threading
 import time
 import unittest
+import unittest.mock
 import warnings
 
 import cellarcove
@@ -290,6 +291,21 @@ class Matrix(unittest.TestCase):
         x = numpy.arange(1, 100_001)
         cellarcove.average_floor(x[:-1], x[1:], out=x[1:])
         self.assertEqual(x.tolist(), [1, *range(1, 100_000)])
+
+    def test_quick_outputs(self):
+        """An output of the type of the results is filled without what other columns need, also if
+        it is an input, and an element without a result raises for its own inputs."""
+        x, out = numpy.arange(1, 5), numpy.zeros(4, int)
+        with unittest.mock.patch('cellarcove._columns.run', None):
+            self.assertIs(cellarcove.gcd(x, 6, out=out), out)
+            self.assertEqual(out.tolist(), [1, 2, 3, 2])
+            self.assertEqual(cellarcove.average_floor(x, 9, out=x).tolist(), [5, 5, 6, 6])
+            self.assertEqual(cellarcove.checked_sum(x, out, out=out[::-1]).tolist(), [6, 7, 9, 8])
+            for wrong, error in ((numpy.array([3, 0, 0, 5]), cellarcove.DivisionByZero),
+                                 (numpy.array([3, -1, -1, 5]), cellarcove.NotFitting)):
+                with self.assertRaises(error) as raised:
+                    cellarcove.div_floor(numpy.full(4, -(2**63)), wrong, out=wrong)
+                self.assertEqual((raised.exception.index, raised.exception.count), (1, 2))
 
 
 @unittest.skipIf(missing, f'there is no {missing}')

@@ -228,11 +228,13 @@ def leaves_of(name: str, call: Call, given: Sequence[Any]) -> list[list[Leaf]]:
 
 def call_of_others(name: str, given: Sequence[Any], names: Sequence[str] | None) -> Any:
     """A call with names, the last arguments, or whose arguments are not all integers."""
-    call = CALLS[name]
-    if names is None and len(given) == len(call.names):
-        found = quick(name, given)
-        return run(name, given, {}) if found is None else found
-    count = len(given) - len(names or ())
+    call, count = CALLS[name], len(given) - len(names or ())
+    if count == len(call.names) and (names is None or names == ('out',)):
+        found = quick(name, given[:count], *given[count:])
+        if found is not None:
+            return found
+        if names is None:
+            return run(name, given, {})
     if name in OF_ANY_COUNT and count != 2:
         return of_any_count(name, given, names)
     named, given = dict(zip(names or (), given[count:])), given[:count]
@@ -752,9 +754,11 @@ class Plan(NamedTuple):
     """How a call of arrays of numpy runs whose types are those of a form, or smaller."""
 
     ufunc: Any
+    checked: Any  # the ufunc that returns statuses, or `None`
     failures: Callable[[], int]
     signature: str
     results: int
+    made: Any  # the type of the first result
     numbers: tuple[
         tuple[int, int, int, Any], ...
     ]  # the places of numbers with their ranges and their types
@@ -781,15 +785,17 @@ def plan_of(name: str, kinds: tuple[Any, ...]) -> Plan | None:
     )
     return Plan(
         getattr(ufuncs, name + COUNTED * call.has_status),
+        getattr(ufuncs, name) if call.has_status else None,
         ufuncs.failures,
         signature_of(numpy, taken, returned),
         len(returned),
+        numpy.dtype(returned[0]),
         numbers,
         classes.get(call.result),
     )
 
 
-def quick(name: str, given: Sequence[Any]) -> Any:
+def quick(name: str, given: Sequence[Any], out: Any = None) -> Any:
     """The result of a call of arrays of numpy and of `int`s, or `None` if there is more to do, such
     as to raise an error."""
     numpy = sys.modules.get('numpy')
@@ -811,11 +817,26 @@ def quick(name: str, given: Sequence[Any]) -> Any:
             if not low <= given[place] <= high:
                 return None
             given[place] = numpy.array(given[place], kind)
+    if out is not None:
+        return into(numpy, name, plan, given, out)
     before = plan.failures()
     found = plan.ufunc(*given, signature=plan.signature)
     if plan.failures() != before:
         return None
     return found if plan.results == 1 or plan.result is None else plan.result(*found)
+
+
+def into(numpy: Any, name: str, plan: Plan, given: Sequence[Any], out: Any) -> Any:
+    """The same in an array, which may be one that is given: so no call is made again. `None` if it
+    is another array than one of the result."""
+    if plan.results > 1 or type(out) is not numpy.ndarray or out.dtype != plan.made:
+        return None
+    if plan.checked is None:
+        return plan.ufunc(*given, out=out, signature=plan.signature)
+    _, status = plan.checked(*given, out=(out, None), signature=plan.signature + 'B')
+    if status.any():
+        raise first_error(numpy, CALLS[name], given, numpy.asarray(status))
+    return out
 
 
 # ---- shares
