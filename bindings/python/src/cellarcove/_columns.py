@@ -1044,21 +1044,9 @@ def of_dask(task: Task, columns: Sequence[Any]) -> Sequence[Any]:
         )
     )
     block = functools.partial(of_block, empty)
-    shares = CALLS[task.name].shapes == 'nl'
     if any(hasattr(column, 'map_partitions') for column in columns):
-        if results_of(task) > 1:
-            raise TypeError(
-                f'{task.name}() returns one column of dask.dataframe: for {results_of(task)} pass '
-                'arrays, by `.to_dask_array()`'
-            )
-        map_partitions = importlib.import_module('dask.dataframe').map_partitions
-        none = [
-            column._meta
-            if hasattr(column, '_meta')
-            else column[: len(column) * (shares and column is columns[-1])]
-            for column in columns
-        ]
-        return (map_partitions(block, *columns, meta=block(*none)),)
+        return of_partitions(task, block, columns)
+    shares = CALLS[task.name].shapes == 'nl'
     # dask.array takes no `Series` and no buffer
     columns = [
         numpy.asarray(c)
@@ -1077,14 +1065,52 @@ def of_dask(task: Task, columns: Sequence[Any]) -> Sequence[Any]:
         masked,
         *(numpy.ones((1,) * (core == '(n)'), column.dtype) for core, column in zip(cores, columns)),
     )
-    if not shares and not isinstance(sample, tuple):
-        elemwise = importlib.import_module('dask.array.core').elemwise
-        return (elemwise(block, *columns, dtype=sample.dtype),)
+    if not shares:
+        return of_each_block(numpy, block, columns, sample, task.errors == 'mask')
     made = sample if isinstance(sample, tuple) else (sample,)
-    ends = ['(n)' if shares and k == 0 else '()' for k in range(len(made))]
+    ends = ['(n)' if k == 0 else '()' for k in range(len(made))]
     signature = f'{",".join(cores)}->{",".join(ends)}'
     types = [each.dtype for each in made] if isinstance(sample, tuple) else sample.dtype
     found = importlib.import_module('dask.array').apply_gufunc(
         block, signature, *columns, output_dtypes=types, allow_rechunk=True
     )
     return found if isinstance(found, tuple) else (found,)
+
+
+def of_partitions(task: Task, block: Any, columns: Sequence[Any]) -> Sequence[Any]:
+    """The column of a result of those of `dask.dataframe`. Its type is that of no rows."""
+    shares = CALLS[task.name].shapes == 'nl'
+    if shares and hasattr(columns[-1], 'map_partitions'):
+        raise TypeError(
+            f'{task.name}(): weights is a column of dask.dataframe, which lies in parts: pass an '
+            'array, by `.to_dask_array(lengths=True)`'
+        )
+    if results_of(task) > 1:
+        raise TypeError(
+            f'{task.name}() returns one column of dask.dataframe: for {results_of(task)} pass '
+            'arrays, by `.to_dask_array()`'
+        )
+    none = [
+        column._meta
+        if hasattr(column, '_meta')
+        else column[: len(column) * (shares and column is columns[-1])]
+        for column in columns
+    ]
+    map_partitions = importlib.import_module('dask.dataframe').map_partitions
+    return (map_partitions(block, *columns, meta=block(*none)),)
+
+
+def of_each_block(
+    numpy: Any, block: Any, columns: Sequence[Any], sample: Any, masked: bool
+) -> Sequence[Any]:
+    """The columns of a call of blocks, whose lengths may be unknown. Several results are made at
+    once, and have the types of those of a sample."""
+    elemwise = importlib.import_module('dask.array.core').elemwise
+    if not isinstance(sample, tuple):
+        return (elemwise(block, *columns, dtype=sample.dtype),)
+    found = elemwise(block, *columns, dtype=object)
+    metas = sample if masked else map(numpy.ma.getdata, sample)
+    return [
+        found.map_blocks(operator.itemgetter(k), dtype=meta.dtype, meta=meta[(None,) * found.ndim])
+        for k, meta in enumerate(metas)
+    ]
