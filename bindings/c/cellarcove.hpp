@@ -348,7 +348,40 @@ class line {
 
 namespace detail {
 struct returned;
+
+namespace constant {
+
+/// Whether there is a day of the month.
+constexpr bool is_there(std::int64_t year, int month, int day_of_month) {
+    bool is_leap = year % 4 == 0 && (year % 100 != 0 || year % 400 == 0);
+    int days = month == 2 ? 28 + is_leap : month == 4 || month == 6 || month == 9 || month == 11 ? 30 : 31;
+    return 1 <= month && month <= 12 && 1 <= day_of_month && day_of_month <= days;
 }
+
+/// The fraction of two integers, by sign and magnitude, or the status.
+constexpr cellarcove_fraction_answer fraction_new(std::int64_t num, std::int64_t den) {
+    if (den == 0) {
+        return {CELLARCOVE_ZERO_DENOMINATOR, {0, 0}};
+    }
+    std::uint64_t upper = line::magnitude(num), lower = line::magnitude(den), gcd = lower, rest = upper;
+    while (rest != 0) {
+        std::uint64_t next = gcd % rest;
+        gcd = rest;
+        rest = next;
+    }
+    bool is_negative = (num < 0) != (den < 0) && num != 0;
+    upper /= gcd;
+    lower /= gcd;
+    std::uint64_t largest = static_cast<std::uint64_t>(std::numeric_limits<std::int64_t>::max());
+    if (upper > largest + is_negative || lower > largest) {
+        return {CELLARCOVE_NOT_FITTING, {0, 0}};
+    }
+    std::int64_t signed_num = is_negative ? -static_cast<std::int64_t>(upper - 1) - 1 : static_cast<std::int64_t>(upper);
+    return {CELLARCOVE_ANSWER, {signed_num, static_cast<std::int64_t>(lower)}};
+}
+
+} // namespace constant
+} // namespace detail
 
 /// A fraction, which is reduced; its denominator is positive.
 class fraction {
@@ -359,11 +392,11 @@ class fraction {
     template <class N, std::enable_if_t<detail::has_all_of<std::int64_t, N>, int> = 0> constexpr fraction(N whole) : num_(whole), den_(1) {}
     /// The fraction `num / den`, reduced. status::zero_denominator if den is 0, and status::not_fitting if a part of it does
     /// not fit.
-    [[nodiscard]] static result<fraction> make(detail::checked<std::int64_t> num, detail::checked<std::int64_t> den) {
+    [[nodiscard]] static CELLARCOVE_CONSTEXPR result<fraction> make(detail::checked<std::int64_t> num, detail::checked<std::int64_t> den) {
         if (auto error = detail::error_of(num, den); error != status::answer) {
             return result<fraction>(error);
         }
-        auto r = cellarcove_fraction_new(num.value, den.value);
+        auto r = CELLARCOVE_IS_CONSTANT ? detail::constant::fraction_new(num.value, den.value) : cellarcove_fraction_new(num.value, den.value);
         return r.status == CELLARCOVE_ANSWER ? result<fraction>(fraction(r.value.num, r.value.den)) : result<fraction>(static_cast<status>(r.status));
     }
     /// The fraction of a fraction of C, as by `make`.
@@ -383,13 +416,15 @@ class date {
   public:
     /// The date of a year, a month and a day of the month. status::not_fitting if the year does not fit, and status::no_date if
     /// there is no such date.
-    [[nodiscard]] static result<date> make(detail::checked<std::int64_t> year, detail::checked<std::uint8_t> month,
-                                           detail::checked<std::uint8_t> day_of_month) {
+    [[nodiscard]] static CELLARCOVE_CONSTEXPR result<date> make(detail::checked<std::int64_t> year, detail::checked<std::uint8_t> month,
+                                                                detail::checked<std::uint8_t> day_of_month) {
         if (year.error != status::answer) {
             return result<date>(year.error);
         }
         date made(year.value, month.value, day_of_month.value);
-        return cellarcove_day_of_year(made.to_c()).status == CELLARCOVE_ANSWER ? result<date>(made) : result<date>(status::no_date);
+        bool is_there = CELLARCOVE_IS_CONSTANT ? detail::constant::is_there(made.year_, made.month_, made.day_of_month_)
+                                               : cellarcove_day_of_year(made.to_c()).status == CELLARCOVE_ANSWER;
+        return is_there ? result<date>(made) : result<date>(status::no_date);
     }
     /// The date of a date of C, as by `make`.
     [[nodiscard]] static result<date> from_c(cellarcove_date parts) { return make(parts.year, parts.month, parts.day_of_month); }
@@ -2087,6 +2122,14 @@ template <> struct std::formatter<cellarcove::week_of_year> : cellarcove::detail
 };
 template <> struct std::formatter<cellarcove::status> : std::formatter<std::string_view> {
     auto format(cellarcove::status a, std::format_context &to) const { return std::formatter<std::string_view>::format(text(a), to); }
+};
+/// The value by its own format, or the words for the status.
+template <class T>
+    requires std::is_default_constructible_v<std::formatter<T>>
+struct std::formatter<cellarcove::result<T>> : std::formatter<T> {
+    auto format(const cellarcove::result<T> &a, std::format_context &to) const {
+        return a ? std::formatter<T>::format(*a, to) : std::formatter<cellarcove::status>().format(a.error(), to);
+    }
 };
 #endif
 

@@ -221,8 +221,12 @@ static void constants() {
     std::vector<fraction> fractions;
     for (std::int64_t num : numbers) {
         for (std::int64_t den : numbers) {
-            if (auto made = fraction::make(num, den)) {
+            auto made = fraction::make(num, den);
+            auto constant = cellarcove::detail::constant::fraction_new(num, den);
+            CHECK(static_cast<status>(constant.status) == made.error());
+            if (made) {
                 fractions.push_back(*made);
+                CHECK(constant.value.num == made->num() && constant.value.den == made->den());
             }
         }
     }
@@ -235,6 +239,16 @@ static void constants() {
     static_assert(cellarcove::div_rem(-8, 3)->remainder == -2 && cellarcove::div_mod_floor(-8, 3)->remainder == 1);
     static_assert(cellarcove::div_ceil(7U, 2U) == cellarcove::result<std::uint64_t>(4) && cellarcove::div_floor(1U, 0U) == status::outside);
     static_assert(fraction(2) < fraction(3) && fraction(-2) > fraction(-3) && fraction(2) >= 2);
+    static_assert(*fraction::make(2, -4) < *fraction::make(-1, 3) && fraction::make(1, 0) == status::zero_denominator);
+    static_assert(*date::make(2024, 2, 29) < *date::make(2024, 3, 1) && date::make(1900, 2, 29) == status::no_date);
+    numbers.insert(numbers.end(), {1600, 1900, 2000, 2023, 2024});
+    for (std::int64_t year : numbers) {
+        for (int month = 0; month <= 13; month++) {
+            for (int day = 0; day <= 32; day++) {
+                CHECK(cellarcove::detail::constant::is_there(year, month, day) == date::make(year, month, day).has_value());
+            }
+        }
+    }
 }
 
 // What the standard library knows of the classes.
@@ -284,6 +298,10 @@ static void idioms() {
     CHECK(std::format("{} {:>6} {} {}", half, half, day, status::no_date) == "1/2    1/2 2024-01-31 there is no such date");
     CHECK(std::format("{:*^12}|{}", day, cellarcove::decimal{true, 0, 5, 2}) == "*2024-01-31*|-0.05");
     CHECK(std::format("{}", *cellarcove::iso_week(day)) == "2024-W05");
+    CHECK(std::format("{} {:>6}|{}", half + half, half + 1, fraction::make(1, 0)) == "1    3/2|" + std::string(text(status::zero_denominator)));
+    CHECK(std::format("{:+05}|{:05}", cellarcove::div_floor(7, 2), cellarcove::div_floor(7, 0)) == "+0003|" + std::string(text(status::outside)));
+    CHECK(std::format("{} {}", cellarcove::iso_week(day), day - day) == "2024-W05 0");
+    static_assert(!std::is_default_constructible_v<std::formatter<cellarcove::result<cellarcove::bezout>>>);
 #endif
     static_assert(CELLARCOVE_VERSION_NUMBER == CELLARCOVE_VERSION_MAJOR * 10000 + CELLARCOVE_VERSION_MINOR * 100 + CELLARCOVE_VERSION_PATCH);
 }

@@ -34,7 +34,8 @@ MODULI = {'m', 'n', 'modulus', 'p', 'q', 'period'}
 # a reason of a status that Python never meets, since it makes the parts
 SEEN_TO = 'there is not one part for each weight, or if '
 DIVIDES = ('division', 'products')  # the modules whose parameters `y` and `d` are divisors
-OPTIONS = "out=None, where=True, errors='raise'"  # of a call with columns
+ERRORS = "errors='raise'"  # of a call with columns
+OPTIONS = f'out=None, where=True, {ERRORS}'  # of one that writes one number for each element
 # What says, before there is room for the numbers that a call writes, whether it has a result.
 ASKED = {'choice_of_rank': 'is_below_binomial(numbers)'}
 
@@ -154,7 +155,7 @@ def signature(name: str, forms: list[Call]) -> str:
     given, numbers = parameter_names(forms[0]), names_of_one(forms[0])
     given = [*given[:-1], f'{given[-1]}=None', '*',
              *(f'{number}=None' for number in numbers)] if numbers else [*given, '*']
-    return f'{name}($module, /, {", ".join(given)}, {OPTIONS})'
+    return f'{name}($module, /, {", ".join(given)}, {ERRORS if forms[0].has_slice else OPTIONS})'
 
 
 RAISED = {'NOT_FITTING': '`NotFitting`', 'ZERO_DENOMINATOR': '`DivisionByZero`'}
@@ -214,7 +215,7 @@ def of_columns(call: Call) -> str:
     if call.has_slice:
         shared = len(call.taken) < len(call.parameters)
         return ('Of a column of amounts, or of weights, it is an array, whose last axis is that '
-                'of the weights.' * shared)
+                'of the weights, or a table or a `Series` with their index.' * shared)
     if call.result.startswith('Date'):
         days = any(parameter.kind == 'Date' for parameter in call.parameters)
         return ('Of columns it is '
@@ -344,8 +345,11 @@ PYTHON = {'Fraction': '_Fraction', 'Date': '_Date'} | {f'{sign}64{name}': f'{nam
                                                        for sign in 'IU'
                                                        for name, _ in PAIRS.values()}
 NUMBER, COLUMN = 'SupportsIndex', '_Column'
+# The types of parameters that may be other numbers.
+NUMBERS = {WEEKDAY: f'Weekday | {NUMBER}', 'days': f'_Days | {NUMBER}'}
 # The parameters of a call with columns that have names alone.
-NAMED = 'out: Any = ..., where: Any = ..., errors: _Errors = ...'
+NAMED_ERRORS = 'errors: _Errors = ...'
+NAMED = f'out: Any = ..., where: Any = ..., {NAMED_ERRORS}'
 
 
 def scalar_result(call: Call) -> str:
@@ -361,8 +365,7 @@ def scalar_result(call: Call) -> str:
 
 def scalar_type(parameter: Field) -> str:
     """The type of a parameter that has no column."""
-    return (f'Weekday | {NUMBER}' if parameter.name == WEEKDAY
-            else PYTHON.get(parameter.kind, NUMBER))
+    return NUMBERS.get(parameter.name, PYTHON.get(parameter.kind, NUMBER))
 
 
 def column_types(parameter: Field, chosen: bool) -> str:
@@ -400,8 +403,8 @@ def stub(name: str, forms: list[Call]) -> str:
     if len(call.taken) < len(call.parameters):
         amount, weights = names
         return overloads(name, [
-            (f'{amount}: {COLUMN} | {NUMBER}, {weights}: {COLUMN}, *, {NAMED}', 'Any'),
-            (f'{amount}: {COLUMN}, {weights}: Iterable[{NUMBER}], *, {NAMED}', 'Any'),
+            (f'{amount}: {COLUMN} | {NUMBER}, {weights}: {COLUMN}, *, {NAMED_ERRORS}', 'Any'),
+            (f'{amount}: {COLUMN}, {weights}: Iterable[{NUMBER}], *, {NAMED_ERRORS}', 'Any'),
             (f'{amount}: {NUMBER}, {weights}: Iterable[{NUMBER}]', 'tuple[int, ...]')])
     if call.has_slice:
         taken = ', '.join(f'{given}: {listed_type(parameter)}'

@@ -78,10 +78,32 @@ static inline bool is_int(PyObject *object) {
     return Py_TYPE(object) == &PyLong_Type || PyLong_Check(object);
 }
 
+/* Whether an object is a bool of numpy, whose `__index__` warns. The class of the last one that is
+ * none is kept. */
+static bool is_bool_of_numpy(PyObject *object) {
+    static PyTypeObject *other;
+    if (Py_TYPE(object) == other) {
+        return false;
+    }
+    PyObject *text = PyObject_Repr((PyObject *)Py_TYPE(object));
+    bool is_one = text != NULL &&
+                  (PyUnicode_CompareWithASCIIString(text, "<class 'numpy.bool_'>") == 0 ||
+                   PyUnicode_CompareWithASCIIString(text, "<class 'numpy.bool'>") == 0);
+    other = is_one ? other : Py_TYPE(object);
+    Py_XDECREF(text);
+    PyErr_Clear();
+    return is_one;
+}
+
+/* The integer of an object that is no `int`, or NULL and an error. */
+static PyObject *index_of(PyObject *object) {
+    return is_bool_of_numpy(object) ? PyNumber_Long(object) : PyNumber_Index(object);
+}
+
 /* Reads an integer. It is false after an error. */
 static inline bool integer(PyObject *object, cell *to) {
     bool is_read = is_int(object);
-    PyObject *number = is_read ? object : PyNumber_Index(object);
+    PyObject *number = is_read ? object : index_of(object);
     int overflow;
     if (number == NULL) {
         return false;

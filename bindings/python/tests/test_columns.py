@@ -10,6 +10,8 @@ import sys
 import threading
 import time
 import unittest
+import unittest.mock
+import warnings
 
 import cellarcove
 
@@ -290,6 +292,21 @@ class Matrix(unittest.TestCase):
         cellarcove.average_floor(x[:-1], x[1:], out=x[1:])
         self.assertEqual(x.tolist(), [1, *range(1, 100_000)])
 
+    def test_quick_outputs(self):
+        """An output of the type of the results is filled without what other columns need, also if
+        it is an input, and an element without a result raises for its own inputs."""
+        x, out = numpy.arange(1, 5), numpy.zeros(4, int)
+        with unittest.mock.patch('cellarcove._columns.run', None):
+            self.assertIs(cellarcove.gcd(x, 6, out=out), out)
+            self.assertEqual(out.tolist(), [1, 2, 3, 2])
+            self.assertEqual(cellarcove.average_floor(x, 9, out=x).tolist(), [5, 5, 6, 6])
+            self.assertEqual(cellarcove.checked_sum(x, out, out=out[::-1]).tolist(), [6, 7, 9, 8])
+            for wrong, error in ((numpy.array([3, 0, 0, 5]), cellarcove.DivisionByZero),
+                                 (numpy.array([3, -1, -1, 5]), cellarcove.NotFitting)):
+                with self.assertRaises(error) as raised:
+                    cellarcove.div_floor(numpy.full(4, -(2**63)), wrong, out=wrong)
+                self.assertEqual((raised.exception.index, raised.exception.count), (1, 2))
+
 
 @unittest.skipIf(missing, f'there is no {missing}')
 class Imports(unittest.TestCase):
@@ -329,6 +346,21 @@ class Dates(unittest.TestCase):
             with self.assertRaises(cellarcove.NotFitting):
                 cellarcove.plus_days(first, beyond)
             self.assertTrue(cellarcove.plus_days(first, beyond, errors='mask').isna().all())
+
+
+@unittest.skipIf(missing, f'there is no {missing}')
+class Scalars(unittest.TestCase):
+    def test_bools(self):
+        """A bool of numpy is 0 or 1, and its `__index__`, which warns, is not called."""
+        yes, no = numpy.bool_(True), numpy.bool_(False)
+        with warnings.catch_warnings():
+            warnings.simplefilter('error')
+            self.assertEqual((cellarcove.gcd(12, yes), cellarcove.gcd(no, 12)), (1, 12))
+            self.assertEqual(cellarcove.gcd(numpy.array([12, 18]), no).tolist(), [12, 18])
+            self.assertEqual((cellarcove.sum_of([yes, 4, no]), cellarcove.gcd_of((yes, 3))), (5, 1))
+            self.assertEqual(cellarcove.shares(numpy.array([3]), [yes, 1]).tolist(), [[2, 1]])
+            self.assertEqual(cellarcove.fraction_floor((yes, 1)), 1)
+            self.assertEqual(str(cellarcove.Date(2024, yes, yes) + yes), '2024-01-02')
 
 
 def pick(nested, k):

@@ -255,6 +255,11 @@ class IsoWeek(NamedTuple):
         return f'{year}-W{self.week:02}'
 
 
+for _result in (ExtendedGcd, Solutions, IsoWeek):
+    # numpy would add their numbers to those of an array
+    setattr(_result, '__array_ufunc__', None)
+
+
 class Weekday(enum.Enum):
     """A day of the week. Its `value` is its number in ISO 8601, from 1 for Monday to 7 for Sunday.
 

@@ -32,14 +32,21 @@ NAMED = ('out', 'where', 'errors')
 OF_ANY_COUNT = ('gcd', 'lcm')  # which take any count of numbers
 ERRORS = ('raise', 'mask', 'status')
 NO_DAY = -(2**63)  # the number of `NaT`
+DAYS = 'days'  # the parameter that takes a `timedelta64[D]`: no other one counts days
 NOT_FITTING = 2  # the status
 COUNTED = '_counted'  # the end of the name of a ufunc that counts failures, and returns no statuses
 ORDER = '<' if sys.byteorder == 'little' else '>'
 WORDS = {ORDER + 'i8': 'q', ORDER + 'u8': 'Q', 'q': 'q', 'l': 'q', 'Q': 'Q', 'L': 'Q'}
-PER_DAY = {'s': 86400, 'ms': 86400 * 10**3, 'us': 86400 * 10**6, 'ns': 86400 * 10**9}
+PER_DAY = {'D': 1, 'h': 24, 'm': 1440} | {
+    unit: 86400 * 1000**k for k, unit in enumerate(('s', 'ms', 'us', 'ns', 'ps'))
+}
 WITH_MISSING = (
     ": with missing values, pass pandas' Int64 by `.astype('Int64')`, which raises for a number "
     'that is no integer'
+)
+OF_TIMES = (
+    ': a number of days is timedelta64[D], or an integer: `.dt.days`, with missing values '
+    "`.dt.days.astype('Int64')`"
 )
 OF_FLOATS = "; 19.99 as cents is `(series * 100).round().astype('Int64')`, which rounds a float"
 
@@ -81,6 +88,7 @@ def is_column(value: object) -> bool:
         isinstance(value, (array.array, memoryview))
         or hasattr(value, 'dtype')
         and hasattr(value, '__len__')
+        and not is_of(value, 'dask.delayed', 'Delayed')  # which has any attribute
     )
 
 
@@ -96,9 +104,9 @@ def wrong_type(name: str, parameter: str, value: object, wanted: str) -> TypeErr
         words += ': pass an array of numpy'
     elif hasattr(value, 'columns'):
         words += ': pass one of its columns'
-    elif unit(value).startswith('m8'):
+    elif unit(value).startswith('m8') and parameter == DAYS:
         words += ': a number of days is an int, or a timedelta64[D]'
-    elif wanted == 'integer' and (hasattr(value, 'toordinal') or unit(value)):
+    elif wanted == 'integer' and (hasattr(value, 'toordinal') or unit(value).startswith('M8')):
         words += ': its number is `day_from_date` of it'
     elif wanted == 'fraction':
         words += ': pass a Fraction, an int, a Decimal, or a tuple of a numerator and a denominator'
@@ -113,16 +121,21 @@ def unit(value: Any) -> str:
     return str(value.dtype.str[1:]) if kind and kind in 'mM' and hasattr(value.dtype, 'str') else ''
 
 
+def index(value: Any) -> int:
+    """The integer of an object. That of a bool of numpy warns of its `__index__`."""
+    return int(value) if is_of(value, 'numpy', 'bool_') else operator.index(value)
+
+
 def cell(name: str, parameter: str, value: Any, wanted: str = 'integer') -> Leaf:
     """A number, as an `int`, or a column of numbers."""
     if is_table(value) or is_column(value):
         return Leaf(value, parameter)
-    if unit(value) == 'm8[D]':
+    if unit(value) == 'm8[D]' and parameter == DAYS:
         value = value.astype('int64')
         if value == NO_DAY:
             raise TypeError(f'{name}(): {parameter} is NaT')
     try:
-        return Leaf(operator.index(value), parameter)
+        return Leaf(index(value), parameter)
     except TypeError:
         raise wrong_type(name, parameter, value, wanted) from None
 
@@ -143,7 +156,7 @@ def date_cells(name: str, parameter: str, value: Any) -> list[Leaf]:
             if day == NO_DAY
             else operator.attrgetter('year', 'month', 'day')(_calls.date_from_day(day))
         )
-    elif named:
+    elif named and not isinstance(value.year, float):  # as that of pandas.NaT is
         parts = value.year, value.month, value.day
     if isinstance(value, tuple) and len(parts) != 3:
         raise ValueError(
@@ -179,7 +192,7 @@ def weight_cell(name: str, parameter: str, value: Any) -> Leaf:
     """A column of weights, or a list of them."""
     if is_column(value) or hasattr(value, 'columns'):
         return Leaf(value, parameter)
-    return Leaf(list(map(operator.index, value)), parameter)
+    return Leaf(list(map(index, value)), parameter)
 
 
 def pair_cells(name: str, parameter: str, value: Any, wanted: Any) -> list[Leaf]:
@@ -215,11 +228,13 @@ def leaves_of(name: str, call: Call, given: Sequence[Any]) -> list[list[Leaf]]:
 
 def call_of_others(name: str, given: Sequence[Any], names: Sequence[str] | None) -> Any:
     """A call with names, the last arguments, or whose arguments are not all integers."""
-    call = CALLS[name]
-    if names is None and len(given) == len(call.names):
-        found = quick(name, given)
-        return run(name, given, {}) if found is None else found
-    count = len(given) - len(names or ())
+    call, count = CALLS[name], len(given) - len(names or ())
+    if count == len(call.names) and (names is None or names == ('out',)):
+        found = quick(name, given[:count], *given[count:])
+        if found is not None:
+            return found
+        if names is None:
+            return run(name, given, {})
     if name in OF_ANY_COUNT and count != 2:
         return of_any_count(name, given, names)
     named, given = dict(zip(names or (), given[count:])), given[:count]
@@ -391,10 +406,16 @@ def is_of(value: object, module: str, name: str) -> bool:
 def of_columns(task: Task, out: Any, where: Any) -> Any:
     """A call of columns, by the library whose they are."""
     numpy, _ = modules(task.name)
+    if where is not True:
+        where = chosen(numpy, task.name, where)
     if CALLS[task.name].shapes != 'nl' and any(is_table(leaf.value) for leaf in task.leaves):
         if out is not None or where is not True:
             raise TypeError(f'{task.name}() takes no out and no where with a table')
         return of_tables(task)
+    leaves = task.leaves
+    if isinstance(leaves[-1].value, list):
+        leaves = (*leaves[:-1], leaves[-1]._replace(value=numpy.asarray(leaves[-1].value)))
+        task = task._replace(leaves=leaves)
     columns = [leaf.value for leaf in task.leaves if is_column(leaf.value)]
     if any(
         is_of(column, 'dask.array', 'Array') or hasattr(column, '__dask_graph__')
@@ -405,10 +426,24 @@ def of_columns(task: Task, out: Any, where: Any) -> Any:
         return classed(task, of_dask(task, columns))
     series = [column for column in columns if is_of(column, 'pandas', 'Series')]
     if CALLS[task.name].shapes == 'nl':
+        if out is not None or where is not True:
+            raise TypeError(f'{task.name}() takes no out and no where')
         return of_shares(numpy, task)
-    if series and out is None and where is True:
-        return classed(task, of_pandas(task, series))
+    if series and out is None:
+        return classed(task, of_pandas(task, series, where))
+    if is_of(where, 'pandas', 'Series'):
+        series, where = [*series, where], numpy.asarray(where)
+    if any(not column.index.equals(series[0].index) for column in series):
+        raise ValueError(f'{task.name}(): the columns have not the same index, and out has none')
     return classed(task, of_numpy(task, task.leaves, out, where))
+
+
+def chosen(numpy: Any, name: str, where: Any) -> Any:
+    """Which elements have a result: a column of pandas, or an array, of bools."""
+    flags = numpy.asarray(where)
+    if flags.dtype.kind != 'b':
+        raise TypeError(f'{name}(): where is of {flags.dtype}, and not of bools')
+    return where if is_of(where, 'pandas', 'Series') else flags
 
 
 def classed(task: Task, found: Sequence[Any]) -> Any:
@@ -450,8 +485,7 @@ def wrong_items(name: str, leaf: Leaf, data: Any) -> TypeError:
     else:
         words += {
             'M': ': pass its day numbers, by `cellarcove.day_from_date`',
-            'm': ': a number of days is timedelta64[D], or an integer: `.dt.days`, with missing '
-            "values `.dt.days.astype('Int64')`",
+            'm': OF_TIMES * (leaf.parameter == DAYS),
             'f': WITH_MISSING + OF_FLOATS,
             'O': with_objects(data),
             'U': with_objects(data),
@@ -480,8 +514,8 @@ def as_kind(numpy: Any, name: str, leaf: Leaf, missing: Any, kind: str) -> Any:
         if not low <= value <= high:
             raise out_of_range(value, kind)
         return numpy.array(value, kind)
-    if value.dtype.str[1:] == 'm8[D]':
-        value = value.view('int64')
+    if value.dtype.str[1:] == 'm8[D]' and leaf.parameter == DAYS:
+        value = value.astype('int64')
     if value.dtype.kind not in 'iub':
         raise wrong_items(name, leaf, value)
     if numpy.can_cast(value.dtype, kind, 'safe') or value.size == 0:
@@ -507,10 +541,18 @@ def days_of(numpy: Any, name: str, leaf: Leaf, data: Any) -> Any:
     if data.dtype.kind != 'M':
         raise wrong_items(name, leaf, data)
     unit, count = numpy.datetime_data(data.dtype)
-    if count == 1 and unit in PER_DAY:
-        # numpy's own cast wraps for the first day of a unit
-        return data.astype('int64') // PER_DAY[unit]
-    return data.astype('M8[D]', copy=False).view('int64')
+    # numpy's own cast wraps, also for the first day of a unit
+    if count > 1 or unit not in PER_DAY:
+        unit = unit if unit in PER_DAY else 'D'
+        cast = data.astype(f'M8[{unit}]')
+        if ((cast.astype(data.dtype) != data) & ~numpy.isnat(data)).any():
+            raise OverflowError(
+                f'{name}(): {leaf.parameter} has a date that is no datetime64[{unit}]'
+            )
+        data = cast
+    if unit == 'D':
+        return data.astype('M8[D]', copy=False).view('int64')
+    return data.astype('int64') // PER_DAY[unit]
 
 
 def cells_of(numpy: Any, ufuncs: Any, name: str, leaves: Sequence[Leaf]) -> tuple[list[Leaf], Any]:
@@ -582,7 +624,7 @@ def of_numpy(
     if outputs is None:
         outputs, status = ran(numpy, task.name, given, taken, returned, call, out, where)
     if where is not True:
-        missing = ~numpy.asarray(where) if missing is None else missing | ~numpy.asarray(where)
+        missing = ~where if missing is None else missing | ~where
     if dated:
         outputs, status = as_dates(numpy, ufuncs, outputs, status, last_day)
     if status is not None and missing is not None:
@@ -610,9 +652,10 @@ def places(numpy: Any, name: str, returned: str, out: Any) -> tuple[Any, ...]:
         raise ValueError(f'{name}(): out is a tuple of {len(returned)} arrays')
     for given, kind in zip(found, returned):
         dtype = numpy.dtype(kind)
-        if getattr(given, 'dtype', None) != dtype:
+        is_array = isinstance(given, numpy.ndarray)
+        if not is_array or given.dtype.newbyteorder('=') != dtype:
             raise TypeError(
-                f'{name}(): out is of {getattr(given, "dtype", type(given))}, '
+                f'{name}(): out is of {given.dtype if is_array else type(given)}, '
                 f'and a result is of {dtype}'
             )
     return found
@@ -711,9 +754,11 @@ class Plan(NamedTuple):
     """How a call of arrays of numpy runs whose types are those of a form, or smaller."""
 
     ufunc: Any
+    checked: Any  # the ufunc that returns statuses, or `None`
     failures: Callable[[], int]
     signature: str
     results: int
+    made: Any  # the type of the first result
     numbers: tuple[
         tuple[int, int, int, Any], ...
     ]  # the places of numbers with their ranges and their types
@@ -740,15 +785,17 @@ def plan_of(name: str, kinds: tuple[Any, ...]) -> Plan | None:
     )
     return Plan(
         getattr(ufuncs, name + COUNTED * call.has_status),
+        getattr(ufuncs, name) if call.has_status else None,
         ufuncs.failures,
         signature_of(numpy, taken, returned),
         len(returned),
+        numpy.dtype(returned[0]),
         numbers,
         classes.get(call.result),
     )
 
 
-def quick(name: str, given: Sequence[Any]) -> Any:
+def quick(name: str, given: Sequence[Any], out: Any = None) -> Any:
     """The result of a call of arrays of numpy and of `int`s, or `None` if there is more to do, such
     as to raise an error."""
     numpy = sys.modules.get('numpy')
@@ -770,11 +817,26 @@ def quick(name: str, given: Sequence[Any]) -> Any:
             if not low <= given[place] <= high:
                 return None
             given[place] = numpy.array(given[place], kind)
+    if out is not None:
+        return into(numpy, name, plan, given, out)
     before = plan.failures()
     found = plan.ufunc(*given, signature=plan.signature)
     if plan.failures() != before:
         return None
     return found if plan.results == 1 or plan.result is None else plan.result(*found)
+
+
+def into(numpy: Any, name: str, plan: Plan, given: Sequence[Any], out: Any) -> Any:
+    """The same in an array, which may be one that is given: so no call is made again. `None` if it
+    is another array than one of the result."""
+    if plan.results > 1 or type(out) is not numpy.ndarray or out.dtype != plan.made:
+        return None
+    if plan.checked is None:
+        return plan.ufunc(*given, out=out, signature=plan.signature)
+    _, status = plan.checked(*given, out=(out, None), signature=plan.signature + 'B')
+    if status.any():
+        raise first_error(numpy, CALLS[name], given, numpy.asarray(status))
+    return out
 
 
 # ---- shares
@@ -783,9 +845,9 @@ def quick(name: str, given: Sequence[Any]) -> Any:
 def of_shares(numpy: Any, task: Task) -> Any:
     """The shares of each amount by weights, which lie along the last axis."""
     amount, weights = task.leaves
-    frame = weights.value if hasattr(weights.value, 'columns') else None
-    if is_table(frame):
-        amount = amount._replace(value=joined(numpy, task.name, amount, frame.index))
+    if is_table(weights.value):
+        index = weights.value.index
+        amount = amount._replace(value=joined(numpy, task.name, amount, index))
     parts_of, none = weights_of(numpy, task.name, weights)
     amounts, missing = (
         (amount.value, None) if isinstance(amount.value, int) else plain(numpy, task.name, amount)
@@ -803,14 +865,12 @@ def of_shares(numpy: Any, task: Task) -> Any:
     given = [first, as_kind(numpy, task.name, cells[1], None, 'Q')]
     taken, returned = call.forms[0 if kind == 'q' else -1]
     (parts,), status = ran(numpy, task.name, given, taken, returned, call, None, True)
-    return divided(numpy, task, frame, parts, status, given)
+    return divided(numpy, task, weights.value, parts, status)
 
 
 def weights_of(numpy: Any, name: str, leaf: Leaf) -> tuple[Any, Any]:
     """The weights as an array of numpy, and where they are missing, or `None`. A table has a weight
     in each column."""
-    if isinstance(leaf.value, list):
-        return numpy.asarray(leaf.value), None
     if not is_table(leaf.value) or leaf.value.shape[1] == 0:
         return plain(numpy, name, leaf)
     columns = [
@@ -839,17 +899,28 @@ def joined(numpy: Any, name: str, amount: Leaf, index: Any) -> Any:
     )
 
 
-def divided(
-    numpy: Any, task: Task, frame: Any, parts: Any, status: Any, given: Sequence[Any]
-) -> Any:
+def divided(numpy: Any, task: Task, weights: Any, parts: Any, status: Any) -> Any:
     """The shares of each row, as what the weights are."""
     if task.errors == 'raise' and status.max(initial=0):
         raise first_error(numpy, CALLS[task.name], [], status)
     if task.errors == 'mask':
         parts = with_missing(numpy, parts, (status != 0)[..., None])
-    elif frame is not None:
-        parts = type(frame)(parts, index=frame.index, columns=frame.columns)
+    parts = as_weights(weights, parts)
     return (parts, status) if task.errors == 'status' else parts
+
+
+def as_weights(weights: Any, parts: Any) -> Any:
+    """The shares in the places of the weights of a table, or of a `Series` by which one amount is
+    divided. Other ones are an array."""
+    if is_of(weights, 'pandas', 'Series') and parts.ndim == 1:
+        return type(weights)(nullable(parts), index=weights.index, name=weights.name)
+    if not is_table(weights):
+        return parts
+    if hasattr(parts, 'mask'):
+        parts = {k: nullable(parts[:, k]) for k in range(parts.shape[1])}
+    found = type(weights)(parts, index=weights.index)
+    found.columns = weights.columns
+    return found
 
 
 # ---- pandas
@@ -859,13 +930,9 @@ class Ufunc:
     """A call as pandas wants a ufunc of its columns alone: it joins them by their index, and makes
     the columns of the result."""
 
-    def __init__(self, task: Task, nout: int) -> None:
-        self.task, self.nout, self.nin, self.__name__ = (
-            task,
-            nout,
-            max(len(task.leaves), 3),
-            'cellarcove',
-        )
+    def __init__(self, task: Task, where: Any) -> None:
+        self.task, self.where, self.__name__ = task, where, 'cellarcove'
+        self.nout, self.nin = results_of(task), max(len(task.leaves) + 1, 3)
 
     def __call__(self, *columns: Any) -> Any:
         rest = iter(columns)
@@ -873,7 +940,16 @@ class Ufunc:
             leaf._replace(value=next(rest)) if is_of(leaf.value, 'pandas', 'Series') else leaf
             for leaf in self.task.leaves
         ]
-        found = of_numpy(self.task, leaves, None, True, last_day())
+        where = next(rest, self.where)
+        joined = [(leaf.value, given.value) for leaf, given in zip(leaves, self.task.leaves)]
+        for column, given in [*joined, (where, self.where)]:
+            # a label that another index lacks makes floats of integers
+            if column is not given and column.dtype != given.dtype:
+                raise ValueError(
+                    f'{self.task.name}(): the columns have not the same index: with missing '
+                    "values, pass pandas' Int64 by `.astype('Int64')`"
+                )
+        found = of_numpy(self.task, leaves, None, where, last_day())
         made = tuple(map(nullable, found))
         return made if self.nout > 1 else made[0]
 
@@ -896,12 +972,18 @@ def nullable(column: Any) -> Any:
     return kind(column.data, numpy.ma.getmaskarray(column).copy())
 
 
-def of_pandas(task: Task, series: Sequence[Any]) -> Sequence[Any]:
-    """The columns of a result, with the index of the columns."""
+def results_of(task: Task) -> int:
+    """How many columns a call returns. Dates are one if they are given as columns of dates."""
     call = CALLS[task.name]
     is_day = call.result == 'Date' and any(leaf.is_dates for leaf in task.leaves)
-    count = (1 if is_day else len(call.forms[0][1])) + (task.errors == 'status')
-    ufunc = Ufunc(task, count)
+    return (1 if is_day else len(call.forms[0][1])) + (task.errors == 'status')
+
+
+def of_pandas(task: Task, series: Sequence[Any], where: Any) -> Sequence[Any]:
+    """The columns of a result, with the index of the columns."""
+    if is_of(where, 'pandas', 'Series'):
+        series = [*series, where.rename(series[0].name)]
+    ufunc = Ufunc(task, where)
     found = series[0].__array_ufunc__(ufunc, '__call__', *series)
     if found is NotImplemented:
         raise TypeError(f'{task.name}(): pandas has no way to join these columns')
@@ -963,21 +1045,72 @@ def of_dask(task: Task, columns: Sequence[Any]) -> Sequence[Any]:
     )
     block = functools.partial(of_block, empty)
     if any(hasattr(column, 'map_partitions') for column in columns):
-        return (importlib.import_module('dask.dataframe').map_partitions(block, *columns),)
+        return of_partitions(task, block, columns)
     shares = CALLS[task.name].shapes == 'nl'
+    # dask.array takes no `Series` and no buffer
+    columns = [
+        numpy.asarray(c)
+        if is_of(c, 'pandas', 'Series') or isinstance(c, (array.array, memoryview))
+        else c
+        for c in columns
+    ]
     cores = [
         '(n)' if shares and leaf is task.leaves[-1] else '()'
         for leaf in task.leaves
         if is_column(leaf.value)
     ]
-    sample = block(
-        *(numpy.ones((1,) * (core == '(n)'), column.dtype) for core, column in zip(cores, columns))
+    # the types of the results are those of ones, for which the call may have no result
+    masked = empty._replace(errors='mask') if task.errors == 'raise' else empty
+    sample = of_block(
+        masked,
+        *(numpy.ones((1,) * (core == '(n)'), column.dtype) for core, column in zip(cores, columns)),
     )
+    if not shares:
+        return of_each_block(numpy, block, columns, sample, task.errors == 'mask')
     made = sample if isinstance(sample, tuple) else (sample,)
-    ends = ['(n)' if shares and k == 0 else '()' for k in range(len(made))]
+    ends = ['(n)' if k == 0 else '()' for k in range(len(made))]
     signature = f'{",".join(cores)}->{",".join(ends)}'
     types = [each.dtype for each in made] if isinstance(sample, tuple) else sample.dtype
     found = importlib.import_module('dask.array').apply_gufunc(
         block, signature, *columns, output_dtypes=types, allow_rechunk=True
     )
     return found if isinstance(found, tuple) else (found,)
+
+
+def of_partitions(task: Task, block: Any, columns: Sequence[Any]) -> Sequence[Any]:
+    """The column of a result of those of `dask.dataframe`. Its type is that of no rows."""
+    shares = CALLS[task.name].shapes == 'nl'
+    if shares and hasattr(columns[-1], 'map_partitions'):
+        raise TypeError(
+            f'{task.name}(): weights is a column of dask.dataframe, which lies in parts: pass an '
+            'array, by `.to_dask_array(lengths=True)`'
+        )
+    if results_of(task) > 1:
+        raise TypeError(
+            f'{task.name}() returns one column of dask.dataframe: for {results_of(task)} pass '
+            'arrays, by `.to_dask_array()`'
+        )
+    none = [
+        column._meta
+        if hasattr(column, '_meta')
+        else column[: len(column) * (shares and column is columns[-1])]
+        for column in columns
+    ]
+    map_partitions = importlib.import_module('dask.dataframe').map_partitions
+    return (map_partitions(block, *columns, meta=block(*none)),)
+
+
+def of_each_block(
+    numpy: Any, block: Any, columns: Sequence[Any], sample: Any, masked: bool
+) -> Sequence[Any]:
+    """The columns of a call of blocks, whose lengths may be unknown. Several results are made at
+    once, and have the types of those of a sample."""
+    elemwise = importlib.import_module('dask.array.core').elemwise
+    if not isinstance(sample, tuple):
+        return (elemwise(block, *columns, dtype=sample.dtype),)
+    found = elemwise(block, *columns, dtype=object)
+    metas = sample if masked else map(numpy.ma.getdata, sample)
+    return [
+        found.map_blocks(operator.itemgetter(k), dtype=meta.dtype, meta=meta[(None,) * found.ndim])
+        for k, meta in enumerate(metas)
+    ]
