@@ -36,7 +36,7 @@ def test_lines_of_the_package_for_python() -> None:
         'tests/test_columns.py')]
     for path in in_c + in_python:
         assert [line for line in path.read_text().splitlines() if len(line) > 100] == [], path
-    assert sum(len(path.read_text().splitlines()) for path in in_c) < 820
+    assert sum(len(path.read_text().splitlines()) for path in in_c) < 840
 
 
 @pytest.mark.parametrize('script, passed', [
