@@ -243,6 +243,10 @@ class Callers(Brief):
     def words(self, words: list[Definition], of_item: bool) -> None:
         pass
 
+    def definitions(self, file: str, head: list[str]) -> None:
+        self.add('')
+        super().definitions(file, head)
+
 
 def dedented(source: Source, first: int, last: int) -> str:
     """The text of code from a place to another, without the indentation of its first line."""

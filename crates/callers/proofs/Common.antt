@@ -23,7 +23,7 @@ pub use Rattle.calendar.specs.IsoWeeks.{IsDayOfIsoWeek, IsInIsoWeek}
 pub use Rattle.calendar.specs.declared.date.Date.{Date}
 pub use Rattle.calendar.specs.declared.iso_weeks.IsoWeek.{IsoWeek}
 pub use Rattle.calendar.specs.declared.weekday.Weekday.{Weekday}
-pub use Rattle.ratio64.proofs.ForCallers.{at_ok, ceiled_in_parts, err_is_outside, exact_of_words, nearest_of_equal, nearest_parts_of_equal, ok_is_inside, positive_is_nonzero, product_of_exact_results, reduced_is_exact, sum_of_exact_results, unwrapped_is_exact}
+pub use Rattle.ratio64.proofs.ForCallers.{at_ok, ceiled_in_parts, err_is_outside, exact_of_words, nearest_of_equal, nearest_parts_of_equal, nonzero_product, ok_is_inside, positive_is_nonzero, product_of_exact_results, reduced_is_exact, sum_of_exact_results, unwrapped_is_exact}
 pub use Rattle.ratio64.proofs.Laws.{text_is_read_back}
 pub use Rattle.ratio64.specs.Fraction.{IsExact}
 pub use Rattle.ratio64.specs.Ratio.{AnswersFraction, den_of, num_of, text_of}

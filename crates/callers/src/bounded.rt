@@ -1,6 +1,6 @@
 //! Types of `bounded_integers`: minutes of a day, and amounts in cents.
 
-ghost use Rattle.std.specs.Prelude.{◌≡◌, ◌≢◌, ◌+ℤ◌, ◌-ℤ◌, ◌*ℤ◌, ◌<ℤ◌, IfSome, MatchOption, negsuc, neg_ℤ, pos, refl};
+ghost use Rattle.std.specs.Prelude.{◌≡◌, ◌≢◌, ◌+ℤ◌, ◌-ℤ◌, ◌*ℤ◌, ◌<ℤ◌, MatchOption, negsuc, neg_ℤ, pos, refl};
 ghost use Rattle.std.proofs.Common.{lit≤};
 ghost use Rattle.num_integer.specs.Averages.{IsAverageFloor};
 ghost use Rattle.num_integer.specs.Between.{Between};
@@ -62,9 +62,12 @@ pub fn next_departure(from: Minutes, interval: Minutes) -> Option<Minutes>
     checked::next_multiple_of(from, interval)
 }
 
-/// Returns the number of minutes after which two lines leave together again, or `None` if that is a day or more.
+/// Returns the number of minutes after which two lines leave together again, or `None` if that is a day or more. It is 0 if
+/// an interval is 0.
 pub fn minutes_to_meeting(a: Minutes, b: Minutes) -> Option<Minutes>
-    ensures { IfSome result (λ minutes. IsLeastCommonMultiple a.form.number b.form.number minutes.form.number) }
+    ensures { MatchOption result
+        (¬ (EachFits (Between (pos 0) (pos 1439)) (IsLeastCommonMultiple a.form.number b.form.number)))
+        (λ minutes. IsLeastCommonMultiple a.form.number b.form.number minutes.form.number) }
 {
     checked::lcm(a, b)
 }

@@ -50,12 +50,15 @@ pub fn ticket_number_of_slice(numbers: &[u64]) -> Option<u64>
     }
 }
 
-/// Replaces the combination by the one whose rank is 2 larger. Returns `false` if there is none.
+/// Replaces the combination by the one whose rank is 2 larger. Returns `false` if there is none, and the combination is
+/// then the last one.
 pub fn advance_two_ranks(choice: &mut [u64], n: u64) -> bool
     requires { IsChoice n choice.old }
     ensures choice { IsChoice n choice.new }
     ensures rank { IsTrue result → rank_of choice.new ≡ rank_of choice.old + 2 }
     ensures none { IsFalse result → coefficient n (length choice.old) ≤ rank_of choice.old + 2 }
+    ensures last { IsFalse result → rank_of choice.new + 1 ≡ coefficient n (length choice.old) }
+    ensures size { length choice.new ≡ length choice.old }
 {
     next_choice(choice, n) && next_choice(choice, n)
 }

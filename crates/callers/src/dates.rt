@@ -34,13 +34,10 @@ pub fn working_days(date: &Date, table: &[u8; 53]) -> Option<u8>
     Some(table[usize::from(week.week) - 1])
 }
 
-/// Returns `week`, which is from 1 to 53, or `None` if the year has no such week or the year of its Thursday does not
-/// fit.
+/// Returns `week`, which is from 1 to 53, or `None` if the year has no such week. The Thursday of the week is in `year`.
 pub fn week_of_year(year: i64, week: u8) -> Option<u8>
-    ensures { MatchOption result
-        ((day y : ℤ) → IsDayOfIsoWeek day year week Weekday.Thursday → HasDay y day
-        → ¬ (FitsSigned w64 y))
-        (λ found. (found ≡ week) × (1 ≤ found) × (found ≤ 53)) }
+    ensures { MatchOption result (¬ (HasIsoWeek year week))
+        (λ found. HasIsoWeek year week × (found ≡ week) × (1 ≤ found) × (found ≤ 53)) }
 {
     let _thursday = Date::from_iso_week(year, week, Weekday::Thursday)?;
     Some(week)
@@ -262,7 +259,7 @@ pub fn week_of(date: &Date) -> Option<(i64, u8)>
     Some((year, week))
 }
 
-/// Returns the Monday of the week, or `None` if the year has no such week or the year of the Monday does not fit.
+/// Returns the Monday of the week, or `None` if its year does not fit.
 pub fn monday_of(week: IsoWeek) -> Option<Date>
     ensures { MatchOption result
         ((day y : ℤ) → IsDayOfIsoWeek day week.year week.week Weekday.Monday → HasDay y day
@@ -598,10 +595,12 @@ pub fn checked_nights(arrival: &Date, departure: &Date) -> Option<i64>
     arrival.days_between(departure)
 }
 
-/// Returns the whole months from the first date to the second. They are a number of months after the first date that
-/// leads to a date not later than the second. Returns `None` if they do not fit.
+/// Returns the whole months from the first date to the second, or `None` if they do not fit. That many months after the
+/// first date is a date not later than the second, and one month more leads beyond it.
 pub fn whole_months(from: &Date, to: &Date) -> Option<i64>
-    ensures { IfSome result (λ months. HasMonths from.now to.now months) }
+    ensures { MatchOption result
+        ((months : ℤ) × IsMonthsBetween from.now to.now months × ¬ (FitsSigned w64 months))
+        (λ months. IsMonthsBetween from.now to.now months) }
 {
     match from.months_between(to) {
         Some(months) => Some(months),
@@ -611,7 +610,9 @@ pub fn whole_months(from: &Date, to: &Date) -> Option<i64>
 
 /// Returns the age in whole years, or `None` if it does not fit.
 pub fn whole_years(born: &Date, today: &Date) -> Option<i64>
-    ensures { IfSome result (λ years. IsYearsBetween born.now today.now years) }
+    ensures { MatchOption result
+        ((years : ℤ) × IsYearsBetween born.now today.now years × ¬ (FitsSigned w64 years))
+        (λ years. IsYearsBetween born.now today.now years) }
 {
     born.years_between(today)
 }

@@ -51,7 +51,8 @@ pub fn meet_again(a: u64, b: u64, c: u64) -> Option<u64>
 /// Returns the largest step that both numbers are multiples of. It is at most 1439 if both are minutes of a day.
 pub fn common_step(x: u16, y: u16) -> u16
     requires { (x ≤ 1439) × (y ≤ 1439) }
-    ensures { result ≤ 1439 }
+    ensures greatest { IsGreatestCommonDivisor (pos x) (pos y) (pos result) }
+    ensures small { result ≤ 1439 }
 {
     x.gcd(&y)
 }

@@ -1,6 +1,6 @@
 //! Functions that call `ratio64`.
 
-ghost use Rattle.std.specs.Prelude.{◌≡◌, ◌≢◌, ◌↔◌, ◌⊎◌, ◌<◌, ◌≤◌, ◌<ℤ◌, ◌≤ℤ◌, ◌+ℤ◌, ◌*ℤ◌, ◌^◌, Err, FitsSigned, IfErr, IfOk, IsOk, MatchOption, Ok, neg_ℤ, pos, unsigned_abs, ℤ};
+ghost use Rattle.std.specs.Prelude.{◌≡◌, ◌≢◌, ◌↔◌, ◌⊎◌, ◌<◌, ◌≤◌, ◌<ℤ◌, ◌≤ℤ◌, ◌+ℤ◌, ◌*ℤ◌, ◌^◌, Err, FitsSigned, IfErr, IfOk, IsOk, MatchOption, Ok, neg_ℤ, pos, take, unsigned_abs, ℕ, ℤ};
 ghost use Rattle.std.specs.Int.{int_signum, w64};
 ghost use Rattle.num_integer.specs.Division.{IsCeiled, IsFloored, IsQuotient, IsRemainder, IsTruncated};
 ghost use Rattle.num_integer.specs.Divisors.{IsGreatestCommonDivisor};
@@ -11,6 +11,7 @@ ghost use Rattle.ratio64.specs.Limiting.{AreNearestParts, IsNearestWithin};
 ghost use Rattle.ratio64.specs.Ratio.{AnswersFraction, den_of, num_of};
 ghost use Rattle.ratio64.specs.Rounding.{AnswersInParts, IsRounded, IsRoundedEven};
 ghost use Rattle.ratio64.specs.declared.fraction.Ratio.{Ratio};
+ghost use Rattle.callers.specs.Sums.{sum_of};
 
 use num_integer::{div_round, div_round_even};
 use ratio64::{ParseRatioError, Ratio, RatioError};
@@ -77,9 +78,17 @@ pub fn parts_floor_and_ceil_of_minus_three_halves() -> Result<(i64, i64, i64, i6
     Ok((x.num(), x.den(), x.floor(), x.ceil())) // (-3, 2, -2, -1)
 }
 
-/// Adds three fractions. `?` passes each error on, which is never `ZeroDenominator`.
+/// Adds three fractions. `?` passes each error on, which is never `ZeroDenominator`. It is `NotFitting` if a part of the
+/// sum of the first two does not fit, or of the sum of all three.
 pub fn sum_of_three(x: &Ratio, y: &Ratio, z: &Ratio) -> Result<Ratio, RatioError>
-    ensures { result ≢ Err RatioError.ZeroDenominator }
+    ensures outside { IsOutsideI64 (num_of x.now *ℤ den_of y.now +ℤ num_of y.now *ℤ den_of x.now)
+        (den_of x.now *ℤ den_of y.now) → result ≡ Err RatioError.NotFitting }
+    ensures inside { ¬ (IsOutsideI64 (num_of x.now *ℤ den_of y.now +ℤ num_of y.now *ℤ den_of x.now)
+        (den_of x.now *ℤ den_of y.now)) → AnswersFraction
+        ((num_of x.now *ℤ den_of y.now +ℤ num_of y.now *ℤ den_of x.now) *ℤ den_of z.now
+        +ℤ num_of z.now *ℤ (den_of x.now *ℤ den_of y.now))
+        (den_of x.now *ℤ den_of y.now *ℤ den_of z.now) result }
+    ensures error { result ≢ Err RatioError.ZeroDenominator }
 {
     x.checked_add(y)?.checked_add(z)
 }
@@ -111,9 +120,14 @@ pub fn quotient_or_zero(x: &Ratio, y: &Ratio) -> Result<Ratio, RatioError>
     }
 }
 
-/// Adds the fractions one after the other. `?` passes each error on, which is never `ZeroDenominator`.
+/// Adds the fractions one after the other. `?` passes each error on, which is never `ZeroDenominator`. It is an error only if
+/// a part of the sum of the first `k` fractions does not fit, for some `k`.
 pub fn total(fractions: &[Ratio]) -> Result<Ratio, RatioError>
-    ensures { result ≢ Err RatioError.ZeroDenominator }
+    ensures sum { IfOk result (λ total. IsExact (sum_of fractions.now).0 (sum_of fractions.now).1
+        (num_of total) (den_of total)) }
+    ensures outside { IfErr result (λ _. (k : ℕ)
+        × IsOutsideI64 (sum_of (take k fractions.now)).0 (sum_of (take k fractions.now)).1) }
+    ensures error { result ≢ Err RatioError.ZeroDenominator }
 {
     let mut total = Ratio::zero();
     for fraction in fractions {

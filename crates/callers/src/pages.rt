@@ -108,7 +108,8 @@ pub fn split_with_tip(
     ensures somebody { IsOk result ↔ (0 < sum weights.now) }
     ensures error { result ≢ Err SharesError.DifferentLengths }
     ensures parts { OnOk result (AreShares cents weights.now parts.new) }
-    ensures tips { OnOk result (sum tips.new ≡ tip) }
+    ensures tips { OnOk result (AreShares tip weights.now tips.new) }
+    ensures whole { OnOk result (sum tips.new ≡ tip) }
     ensures unchanged { OnErr result ((parts.new ≡ parts.old) × (tips.new ≡ tips.old)) }
 {
     shares(cents, weights, parts)?;

@@ -187,7 +187,7 @@ pub fn solutions_or_none(a: i64, b: i64, m: i64) -> Option<(i64, i64)>
 pub fn last_time(now: i64, first: i64, period: i64) -> Option<i64>
     ensures { MatchOption result
         (pos 0 <ℤ period → ((t : ℤ) × IsPreviousCongruent now first period t × ¬ (FitsSigned w64 t)))
-        (λ last. IsPreviousCongruent now first period last) }
+        (λ last. (pos 0 <ℤ period) × IsPreviousCongruent now first period last) }
 {
     let last = checked::previous_congruent(now, first, period)?;
     Some(last)
@@ -197,7 +197,7 @@ pub fn last_time(now: i64, first: i64, period: i64) -> Option<i64>
 pub fn next_time_or_none(now: i64, first: i64, period: i64) -> Option<i64>
     ensures { MatchOption result
         (pos 0 <ℤ period → ((t : ℤ) × IsNextCongruent now first period t × ¬ (FitsSigned w64 t)))
-        (λ next. IsNextCongruent now first period next) }
+        (λ next. (pos 0 <ℤ period) × IsNextCongruent now first period next) }
 {
     checked::next_congruent(now, first, period)
 }
@@ -205,7 +205,10 @@ pub fn next_time_or_none(now: i64, first: i64, period: i64) -> Option<i64>
 /// Returns the next run of a job, which is less than a period away, or `None` if it does not fit.
 pub fn next_run_of_job(now: i64, first: i64, period: i64) -> Option<i64>
     requires { pos 0 <ℤ period }
-    ensures { IfSome result (λ next. next <ℤ (now +ℤ period)) }
+    ensures next { MatchOption result
+        ((t : ℤ) × IsNextCongruent now first period t × ¬ (FitsSigned w64 t))
+        (λ next. IsNextCongruent now first period next) }
+    ensures near { IfSome result (λ next. next <ℤ (now +ℤ period)) }
 {
     let next = next_congruent(now, first, period)?;
     Some(next)
@@ -214,7 +217,10 @@ pub fn next_run_of_job(now: i64, first: i64, period: i64) -> Option<i64>
 /// Returns the last run of a job, which is less than a period ago, or `None` if it does not fit.
 pub fn last_run(now: i64, first: i64, period: i64) -> Option<i64>
     requires { pos 0 <ℤ period }
-    ensures { IfSome result (λ last. (now -ℤ period) <ℤ last) }
+    ensures last { MatchOption result
+        ((t : ℤ) × IsPreviousCongruent now first period t × ¬ (FitsSigned w64 t))
+        (λ last. IsPreviousCongruent now first period last) }
+    ensures near { IfSome result (λ last. (now -ℤ period) <ℤ last) }
 {
     match previous_congruent(now, first, period) {
         Some(last) => Some(last),
