@@ -345,11 +345,15 @@ PYTHON = {'Fraction': '_Fraction', 'Date': '_Date'} | {f'{sign}64{name}': f'{nam
                                                        for sign in 'IU'
                                                        for name, _ in PAIRS.values()}
 NUMBER, COLUMN = 'SupportsIndex', '_Column'
+# A column for which a call may return no array of numpy, any other, and what it makes of this.
+KEPT, OTHER, MADE = '_Kept', 'SupportsColumn', 'NDArray[Any]'
+EITHER = f'{COLUMN} | {NUMBER}'
 # The types of parameters that may be other numbers.
 NUMBERS = {WEEKDAY: f'Weekday | {NUMBER}', 'days': f'_Days | {NUMBER}'}
 # The parameters of a call with columns that have names alone.
 NAMED_ERRORS = 'errors: _Errors = ...'
-NAMED = f'out: Any = ..., where: Any = ..., {NAMED_ERRORS}'
+WHERE = 'where: Any = ..., '
+NAMED = f'out: Any = ..., {WHERE}{NAMED_ERRORS}'
 
 
 def scalar_result(call: Call) -> str:
@@ -371,12 +375,11 @@ def scalar_type(parameter: Field) -> str:
 def column_types(parameter: Field, chosen: bool) -> str:
     """The type of a parameter of which one number is a column, or may be one."""
     leaves = len(EXPORTS().leaves(parameter.kind))
-    each = f'{COLUMN} | {NUMBER}'
     if leaves == 1:
         return COLUMN if chosen else f'{COLUMN} | {scalar_type(parameter)}'
     if not chosen:
-        return f'{COLUMN} | {PYTHON[parameter.kind]} | tuple[{", ".join([each] * leaves)}]'
-    shapes = ([NUMBER] * first + [COLUMN] + [each] * (leaves - first - 1)
+        return f'{COLUMN} | {PYTHON[parameter.kind]} | tuple[{", ".join([EITHER] * leaves)}]'
+    shapes = ([NUMBER] * first + [COLUMN] + [EITHER] * (leaves - first - 1)
               for first in range(leaves))
     return ' | '.join([COLUMN, *(f'tuple[{", ".join(shape)}]' for shape in shapes)])
 
@@ -393,37 +396,89 @@ def listed_type(parameter: Field) -> str:
 
 
 def overloads(name: str, taken: list[tuple[str, str]]) -> str:
-    """A call that is overloaded: what it takes, and returns."""
+    """A call that is overloaded: what it takes, and returns. If it makes arrays of numpy, a number
+    is none of these: for mypy a call has any type if it fits several overloads with an array of an
+    unknown type, and an array has an `__index__`."""
+    if any(MADE in result for _, result in taken):
+        taken = [(given.replace(NUMBER, '_Number'), result) for given, result in taken]
     return ''.join(f'@overload\ndef {name}({given}) -> {result}: ...\n' for given, result in taken)
+
+
+def of_arrays(given: list[str], result: str) -> list[tuple[str, str]]:
+    """The overloads with arrays of numpy: those that make others, and those with errors that do not
+    raise or a `where`, which make arrays with a mask, or statuses."""
+    found = []
+    for taken in given:
+        raising = taken.replace(WHERE, '').replace('_Errors', '_Raise').replace(COLUMN, OTHER)
+        found.append((raising, result))
+    others = {NAMED_ERRORS: 'errors: _Marks', WHERE: 'where: Any, '}
+    return found + [(taken.replace(old, new), 'Any') for old, new in others.items()
+                    for taken in given if old in taken]
+
+
+def made(call: Call) -> str:
+    """What a call of arrays of numpy returns, if that is an array or a tuple of them."""
+    result = scalar_result(call)
+    is_made = result in {'int', 'bool'} or result.startswith('tuple')
+    return re.sub(r'\b(int|bool)\b', MADE, result) if is_made else 'Any'
+
+
+def kept_types(parameter: Field) -> str:
+    """The type of a parameter of which one number is a column that is no array of numpy."""
+    leaves = len(EXPORTS().leaves(parameter.kind))
+    shapes = ([EITHER] * first + [KEPT] + [EITHER] * (leaves - first - 1)
+              for first in range(leaves) if leaves > 1)
+    return ' | '.join([KEPT, *(f'tuple[{", ".join(shape)}]' for shape in shapes)])
+
+
+def stub_of_shares(name: str, amount: str, weights: str) -> str:
+    """A call of an amount and weights. A `Series` of weights is no list of them."""
+    listed, named = f'Iterable[{NUMBER}]', f'*, {NAMED_ERRORS}'
+    return overloads(name, [
+        (f'{amount}: {EITHER}, {weights}: {KEPT}, {named}', 'Any'),
+        (f'{amount}: {KEPT}, {weights}: {COLUMN} | {listed}, {named}', 'Any'),
+        *of_arrays([f'{amount}: {EITHER}, {weights}: {COLUMN}, {named}',
+                    f'{amount}: {COLUMN}, {weights}: {listed}, {named}'], MADE),
+        (f'{amount}: {NUMBER}, {weights}: {listed}', 'tuple[int, ...]')])
+
+
+def stub_of_numbers(names: list[str], end: str, call: Call) -> list[tuple[str, str]]:
+    """The overloads of a call of numbers with columns. `end` is what comes after these."""
+    found, kept = [], []
+    for first in range(len(names)):
+        kinds = [scalar_type(parameter) if k < first else column_types(parameter, k == first)
+                 for k, parameter in enumerate(call.parameters)]
+        found.append(typed(names, kinds) + end)
+        kinds = [kept_types(parameter) if k == first else column_types(parameter, False)
+                 for k, parameter in enumerate(call.parameters)]
+        kept.append((typed(names, kinds) + end, 'Any'))
+    result = made(call)
+    return ([(taken, result) for taken in found] if result == 'Any'
+            else [*kept, *of_arrays(found, result)])
+
+
+def typed(names: list[str], kinds: list[str]) -> str:
+    return ', '.join(f'{name}: {kind}' for name, kind in zip(names, kinds))
 
 
 def stub(name: str, forms: list[Call]) -> str:
     call = forms[0]
     names = parameter_names(call)
     if len(call.taken) < len(call.parameters):
-        amount, weights = names
-        return overloads(name, [
-            (f'{amount}: {COLUMN} | {NUMBER}, {weights}: {COLUMN}, *, {NAMED_ERRORS}', 'Any'),
-            (f'{amount}: {COLUMN}, {weights}: Iterable[{NUMBER}], *, {NAMED_ERRORS}', 'Any'),
-            (f'{amount}: {NUMBER}, {weights}: Iterable[{NUMBER}]', 'tuple[int, ...]')])
+        return stub_of_shares(name, *names)
     if call.has_slice:
         taken = ', '.join(f'{given}: {listed_type(parameter)}'
                           for given, parameter in zip(names, call.parameters))
         return (f'def {name}({taken}, /) -> '
                 f'{"tuple[int, ...]" if call.writes else scalar_result(call)}: ...\n')
     if name in OF_MANY:
-        return filled('of_many.pyi', name=name, array=COLUMN, number=NUMBER, options=NAMED)
+        return overloads(name, [*stub_of_numbers(['x', 'y'], f', /, *, {NAMED}', call),
+                                (f'*numbers: {NUMBER}', 'int')])
     if number_names(call):
         return stub_of_pairs(name, call)
-    found = []
-    for first in range(len(names)):
-        kinds = [scalar_type(parameter) if k < first else column_types(parameter, k == first)
-                 for k, parameter in enumerate(call.parameters)]
-        given = ', '.join(f'{parameter}: {kind}' for parameter, kind in zip(names, kinds))
-        found.append((f'{given}, *, {NAMED}', 'Any'))
-    scalars = ', '.join(f'{name}: {scalar_type(parameter)}'
-                        for name, parameter in zip(names, call.parameters))
-    return overloads(name, [*found, (scalars, scalar_result(call))])
+    scalars = typed(names, [scalar_type(parameter) for parameter in call.parameters])
+    return overloads(name, [*stub_of_numbers(names, f', *, {NAMED}', call),
+                            (scalars, scalar_result(call))])
 
 
 def stub_of_pairs(name: str, call: Call) -> str:

@@ -7,6 +7,8 @@ from decimal import Decimal
 from fractions import Fraction
 from typing import Any, Literal, Protocol, SupportsIndex, TypeVar, overload
 
+from numpy.typing import NDArray
+
 from . import (
     Congruence, Date, ExtendedGcd, IsoWeek, Schedule, Solutions, SupportsColumn, SupportsColumns,
     SupportsDate, SupportsFraction, Weekday,
@@ -22,12 +24,30 @@ class _Day(Protocol):  # a `datetime64` of numpy
     @property
     def dtype(self) -> Any: ...
     def item(self) -> Any: ...
+    def __hash__(self) -> int: ...
     def __sub__(self: _Same, other: _Same, /) -> _Days: ...
 
+class _Number(Protocol):  # an integer: an array has an `__index__` too, but no hash
+    def __index__(self) -> int: ...
+    def __hash__(self) -> int: ...
+
+class _Hashed(SupportsColumn, Protocol):  # one that may be any, but not an array of numpy
+    def __hash__(self) -> int: ...
+
+class _Series(SupportsColumn, Protocol):  # a `Series` of pandas
+    def to_numpy(self) -> Any: ...
+
+class _Masked(SupportsColumn, Protocol):  # an array of numpy with a mask
+    @property
+    def mask(self) -> Any: ...
+
+_Kept = _Hashed | _Series | _Masked | SupportsColumns | array[int] | memoryview
 _Column = SupportsColumn | SupportsColumns | array[int] | memoryview
-_Fraction = SupportsFraction | Decimal | tuple[SupportsIndex, SupportsIndex]
-_Date = SupportsDate | _Day | tuple[SupportsIndex, SupportsIndex, SupportsIndex]
+_Fraction = SupportsFraction | Decimal | tuple[_Number, _Number]
+_Date = SupportsDate | _Day | tuple[_Number, _Number, _Number]
 _Errors = Literal['raise', 'mask', 'status']
+_Raise = Literal['raise']
+_Marks = Literal['mask', 'status']
 _Made = TypeVar('_Made', bound='_BaseDate')
 _Same = TypeVar('_Same')
 
