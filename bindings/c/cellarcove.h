@@ -1084,6 +1084,12 @@ CELLARCOVE_CONST cellarcove_u64_answer cellarcove_day_of_year(cellarcove_date da
  *  reduced fraction does not fit. */
 CELLARCOVE_PURE cellarcove_fraction_answer cellarcove_fraction_from_text(const char *text, size_t text_len);
 
+/** The fraction that a decimal text is, exactly. That of -0.05 is -1/20. text points to text_len bytes, which do
+ *  not change during the call; it may be null if text_len is 0. CELLARCOVE_OUTSIDE if the text is not an optional
+ *  -, then digits, and perhaps a point with digits after it, or if a digit after the 18th place is not 0.
+ *  CELLARCOVE_NOT_FITTING if a part of the reduced fraction does not fit. */
+CELLARCOVE_PURE cellarcove_fraction_answer cellarcove_fraction_from_decimal(const char *text, size_t text_len);
+
 /* ---- Dates that are read from a text. The text is its bytes, with no zero at the end ---- */
 
 /** The date of a text of ISO 8601: a year of at least four digits, a month and a day of two digits, with hyphens

@@ -1912,6 +1912,14 @@ template <class N0, class N1, class N2, class N3> [[nodiscard]] auto count_times
     return r.status == CELLARCOVE_ANSWER ? result<fraction>(detail::returned::of(r.value)) : result<fraction>(static_cast<status>(r.status));
 }
 
+/// The fraction that a decimal text is, exactly. That of -0.05 is -1/20. status::outside if the text is not an
+/// optional -, then digits, and perhaps a point with digits after it, or if a digit after the 18th place is not 0.
+/// status::not_fitting if a part of the reduced fraction does not fit.
+[[nodiscard]] inline result<fraction> fraction_from_decimal(std::string_view text) {
+    auto r = cellarcove_fraction_from_decimal(text.data(), text.size());
+    return r.status == CELLARCOVE_ANSWER ? result<fraction>(detail::returned::of(r.value)) : result<fraction>(static_cast<status>(r.status));
+}
+
 // ---- Dates that are read from a text. The text is its bytes, with no zero at the end
 
 /// The date of a text of ISO 8601: a year of at least four digits, a month and a day of two digits, with hyphens

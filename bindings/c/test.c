@@ -640,6 +640,11 @@ static void texts(void) {
     CHECK(cellarcove_fraction_from_text(half, 2).status == CELLARCOVE_OUTSIDE && cellarcove_fraction_from_text(NULL, 0).status == CELLARCOVE_OUTSIDE);
     CHECK(cellarcove_fraction_from_text("1/0", 3).status == CELLARCOVE_ZERO_DENOMINATOR);
     CHECK(cellarcove_fraction_from_text("9223372036854775808", 19).status == CELLARCOVE_NOT_FITTING);
+    const char *price = "-0.050";
+    CHECK(cellarcove_fraction_from_decimal(price, 6).value.num == -1 && cellarcove_fraction_from_decimal(price, 6).value.den == 20);
+    CHECK(cellarcove_fraction_from_decimal(price + 1, 1).status == CELLARCOVE_ANSWER && cellarcove_fraction_from_decimal(price, 3).status == CELLARCOVE_OUTSIDE);
+    CHECK(cellarcove_fraction_from_decimal("1,5", 3).status == CELLARCOVE_OUTSIDE && cellarcove_fraction_from_decimal(NULL, 0).status == CELLARCOVE_OUTSIDE);
+    CHECK(cellarcove_fraction_from_decimal("9223372036854775807.5", 21).status == CELLARCOVE_NOT_FITTING);
     const char *day = "+12000-04-02";
     CHECK(is_date(cellarcove_date_from_text(day, 12).date, 12000, 4, 2) && is_date(cellarcove_date_from_text(day + 2, 10).date, 2000, 4, 2));
     CHECK(cellarcove_date_from_text(day + 1, 11).status == CELLARCOVE_NO_DATE && cellarcove_date_from_text(NULL, 0).status == CELLARCOVE_NO_DATE);

@@ -79,6 +79,7 @@ static void numbers() {
     CHECK(*cellarcove::fraction_to_decimal(*fraction::make(-1, 20), 2) == cellarcove::decimal{true, 0, 5, 2});
     CHECK(cellarcove::fraction_to_decimal(1, 19) == status::outside && cellarcove::fraction_to_decimal(1, -1) == status::outside);
     CHECK(*cellarcove::fraction_from_text("6/-4") == *fraction::make(-3, 2) && cellarcove::fraction_from_text("1/0") == status::zero_denominator);
+    CHECK(*cellarcove::fraction_from_decimal("12.34") == *fraction::make(617, 50) && cellarcove::fraction_from_decimal("1e3") == status::outside);
     static_assert(std::is_same_v<decltype(cellarcove::weekday(0)), int> && std::is_same_v<decltype(date::make(1, 1, 1)->month()), int>);
     static_assert(!std::is_convertible_v<std::int64_t, cellarcove::result<std::int64_t>>);
     std::ostringstream words;

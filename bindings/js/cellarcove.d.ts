@@ -76,10 +76,6 @@ export class Fraction {
   /** It throws: `fractionCmp` compares, and `fractionAdd` adds. */
   valueOf(): never;
 }
-/** The fraction of a decimal text, exactly: that of `19.99` is 1999/100. `OUTSIDE` if it is another text, such as one with a group separator,
- *  an exponent or a currency. `NOT_FITTING` if a part of the fraction does not fit. */
-export function fractionFromDecimal(text: string): Fraction;
-export function tryFractionFromDecimal(text: string): Attempt<Fraction>;
 
 /** A decimal number, which is frozen. `String` prints it, with the zeros after the point: that of 1/20 with two places is `0.05`, and its `part` is 5. */
 export class Decimal {
@@ -792,6 +788,12 @@ export function tryDayOfYear(date: Dated): Attempt<number>;
  *  `NOT_FITTING` if a part of the reduced fraction does not fit. */
 export function fractionFromText(text: string): Fraction;
 export function tryFractionFromText(text: string): Attempt<Fraction>;
+
+/** The fraction that a decimal text is, exactly. That of `-0.05` is -1/20. `OUTSIDE` if the text is not an optional `-`, then digits, and
+ *  perhaps a point with digits after it, or if a digit after the 18th place is not 0. `NOT_FITTING` if a part of the reduced fraction
+ *  does not fit. */
+export function fractionFromDecimal(text: string): Fraction;
+export function tryFractionFromDecimal(text: string): Attempt<Fraction>;
 
 /** The date of a text of ISO 8601: a year of at least four digits, a month and a day of two digits, with hyphens between them. A year
  *  below 0 has a minus, and one above 9999 has a plus. That of `2026-11-28` is 2026-11-28, and that of `+12000-04-02` is 12000-04-02.

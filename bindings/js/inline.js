@@ -3,7 +3,7 @@
 // SPDX-License-Identifier: MIT OR Apache-2.0
 import {attempt, call} from './bytes.js';
 import * as rows from './table.js';
-export {BUILT_BY, Decimal, Fraction, PlainDate, Refused, Status, VERSION, fractionFromDecimal, ready, tryFractionFromDecimal} from './bytes.js';
+export {BUILT_BY, Decimal, Fraction, PlainDate, Refused, Status, VERSION, ready} from './bytes.js';
 
 export const checkedSum = /*#__PURE__*/ call('checkedSum', rows.checkedSum), tryCheckedSum = /*#__PURE__*/ attempt('tryCheckedSum', rows.checkedSum);
 export const checkedDifference = /*#__PURE__*/ call('checkedDifference', rows.checkedDifference), tryCheckedDifference = /*#__PURE__*/ attempt('tryCheckedDifference', rows.checkedDifference);
@@ -119,6 +119,7 @@ export const weeksInYear = /*#__PURE__*/ call('weeksInYear', rows.weeksInYear), 
 export const daysInMonth = /*#__PURE__*/ call('daysInMonth', rows.daysInMonth), tryDaysInMonth = /*#__PURE__*/ attempt('tryDaysInMonth', rows.daysInMonth);
 export const dayOfYear = /*#__PURE__*/ call('dayOfYear', rows.dayOfYear), tryDayOfYear = /*#__PURE__*/ attempt('tryDayOfYear', rows.dayOfYear);
 export const fractionFromText = /*#__PURE__*/ call('fractionFromText', rows.fractionFromText), tryFractionFromText = /*#__PURE__*/ attempt('tryFractionFromText', rows.fractionFromText);
+export const fractionFromDecimal = /*#__PURE__*/ call('fractionFromDecimal', rows.fractionFromDecimal), tryFractionFromDecimal = /*#__PURE__*/ attempt('tryFractionFromDecimal', rows.fractionFromDecimal);
 export const dateFromText = /*#__PURE__*/ call('dateFromText', rows.dateFromText), tryDateFromText = /*#__PURE__*/ attempt('tryDateFromText', rows.dateFromText);
 export const productDivRound = /*#__PURE__*/ call('productDivRound', rows.productDivRound), tryProductDivRound = /*#__PURE__*/ attempt('tryProductDivRound', rows.productDivRound);
 export const productDivRoundEven = /*#__PURE__*/ call('productDivRoundEven', rows.productDivRoundEven), tryProductDivRoundEven = /*#__PURE__*/ attempt('tryProductDivRoundEven', rows.productDivRoundEven);

@@ -191,63 +191,27 @@ function whole(kind, value, seen) {
 
 /** The parts of a text. */
 function ofText(kind, text, seen) {
-  const isDecimal = kind === 'Fraction' && text.includes('.');
-  const [status, found, words] = isDecimal ? ofDecimal(text) : parsed(kind === 'Date' ? rows.dateFromText : rows.fractionFromText, text);
-  if (status === 0) return found;
-  refuseText(seen, status, text, words, ' or -0.75');
+  const plan = planOf(kind === 'Date' ? rows.dateFromText : rowOfFraction(text)), status = run(plan.forms[0], [ENCODER.encode(text)]);
+  if (status === 0) return value;
+  refuseText(seen, plan, status, text, ' or -0.75');
   return NO_PARTS[kind];
 }
 
-/** Refuses a text, for these words or those of the status. */
-function refuseText(seen, status, text, words, also = '') {
-  const what = {[Status.NO_DATE]: 'date such as 2024-02-29', [Status.OUTSIDE]: `fraction such as -3/4${also}`}[status];
-  refuse(seen, status, `${named(seen)} is ${shown(text)}${words ?? (what ? `, which is no ${what}` : `: ${STATUSES[status][1]}`)}`);
-}
+/** The row of the call that reads the text of a fraction. */
+const rowOfFraction = (text) => text.includes('.') ? rows.fractionFromDecimal : rows.fractionFromText;
 
-/** The status and the result of a call of a text. */
-function parsed(row, text) {
-  const [form] = planOf(row).forms, status = run(form, [ENCODER.encode(text)]);
-  return [status, value];
-}
-
-/** The status of a decimal text, its fraction, and what is wrong with it. */
-function ofDecimal(text) {
-  const found = /^(-?)(?=\d)0*([1-9]\d*|)(?:\.(?=\d)(\d*[1-9]|)0*)?$/.exec(text); // in linear time
-  if (!found) return [Status.OUTSIDE, undefined, notDecimal(text)];
-  const [, sign, integral, places = ''] = found;
-  if (integral.length > 19 || places.length > 62) return [Status.NOT_FITTING]; // a power of 2 or 5 divides the denominator
-  let num = BigInt(`${sign}0${integral}${places}`), den = 10n ** BigInt(places.length);
-  for (const prime of [2n, 5n]) while (den % prime === 0n && num % prime === 0n) [num, den] = [num / prime, den / prime];
-  return isSigned(num) && isSigned(den) ? [run(planOf(rows.fractionNew).forms[0], [num, den]), value] : [Status.NOT_FITTING];
+/** Refuses a text that a call has read. */
+function refuseText(seen, plan, status, text, also = '') {
+  const what = {[Status.NO_DATE]: 'date such as 2024-02-29', [Status.OUTSIDE]: plan === planOf(rows.fractionFromDecimal) ? notDecimal(text) : `fraction such as -3/4${also}`}[status];
+  refuse(seen, status, `${named(seen)} is ${shown(text)}${what ? `, which is no ${what}` : `: ${STATUSES[status][1]}`}`);
 }
 
 /** Why a text is no decimal number. */
 function notDecimal(text) {
-  const reasons = [[/^-?\d+(\.\d*)?e[+-]?\d+$/i, 'an exponent'], [/\d[,\s'_’]+\d/, 'a group separator or a decimal comma'], [/\p{Sc}|\p{L}/u, 'a currency or another word']];
+  const reasons = [[/^-?\d+(\.\d*)?e[+-]?\d+$/i, 'an exponent'], [/\d[,\s'_’]+\d/, 'a group separator or a decimal comma'], [/\p{Sc}|\p{L}/u, 'a currency or another word'],
+    [/^-?\d+\.\d{19,}$/, 'a digit that is not 0 after the 18th place']];
   const reason = reasons.find(([form]) => form.test(text))?.[1];
-  return `, which is no decimal number such as -19.99${reason ? `: it has ${reason}` : ''}`;
-}
-
-/** The status of `fractionFromDecimal`, whose result is in `value`. */
-function statusOfDecimal(given, seen) {
-  if (given.length !== 1) throw new TypeError(`${seen.call} takes text`);
-  seen.parameter = 'text';
-  if (typeof given[0] !== 'string') throw wrong(seen, given[0], 'which is no text');
-  const [status, found, words] = ofDecimal(given[0]);
-  if (status !== 0) refuseText(seen, status, given[0], words);
-  value = found;
-  return status;
-}
-
-export function fractionFromDecimal(...given) {
-  const seen = reading('fractionFromDecimal'), status = statusOfDecimal(given, seen);
-  if (status !== 0) throw new Refused(status, seen.call, seen.words);
-  return value;
-}
-
-export function tryFractionFromDecimal(...given) {
-  const status = statusOfDecimal(given, reading('tryFractionFromDecimal'));
-  return {status, value: status === 0 ? value : undefined};
+  return `decimal number such as -19.99${reason ? `: it has ${reason}` : ''}`;
 }
 
 const CLASSES = {
@@ -565,7 +529,7 @@ function storesText(row, text, at) {
 
 /** Whether the parts of a fraction are now at a place. */
 function storesFraction(x, at) {
-  if (typeof x === 'string') return storesText(rows.fractionFromText, x, at);
+  if (typeof x === 'string') return storesText(rowOfFraction(x), x, at);
   if (typeof x !== 'object' || x === null) return stores(x, at) && stores(1, at + 1);
   if (Array.isArray(x)) return x.length === 2 && stores(x[0], at) && stores(x[1], at + 1);
   const {num, den} = x;
@@ -682,7 +646,7 @@ const hasShort = (plan, given) => given.length === plan.count && plan.way(plan, 
 function resultOf(name, plan, given, alias) {
   const seen = {...reading(name), alias}, status = statusOf(plan, given, seen);
   if (status === 0) return value;
-  if (plan.kinds[0] === BYTES) refuseText(seen, status, given[0]);
+  if (plan.kinds[0] === BYTES) refuseText(seen, plan, status, given[0]);
   throw new Refused(status, name, seen.words);
 }
 

@@ -163,6 +163,7 @@ export const weeksInYear = [['weeks_in_year', 'year:i64', 'u8']];
 export const daysInMonth = [['days_in_month', 'year:i64 month:u8', 'U64Answer', 'u8']];
 export const dayOfYear = [['day_of_year', 'date:Date', 'U64Answer', 'u16']];
 export const fractionFromText = [['fraction_from_text', 'text:&[u8]', 'FractionAnswer']];
+export const fractionFromDecimal = [['fraction_from_decimal', 'text:&[u8]', 'FractionAnswer']];
 export const dateFromText = [['date_from_text', 'text:&[u8]', 'DateAnswer']];
 export const productDivRound = /*#__PURE__*/ both('product_div_round_i64', 'a:i64 b:i64 d:i64', 'I64Answer');
 export const productDivRoundEven = /*#__PURE__*/ both('product_div_round_even_i64', 'a:i64 b:i64 d:i64', 'I64Answer');
@@ -180,5 +181,6 @@ export const CALLS = {
   fractionRoundTimes, fractionFloorTo, fractionCeilTo, fractionRoundTo, fractionRoundEvenTimes, fractionRoundEvenTo, fractionToDecimal,
   dateFromDay, dayFromDate, plusDays, minusDays, daysBetween, plusMonths, monthsBetween, yearsBetween, dateFromYearDay, isoWeek,
   dateFromIsoWeek, easter, weekday, weekdayOfDate, firstWeekdayOnOrAfter, lastWeekdayOnOrBefore, nthWeekdayOfMonth, lastWeekdayOfMonth,
-  isLeapYear, daysInYear, weeksInYear, daysInMonth, dayOfYear, fractionFromText, dateFromText, productDivRound, productDivRoundEven, sumOf,
+  isLeapYear, daysInYear, weeksInYear, daysInMonth, dayOfYear, fractionFromText, fractionFromDecimal, dateFromText, productDivRound,
+  productDivRoundEven, sumOf,
 };

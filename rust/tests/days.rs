@@ -1,7 +1,8 @@
 //! The iterator over dates against a list of dates, from both ends and at the ends of `i64`, and the operators of dates.
 
 use cellarcove::calendar::{
-    days_between, months_between, next_last_weekday, years_between, Date, Days, IsoWeek, Weekday,
+    days_between, days_in_month, months_between, next_last_weekday, years_between, Date, Days,
+    IsoWeek, Weekday,
 };
 use std::collections::HashSet;
 
@@ -251,6 +252,9 @@ fn constants() {
     const LEAP_DAY: Option<Date> = Date::new(2024, 2, 29);
     const LAST: Option<Date> = Date::from_year_day(2023, 365);
     const WEEK: Option<IsoWeek> = IsoWeek::new(2020, 53);
+    const DAYS: u8 = days_in_month(1900, 2);
+    const WEEKDAY: Weekday = EPOCH.weekday();
+    const SUNDAY: Option<Weekday> = Weekday::from_iso_number(7);
     static NONE: [Option<Date>; 3] = [
         Date::new(2023, 2, 29),
         Date::new(2024, 13, 1),
@@ -260,4 +264,5 @@ fn constants() {
     assert_eq!(LEAP_DAY.map(|date| date.to_string()), Some("2024-02-29".into()));
     assert_eq!(WEEK.map(|week| week.to_string()), Some("2020-W53".into()));
     assert_eq!(NONE, [None; 3]);
+    assert_eq!((DAYS, WEEKDAY, SUNDAY), (28, Weekday::Thursday, Some(Weekday::Sunday)));
 }

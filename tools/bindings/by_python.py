@@ -235,6 +235,12 @@ def fraction_from_text(text: str) -> Fraction:
     return Fraction(*numbers)
 
 
+def fraction_from_decimal(text: str) -> Fraction:
+    found = re.fullmatch('-?[0-9]+(?:[.][0-9]+)?', text)
+    let(found is not None and not text.partition('.')[2][MOST_PLACES:].strip('0'))
+    return Fraction(text)
+
+
 def away_from_zero(x: Fraction) -> int:
     """The nearest integer; of two the one farther from 0."""
     size = math.floor(abs(x) + Fraction(1, 2))

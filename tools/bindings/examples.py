@@ -19,7 +19,7 @@ TOKEN = r'`[^`]+`|-?\d+\^\d+(?: [-+] \d+)?|-?\d+(?:-\d\d-\d\d|/\d+|\.\d+)?'
 JOINED = r'(?:,? and(?: those in steps of)?|,| of)'
 RESULT = rf'(?:week )?(?:{TOKEN})(?:{JOINED} (?:{TOKEN}))*'
 OPENING = r'(?:[Tt]h(?:at|ose) of|\b[Ff]or)'
-CLAUSE = re.compile(rf'{OPENING} ([^.;]*?) (?:(?:it )?is|(?:they )?are) ({RESULT})')
+CLAUSE = re.compile(rf'{OPENING} ((?:`[^`]*`|[^.;`])*?) (?:(?:it )?is|(?:they )?are) ({RESULT})')
 SENTENCE = re.compile(r'(?:Th(?:at|ose) of|For) .*(?:\d|`).*')
 ENDS = re.compile('(?<=[.]) ')
 # The words between the arguments, and what is left of a sentence without its examples.

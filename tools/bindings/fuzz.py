@@ -233,14 +233,15 @@ def listed(call: Call) -> list[Any]:
 
 
 def text() -> str:
-    """A text of a date or of a fraction, of which a character may be another."""
+    """A text of a date, a fraction or a decimal, of which a character may be another."""
     high = 10 ** random.choice((1, 4, 5, 18, 19, 20, 38, 40))
     year, day = random.randrange(-high, high), random.randrange(1, 33)
     found = random.choice((f'{year:04}-{random.randrange(14):02}-{day:02}',
                            f'{year:+05}-12-{day:02}', f'{year}/{random.randrange(-9, 9)}',
-                           str(year), f'{year * day}/{day}'))
+                           str(year), f'{year * day}/{day}', f'{year}.{day:0{day}}',
+                           f'{year}.{day}{"0" * (day // 2)}'))
     place = random.randrange(len(found))
-    return (found[:place] + random.choice('0129+-/x \xe9') + found[place + random.randrange(2):]
+    return (found[:place] + random.choice('0129+-/.x \xe9') + found[place + random.randrange(2):]
             if random.random() < 0.3 else found)
 
 

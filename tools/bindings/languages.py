@@ -15,6 +15,7 @@ RATIO = 'ratio64::Ratio::'
 CRATES = ('applied', 'bounded_integers', 'calendar', 'modular', 'ratio64')
 TRAITS = ('Integer::', 'Average::', 'Roots::')  # whose methods are free functions too
 BY_TRAIT = {'fraction_cmp': '`Ord` of `Ratio`', 'fraction_from_text': '`FromStr` of `Ratio`',
+            'fraction_from_decimal': '`FromStr` of `Decimal`',
             'date_from_text': '`FromStr` of `Date`'}
 NAMED = {'date_from_text': ('date_from_text', 'Date.fromisoformat, date_from_text',
                             'PlainDate.from`, `dateFromText')}  # in C++, Python, JavaScript

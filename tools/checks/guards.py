@@ -25,7 +25,7 @@ from pathlib import Path
 from tools import DEBIAN, ROOT, write
 from tools.checks.neighbours import neighbours
 from tools.erase.library import Made, Module
-from tools.erase.source import Unknown
+from tools.erase.source import Item, Unknown
 
 RUST = ROOT / 'rust'
 TAKEN_OUT = Path(__file__).resolve().parent / 'taken_out.rs'
@@ -92,12 +92,15 @@ class Guard:
     def text(self, places: tuple[int, int]) -> str:
         return ' '.join(self.module.source.text(*places).split())
 
+    def function(self) -> Item:
+        """The function in which it stands."""
+        return next(item for top in self.module.items for item in top.all()
+                    if item.kind == 'fn' and item.open and item.open < self.first < item.last)
+
     def types(self) -> dict[str, str]:
-        """The parameters of the function in which it stands, with their types."""
+        """The parameters of that function, with their types."""
         source = self.module.source
-        functions = (item for top in self.module.items for item in top.all()
-                     if item.kind == 'fn' and item.open and item.open < self.first < item.last)
-        opening, closing = source.parameters(next(functions))
+        opening, closing = source.parameters(self.function())
         found = re.findall(r'(\w+): ((?:[^,(<]|\([^)]*\)|<[^>]*>)+)',
                            source.text(opening + 1, closing - 1) if closing > opening + 1 else '')
         return dict(found)
@@ -108,8 +111,10 @@ class Guard:
 
     def take(self) -> None:
         """Lets the call be that of taken_out.rs, with a choice in the place of each argument that
-        has neighbours."""
-        source = self.module.source
+        has neighbours. That reads a variable, so the function is no `const fn`."""
+        source, word = self.module.source, self.function().word
+        if source.at(word - 1) == 'const':
+            source.drop(word - 1, word - 1)
         arguments, other = self.arguments(), list(enumerate(self.neighbours, 1))
         for place, (first, last) in enumerate(arguments):
             arms = ''.join(f'{k} => {text}, ' for k, (of, text) in other if of == place)

@@ -30,7 +30,8 @@ SPARE = 2   # so many are planted for each that is asked for, since rustc refuse
 # The seconds of a processor and the kilobytes of a test.
 RUN = 'ulimit -t 60 -v 4000000; exec "$0" --quiet'
 # No function of the copy is `const`, since it asks for a variable. So a test has no such constant.
-CONSTANT = re.compile(r'^( +)(?:const|static)(?= \w+: .*\b(?:Date|IsoWeek|Ratio)\b)', re.M)
+CONSTANT = re.compile(
+    r'^( +)(?:const|static)(?= \w+: .*\b(?:Date|IsoWeek|Ratio|Weekday|days_in_month)\b)', re.M)
 
 SIGN = re.compile(r'(?<=\s)(?:<<|>>|&&|\|\||[-+<>=!]=|[-+*/%<>])(?=\s)|\b(?:true|false|min|max)\b')
 OTHERS = {

@@ -7,7 +7,8 @@ import {fileURLToPath, pathToFileURL} from 'node:url';
 import {inspect} from 'node:util';
 import {argument, CALLS, camel, cellarcove, folder, judge, parametersOf, rows} from './rows.js';
 
-const {BUILT_BY, Decimal, Fraction, fractionFromDecimal, PlainDate, ready, Refused, Status, tryFractionFromDecimal, VERSION, ...calls} = cellarcove;
+const {BUILT_BY, Decimal, Fraction, PlainDate, ready, Refused, Status, VERSION, ...calls} = cellarcove;
+const {fractionFromDecimal, tryFractionFromDecimal} = calls;
 const {checkedDifference, divModFloor, easter, fractionAdd, gcd, gcdOf, inverseModulo, isLeapYear, isoWeek, lcm, nthRoot, plusMonths, shares, tryLcm} = calls;
 const {choiceOfRank, daysBetween, daysInMonth, fractionCmp, fractionToDecimal, isPerfectPower, powerModulo} = calls;
 const {sharesByLargestRemainder, tryFractionAdd, tryFractionToDecimal, tryPlusMonths, weekday} = calls;
@@ -16,7 +17,7 @@ const ofTry = (name) => `try${name[0].toUpperCase()}${name.slice(1)}`;
 const LARGE = [['gcdOf', [[2n ** 60n]]], ['multinomial', [[30, 34]]], ['rank', [Array.from({length: 32}, (_, k) => k + 32), 64]], ['choiceOfRank', [2n ** 60n, 2n ** 61n, 1]],
   ...['daysBetween', 'monthsBetween', 'yearsBetween'].map((name) => [name, [[-(2n ** 53n), 1, 1], [2n ** 53n, 1, 1]]]),
   ['factorial', [20]], ['fractionToDecimal', [[1, 3], 18]], ['dayFromDate', [[2n ** 53n, 1, 1]]], ['fractionFromText', [`1/${2n ** 63n - 1n}`]],
-  ['dateFromText', ['+9007199254740993-01-01']]]; // calls with a large result
+  ['fractionFromText', [`${2n ** 63n - 1n}/2`]], ['fractionFromDecimal', ['9223372036854775807.0']], ['fractionFromDecimal', ['0.000000000000000001']], ['dateFromText', ['+9007199254740993-01-01']]]; // calls with a large result
 for await (const row of rows(1, 8)) found.push(row);
 
 test('each export returns what Python computes, of numbers and of arrays', () => {
@@ -243,23 +244,26 @@ test('a row of a table is an object like any other', () => {
 test('a decimal text is read exactly', () => {
   for (const [text, fraction] of [['19.99', '1999/100'], ['-0.05', '-1/20'], ['12', '12'], ['0', '0'], ['-0.0', '0'], ['1.5000', '3/2'], [`1.${'0'.repeat(500)}`, '1'],
     ['007.250', '29/4'], ['9223372036854775807', '9223372036854775807'], ['-9223372036854775808.000', '-9223372036854775808'], ['0.000000000000000001', '1/1000000000000000000'],
-    ['0.0000019073486328125', '1/524288'], [`0.${String(5n ** 62n).padStart(62, '0')}`, `1/${2n ** 62n}`]]) {
+    ['0.000003814697265625', '1/262144'], [`0.500000000000000000${'0'.repeat(100)}`, '1/2']]) {
     assert.equal(`${fractionFromDecimal(text)}`, fraction, text);
     assert.equal(`${tryFractionFromDecimal(text).value}`, fraction);
     assert.equal(`${Fraction.from(text)}`, fraction);
   }
   for (let cents = -250; cents <= 250; cents++) assert.equal(fractionCmp(fractionFromDecimal((cents / 100).toFixed(2)), [cents, 100]), 0);
-  for (const text of ['9223372036854775808', '0.0000000000000000001', `0.${'3'.repeat(2000)}`, '9'.repeat(5000), '-9223372036854775808.5', `0.${String(5n ** 63n).padStart(63, '0')}`]) {
+  for (const text of ['9223372036854775808', '9'.repeat(5000), '-9223372036854775808.5', '123456789.987654321012345678']) {
     assert.throws(() => fractionFromDecimal(text), {status: Status.NOT_FITTING}, text);
     assert.deepEqual(tryFractionFromDecimal(text), {status: Status.NOT_FITTING, value: undefined});
   }
+  const places = 'a digit that is not 0 after the 18th place';
   for (const [text, reason] of [['1,999.00', 'a group separator or a decimal comma'], ['19,99', 'a group separator or a decimal comma'], ["1'000.5", 'a group separator or a decimal comma'],
     ['1 000', 'a group separator or a decimal comma'], ['1e3', 'an exponent'], ['1.5E-3', 'an exponent'], ['$19.99', 'a currency or another word'], ['19.99 EUR', 'a currency or another word'],
-    ['', ''], ['.5', ''], ['5.', ''], ['--1', ''], ['+12', ''], ['1/2', ''], ['1.2.3', ''], ['Infinity', 'a currency or another word'], ['٣', '']]) {
+    ['', ''], ['.5', ''], ['5.', ''], ['--1', ''], ['+12', ''], ['1/2', ''], ['1.2.3', ''], ['Infinity', 'a currency or another word'], ['٣', ''], ['0.0000019073486328125', places], ['0.0000000000000000001', places],
+    [`0.${'3'.repeat(19)}`, places]]) {
     const message = `fractionFromDecimal: OUTSIDE: text is ${JSON.stringify(text)}, which is no decimal number such as -19.99${reason && `: it has ${reason}`}`;
     assert.throws(() => fractionFromDecimal(text), {code: 'OUTSIDE', message});
     assert.deepEqual(tryFractionFromDecimal(text), {status: Status.OUTSIDE, value: undefined});
   }
+  assert.throws(() => fractionFromDecimal(`0.${'3'.repeat(2000)}`), {code: 'OUTSIDE'});
   for (const given of [[19.99], [], ['1', '2'], [null]]) assert.throws(() => fractionFromDecimal(...given), TypeError);
   assert.equal(`${fractionAdd('19.99', '0.01')} ${fractionToDecimal('19.99', 2)}`, '20 19.99');
   assert.throws(() => fractionAdd('1,999.00', 1), {message: 'fractionAdd: OUTSIDE: a is "1,999.00", which is no decimal number such as -19.99: it has a group separator or a decimal comma'});
@@ -267,7 +271,7 @@ test('a decimal text is read exactly', () => {
 
 test('a long decimal text is read, or refused, in a time as its length', () => {
   const zeros = '0'.repeat(50_000), began = performance.now();
-  for (const [text, status] of [[`${zeros}x`, Status.OUTSIDE], [`0.${zeros}x`, Status.OUTSIDE], [`0.${zeros}1`, Status.NOT_FITTING], [`0.1${zeros}x`, Status.OUTSIDE],
+  for (const [text, status] of [[`${zeros}x`, Status.OUTSIDE], [`0.${zeros}x`, Status.OUTSIDE], [`0.${zeros}1`, Status.OUTSIDE], [`0.1${zeros}x`, Status.OUTSIDE],
     [`1${zeros}x`, Status.OUTSIDE], [`0.${'10'.repeat(25_000)}x`, Status.OUTSIDE], [`${zeros}1.5${zeros}`, Status.ANSWER]]) {
     assert.equal(tryFractionFromDecimal(text).status, status);
     assert.equal(calls.tryFractionAdd(text.includes('.') ? text : `${text}.0`, 1).status, status);

@@ -73,8 +73,8 @@ pub fn next_meeting<T: Modular + Fits>(now: T, a: Schedule<T>, b: Schedule<T>) -
     ensures { IsLeastTime T.value T.fits (T.value now)
         (IsMeeting (T.value a.first) (T.value a.period) (T.value b.first) (T.value b.period)) result }
 {
-    check(a.period > zero(), "the period is not positive");
-    check(b.period > zero(), "the period is not positive");
+    check(a.period > zero(), "a period is not positive");
+    check(b.period > zero(), "a period is not positive");
     let from = maximum(now, maximum(a.first, b.first));
     next_common_solution(from, a.congruence(), b.congruence())
 }

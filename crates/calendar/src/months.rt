@@ -15,7 +15,7 @@ use integer_core::guards::check;
 /// # Panics
 ///
 /// In plain Rust, if `month` is 0 or above 12.
-pub fn days_in_month(year: i64, month: u8) -> u8
+pub const fn days_in_month(year: i64, month: u8) -> u8
     requires from_one { 1 ≤ month }
     requires to_twelve { month ≤ 12 }
     ensures days { result ≡ days_in_month year month }

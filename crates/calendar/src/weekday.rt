@@ -37,7 +37,7 @@ pub enum Weekday {
 impl Weekday {
     /// Returns the number of the day of the week in ISO 8601, from 1 for Monday to 7 for Sunday.
     /// `Weekday::Sunday.iso_number()` is `7`.
-    pub fn iso_number(self) -> u8
+    pub const fn iso_number(self) -> u8
         ensures number { result ≡ iso_number self }
         ensures from_one { 1 ≤ result }
         ensures to_seven { result ≤ 7 }
@@ -47,12 +47,12 @@ impl Weekday {
 
     /// Returns the day of the week by its number in ISO 8601, or `None` if the number is not from 1 to 7.
     /// `Weekday::from_iso_number(7)` is `Some(Weekday::Sunday)`.
-    pub fn from_iso_number(number: u8) -> Option<Self>
+    pub const fn from_iso_number(number: u8) -> Option<Self>
         ensures { MatchOption result (¬ ((1 ≤ number) × (number ≤ 7)))
             (λ weekday. iso_number weekday ≡ number) }
     {
         match number {
-            1..=7 => Some(weekday_after_sunday(u32::from(number))),
+            1..=7 => Some(weekday_after_sunday(number as u32)),
             _ => None,
         }
     }
@@ -83,7 +83,7 @@ impl Weekday {
 
     /// Returns the number of days from a Sunday to this day of the week.
     #[inline]
-    pub(crate) fn days_after_sunday(self) -> u8
+    pub(crate) const fn days_after_sunday(self) -> u8
         ensures value { result ≡ weekday_number self }
         ensures small { result < 7 }
     {
@@ -157,7 +157,7 @@ impl Date {
     /// Returns the day of the week. `Date::new(2000, 2, 29).unwrap().weekday()` is `Weekday::Tuesday`.
     #[tactic(auto, using(crate::proofs::WeekdayPlaces::weekday_in_era))]
     #[inline]
-    pub fn weekday(&self) -> Weekday
+    pub const fn weekday(&self) -> Weekday
         ensures { HasWeekday (number_of self.now) result }
     {
         // An era is a whole number of weeks, and its day 0 is a Tuesday.
@@ -177,7 +177,7 @@ pub fn weekday_of(day: i64) -> Weekday
 
 /// Returns the day of the week `days` days after a Sunday.
 #[inline]
-fn weekday_after_sunday(days: u32) -> Weekday
+const fn weekday_after_sunday(days: u32) -> Weekday
     ensures { weekday_number result ≡ days % 7 }
 {
     match days % 7 {

@@ -4,6 +4,7 @@ use Rattle.cellarcove_c.specs.Laws as law
 use Rattle.calendar.proofs.Laws.{months_between_is_only as whole_months_are_only, years_between_is_only as whole_years_are_only}
 use Rattle.cellarcove_c.specs.declared.dates.Date.{Date as Parts}
 use Rattle.ratio64.specs.RatioError.{number_of}
+use Rattle.cellarcove_c.specs.Fractions.{Represents}
 
 -- ---- statuses
 
@@ -165,6 +166,11 @@ fract_is_only a x y (p, made, h) (q, other, k) = same_fract q x y (subst (λ (r 
 
 pub stands_for_read_is_only : law.StandsForReadIsOnly
 stands_for_read_is_only read s t a b c d h k = grind arith
+
+pub stands_for_decimal_is_only : law.StandsForDecimalIsOnly
+stands_for_decimal_is_only (Ok x) s t a b c d (p, made, h) (q, other, k) =
+    stands_for_is_only q s t a b c d (subst (λ (r : Result Ratio RatioError). Represents r s a b) (answer_is_only _ _ p q made other) h) k
+stands_for_decimal_is_only (Err e) s t a b c d h k = grind arith
 
 pub order_number_is_only : law.OrderNumberIsOnly
 order_number_is_only a b same = grind (arith, ints)

@@ -5,6 +5,8 @@ use Rattle.std.specs.declared.cmp.Ordering.{Ordering}
 use Rattle.calendar.specs.Months.{IsDate}
 use Rattle.calendar.specs.declared.date.Date.{Date}
 use Rattle.calendar.specs.declared.weekday.Weekday.{Weekday}
+use Rattle.ratio64.specs.declared.decimal.Decimal.{Decimal}
+use Rattle.ratio64.specs.declared.decimal.reading.ParseDecimalError.{ParseDecimalError}
 use Rattle.ratio64.specs.declared.error.RatioError.{RatioError}
 use Rattle.ratio64.specs.declared.fraction.Ratio.{Ratio}
 use Rattle.ratio64.specs.declared.parse.ParseRatioError.{ParseRatioError}
@@ -19,7 +21,7 @@ use Rattle.cellarcove_c.specs.Paging.{IsFewestPages, IsPadding}
 use Rattle.cellarcove_c.specs.Quotients.{AreFloored}
 use Rattle.cellarcove_c.specs.Roots.{IsRootWithRest}
 use Rattle.cellarcove_c.specs.Statuses.{IsReason}
-use Rattle.cellarcove_c.specs.Texts.{StandsForRead}
+use Rattle.cellarcove_c.specs.Texts.{StandsForDecimal, StandsForRead}
 use Rattle.cellarcove_c.specs.declared.dates.Date.{Date as Parts}
 use Rattle.cellarcove_c.specs.declared.fractions.Fraction.{Fraction}
 use Rattle.cellarcove_c.specs.declared.fractions.FractionAnswer.{FractionAnswer}
@@ -109,6 +111,10 @@ FractIsOnly = (a : Fraction) (x y : FractionAnswer) → AnswersFract a x → Ans
 -- Each result of reading has at most one status and one pair of numbers.
 abbrev pub StandsForReadIsOnly : Type 0
 StandsForReadIsOnly = (read : Result Ratio ParseRatioError) (s t : ℕ) (a b c d : ℤ) → StandsForRead read s a b → StandsForRead read t c d → (s ≡ t) × (a ≡ c) × (b ≡ d)
+
+-- Each result of reading a decimal number has at most one status and one pair of numbers.
+abbrev pub StandsForDecimalIsOnly : Type 0
+StandsForDecimalIsOnly = (read : Result Decimal ParseDecimalError) (s t : ℕ) (a b c d : ℤ) → StandsForDecimal read s a b → StandsForDecimal read t c d → (s ≡ t) × (a ≡ c) × (b ≡ d)
 
 -- Each number is that of at most one order.
 abbrev pub OrderNumberIsOnly : Type 0

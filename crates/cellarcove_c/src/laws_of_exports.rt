@@ -10,7 +10,7 @@ ghost use Rattle.num_integer.specs.RootOf.{IsRoot};
 ghost use Rattle.ratio64.specs.Ratio.{AnswersFraction, den_of, num_of};
 ghost use Rattle.ratio64.specs.Rounding.{IsRounded};
 ghost use Rattle.cellarcove_c.specs.Congruences.{IsNever};
-ghost use Rattle.cellarcove_c.specs.Laws.{AnswersIsOnly, AnswersModuloIsOnly, ClassOfBothIsOnly, DayOfIsoNumberIsOnly, FewestPagesIsOnly, FlooredListIsOnly, FractIsOnly, InDigitsIsOnly, InPartsIsOnly, MonthsBetweenIsOnly, MonthsLaterIsOnly, NextOfSeveralIsOnly, OfIsoNumberIsOnly, OnBothIsOnly, OrderNumberIsOnly, PaddingIsOnly, PowerIsOnly, ReadDateIsOnly, ReasonIsOnly, RootWithRestIsOnly, StandsForIsOnly, StandsForNumberIsOnly, StandsForReadIsOnly, YearsBetweenIsOnly};
+ghost use Rattle.cellarcove_c.specs.Laws.{AnswersIsOnly, AnswersModuloIsOnly, ClassOfBothIsOnly, DayOfIsoNumberIsOnly, FewestPagesIsOnly, FlooredListIsOnly, FractIsOnly, InDigitsIsOnly, InPartsIsOnly, MonthsBetweenIsOnly, MonthsLaterIsOnly, NextOfSeveralIsOnly, OfIsoNumberIsOnly, OnBothIsOnly, OrderNumberIsOnly, PaddingIsOnly, PowerIsOnly, ReadDateIsOnly, ReasonIsOnly, RootWithRestIsOnly, StandsForDecimalIsOnly, StandsForIsOnly, StandsForNumberIsOnly, StandsForReadIsOnly, YearsBetweenIsOnly};
 ghost use Rattle.cellarcove_c.specs.Statuses.{StatusIs, no_solution, outside};
 
 /// States each law. A law about every property is stated for one. No export calls it.
@@ -36,6 +36,7 @@ fn laws()
     ensures in_digits_is_only { InDigitsIsOnly }
     ensures fract_is_only { FractIsOnly }
     ensures stands_for_read_is_only { StandsForReadIsOnly }
+    ensures stands_for_decimal_is_only { StandsForDecimalIsOnly }
     ensures order_number_is_only { OrderNumberIsOnly }
     ensures months_later_is_only { MonthsLaterIsOnly }
     ensures months_between_is_only { MonthsBetweenIsOnly }

@@ -11,7 +11,7 @@ use crate::{Integer, fitting};
 use num_traits::Num;
 
 /// Says that the condition holds. In plain Rust it panics with the reason if it does not.
-pub fn check(condition: bool, reason: &str)
+pub const fn check(condition: bool, reason: &str)
     requires { IsTrue condition }
 {}
 

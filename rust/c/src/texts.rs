@@ -3,7 +3,7 @@
 
 use crate::answers::{NOT_FITTING, OUTSIDE, ZERO_DENOMINATOR};
 use crate::fractions::FractionAnswer;
-use cellarcove::ratio64::{ParseRatioError, Ratio};
+use cellarcove::ratio64::{Decimal, ParseDecimalError, ParseRatioError, Ratio};
 use core::str;
 
 /// Returns the fraction of a text, which is an integer or two integers with a slash between. That
@@ -29,6 +29,28 @@ pub extern "C" fn cellarcove_fraction_from_text(
     }
 }
 
+/// Returns the fraction that a decimal text is, exactly. That of `-0.05` is -1/20.
+///
+/// `OUTSIDE` if the text is not an optional `-`, then digits, and perhaps a point with digits after
+/// it, or if a digit after the 18th place is not 0. `NOT_FITTING` if a part of the reduced fraction
+/// does not fit.
+#[unsafe(no_mangle)]
+pub extern "C" fn cellarcove_fraction_from_decimal(
+    text: *const u8,
+    text_len: usize,
+) -> FractionAnswer {
+    let text = if text_len == 0 {
+        &[]
+    } else {
+        // SAFETY: the caller promises that the pointer leads to so many items, which do not change.
+        unsafe { core::slice::from_raw_parts(text, text_len) }
+    };
+    match str::from_utf8(text) {
+        Ok(text) => fraction_of_decimal(text),
+        Err(_) => FractionAnswer::none(OUTSIDE),
+    }
+}
+
 /// Returns the result of reading a fraction.
 fn fraction_of(text: &str) -> FractionAnswer {
     match text.parse::<Ratio>() {
@@ -43,5 +65,21 @@ fn status_of(error: ParseRatioError) -> u32 {
         ParseRatioError::NotAFraction | ParseRatioError::TooLong => OUTSIDE,
         ParseRatioError::ZeroDenominator => ZERO_DENOMINATOR,
         ParseRatioError::NotFitting => NOT_FITTING,
+    }
+}
+
+/// Returns the result of reading a decimal number.
+fn fraction_of_decimal(text: &str) -> FractionAnswer {
+    match text.parse::<Decimal>() {
+        Ok(decimal) => FractionAnswer::of(decimal.to_ratio()),
+        Err(error) => FractionAnswer::none(status_of_decimal(error)),
+    }
+}
+
+/// Returns the status of an error of reading a decimal number.
+fn status_of_decimal(error: ParseDecimalError) -> u32 {
+    match error {
+        ParseDecimalError::NotADecimal | ParseDecimalError::TooManyPlaces => OUTSIDE,
+        ParseDecimalError::NotFitting => NOT_FITTING,
     }
 }

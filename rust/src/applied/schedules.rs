@@ -88,8 +88,8 @@ pub fn next_meeting<T: Modular + Fits>(
     a: Schedule<T>,
     b: Schedule<T>,
 ) -> CommonSolution<T> {
-    check(a.period > zero(), "the period is not positive");
-    check(b.period > zero(), "the period is not positive");
+    check(a.period > zero(), "a period is not positive");
+    check(b.period > zero(), "a period is not positive");
     let from = maximum(now, maximum(a.first, b.first));
     next_common_solution(from, a.congruence(), b.congruence())
 }

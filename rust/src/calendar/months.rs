@@ -24,7 +24,7 @@ use crate::integer_core::guards::check;
 /// [Contract](crate::definitions::calendar#days_in_month)
 #[track_caller]
 #[must_use]
-pub fn days_in_month(year: i64, month: u8) -> u8 {
+pub const fn days_in_month(year: i64, month: u8) -> u8 {
     check(month >= 1, "no month has the number 0");
     check(month <= 12, "no month has a number above 12");
     length_of_month(year, month)

@@ -47,7 +47,7 @@ impl Weekday {
     ///
     /// [Contract](crate::definitions::calendar#weekdayiso_number)
     #[must_use]
-    pub fn iso_number(self) -> u8 {
+    pub const fn iso_number(self) -> u8 {
         (self.days_after_sunday() + 6) % 7 + 1
     }
 
@@ -64,9 +64,9 @@ impl Weekday {
     ///
     /// [Contract](crate::definitions::calendar#weekdayfrom_iso_number)
     #[must_use]
-    pub fn from_iso_number(number: u8) -> Option<Self> {
+    pub const fn from_iso_number(number: u8) -> Option<Self> {
         match number {
-            1..=7 => Some(weekday_after_sunday(u32::from(number))),
+            1..=7 => Some(weekday_after_sunday(number as u32)),
             _ => None,
         }
     }
@@ -103,7 +103,7 @@ impl Weekday {
 
     /// Returns the number of days from a Sunday to this day of the week.
     #[inline]
-    pub(crate) fn days_after_sunday(self) -> u8 {
+    pub(crate) const fn days_after_sunday(self) -> u8 {
         self as u8
     }
 
@@ -198,7 +198,7 @@ impl Date {
     /// [Contract](crate::definitions::calendar#dateweekday)
     #[must_use]
     #[inline]
-    pub fn weekday(&self) -> Weekday {
+    pub const fn weekday(&self) -> Weekday {
         // An era is a whole number of weeks, and its day 0 is a Tuesday.
         let (_, day) = self.day_of_era();
         weekday_after_sunday(day + 2)
@@ -224,7 +224,7 @@ pub fn weekday_of(day: i64) -> Weekday {
 
 /// Returns the day of the week `days` days after a Sunday.
 #[inline]
-fn weekday_after_sunday(days: u32) -> Weekday {
+const fn weekday_after_sunday(days: u32) -> Weekday {
     match days % 7 {
         0 => Weekday::Sunday,
         1 => Weekday::Monday,

@@ -276,11 +276,11 @@ fn times() {
     let (period, one_period) = ("the period is not positive", "a period is not positive");
     panics! {
         period {
-            schedules::next_meeting(0, (1, 0).into(), (1, 3).into());
-            schedules::next_meeting(0, (1, 3).into(), (1, 0).into());
             schedules::count(0, 9, (1, 0).into());
         }
         one_period {
+            schedules::next_meeting(0, (1, 0).into(), (1, 3).into());
+            schedules::next_meeting(0, (1, 3).into(), (1, 0).into());
             schedules::next_meeting_of(0, &[(1, -2).into(), (1, 3).into()]);
             schedules::next_meeting_of(0, &[(1, 0).into(), (1, 3).into()]);
             schedules::next_meeting_of(0, &[(1, 3).into(), (1, 0).into()]);

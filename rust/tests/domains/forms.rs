@@ -360,12 +360,14 @@ fn models() {
             shares::instalments(100u8, 0);
         }
         PERIOD {
-            schedules::next_meeting(0, (1, -2).into(), (1, 3).into());
-            schedules::next_meeting(0, (1, 2).into(), (1, 0).into());
             schedules::count(0, 9, (1, -2).into());
             schedules::count(9u8, 0, (1, 0).into());
         }
-        one_period { schedules::next_meeting_of(0, &[(1, 2).into(), (1, -3).into()]); }
+        one_period {
+            schedules::next_meeting(0, (1, -2).into(), (1, 3).into());
+            schedules::next_meeting(0, (1, 2).into(), (1, 0).into());
+            schedules::next_meeting_of(0, &[(1, 2).into(), (1, -3).into()]);
+        }
         PAGE_SIZE {
             paging::pages(5, 0);
             paging::place_of(5, -8);

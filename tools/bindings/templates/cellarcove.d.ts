@@ -63,10 +63,6 @@ export class Fraction {
   /** It throws: `fractionCmp` compares, and `fractionAdd` adds. */
   valueOf(): never;
 }
-/** The fraction of a decimal text, exactly: that of `19.99` is 1999/100. `OUTSIDE` if it is another text, such as one with a group separator,
- *  an exponent or a currency. `NOT_FITTING` if a part of the fraction does not fit. */
-export function fractionFromDecimal(text: string): Fraction;
-export function tryFractionFromDecimal(text: string): Attempt<Fraction>;
 
 /** A decimal number, which is frozen. `String` prints it, with the zeros after the point: that of 1/20 with two places is `0.05`, and its `part` is 5. */
 export class Decimal {

@@ -3,6 +3,6 @@
 // SPDX-License-Identifier: MIT OR Apache-2.0
 import {attempt, call} from './{loader}.js';
 import * as rows from './table.js';
-export {BUILT_BY, Decimal, Fraction, PlainDate, Refused, Status, VERSION, fractionFromDecimal, ready, tryFractionFromDecimal} from './{loader}.js';
+export {BUILT_BY, Decimal, Fraction, PlainDate, Refused, Status, VERSION, ready} from './{loader}.js';
 
 {calls}

@@ -81,7 +81,7 @@ class Refused(ValueError):
     }
     _reasons_of_text = {
         Status.OUTSIDE: 'a text of a fraction is 3, -3 or 3/4, with at most 38 digits in a number; '
-        "for a decimal pass Decimal('0.19'), or Fraction('0.19')",
+        'fraction_from_decimal reads 3, -3 or 0.19, with at most 18 places',
         Status.NO_DATE: 'a text of a date is 2026-11-28, -0001-12-31 or +12000-04-02, of a day '
         'that there is',
     }

@@ -1505,6 +1505,7 @@ def day_of_year(date: _Column | tuple[_Column, _Column | _Number, _Column | _Num
 @overload
 def day_of_year(date: _Date) -> int: ...
 def fraction_from_text(text: str, /) -> Fraction: ...
+def fraction_from_decimal(text: str, /) -> Fraction: ...
 def date_from_text(text: str, /) -> Date: ...
 @overload
 def product_div_round(a: _Kept, b: _Column | _Number, d: _Column | _Number, *, out: Any = ..., where: Any = ..., errors: _Errors = ...) -> Any: ...
@@ -1570,16 +1571,16 @@ __all__ = [
     'div_mod_floor', 'div_rem', 'div_round', 'div_round_even', 'easter', 'extended_gcd', 'factorial', 'falling',
     'first_weekday_on_or_after', 'fraction_abs', 'fraction_add', 'fraction_ceil', 'fraction_ceil_times',
     'fraction_ceil_to', 'fraction_cmp', 'fraction_div', 'fraction_floor', 'fraction_floor_times',
-    'fraction_floor_to', 'fraction_fract', 'fraction_from_text', 'fraction_mul', 'fraction_neg', 'fraction_new',
-    'fraction_pow', 'fraction_recip', 'fraction_round', 'fraction_round_even_times', 'fraction_round_even_to',
-    'fraction_round_times', 'fraction_round_to', 'fraction_sub', 'fraction_times', 'fraction_to_decimal',
-    'fraction_trunc', 'gcd', 'gcd_lcm', 'gcd_of', 'ilog', 'inverse_modulo', 'is_coprime', 'is_leap_year',
-    'is_multiple_of', 'is_perfect_power', 'is_power', 'is_square', 'iso_week', 'isqrt', 'item_at',
-    'last_weekday_of_month', 'last_weekday_on_or_before', 'lcm', 'lcm_of', 'limit_denominator', 'minus_days',
-    'mod_floor', 'months_between', 'multinomial', 'negation_modulo', 'next_common_solution',
-    'next_common_solution_of', 'next_congruent', 'next_meeting', 'next_multiple_of', 'nth_root',
-    'nth_weekday_of_month', 'padding', 'pages', 'place_of', 'plus_days', 'plus_months', 'power_modulo',
-    'prev_multiple_of', 'previous_congruent', 'product_div_mod_floor', 'product_div_round',
+    'fraction_floor_to', 'fraction_fract', 'fraction_from_decimal', 'fraction_from_text', 'fraction_mul',
+    'fraction_neg', 'fraction_new', 'fraction_pow', 'fraction_recip', 'fraction_round',
+    'fraction_round_even_times', 'fraction_round_even_to', 'fraction_round_times', 'fraction_round_to',
+    'fraction_sub', 'fraction_times', 'fraction_to_decimal', 'fraction_trunc', 'gcd', 'gcd_lcm', 'gcd_of', 'ilog',
+    'inverse_modulo', 'is_coprime', 'is_leap_year', 'is_multiple_of', 'is_perfect_power', 'is_power', 'is_square',
+    'iso_week', 'isqrt', 'item_at', 'last_weekday_of_month', 'last_weekday_on_or_before', 'lcm', 'lcm_of',
+    'limit_denominator', 'minus_days', 'mod_floor', 'months_between', 'multinomial', 'negation_modulo',
+    'next_common_solution', 'next_common_solution_of', 'next_congruent', 'next_meeting', 'next_multiple_of',
+    'nth_root', 'nth_weekday_of_month', 'padding', 'pages', 'place_of', 'plus_days', 'plus_months',
+    'power_modulo', 'prev_multiple_of', 'previous_congruent', 'product_div_mod_floor', 'product_div_round',
     'product_div_round_even', 'product_modulo', 'quotient_modulo', 'range_of_page', 'range_of_part', 'rank',
     'reduced', 'residue', 'shares', 'shares_by_largest_remainder', 'solutions', 'sqrt', 'sqrt_rem', 'sum_modulo',
     'sum_of', 'weekday', 'weekday_of_date', 'weeks_in_year', 'years_between',

@@ -53,14 +53,14 @@ pub struct Reason(pub(crate) &'static str);
 #[cold]
 #[inline(never)]
 #[track_caller]
-pub(crate) fn refuse(reason: &'static str) -> ! {
-    panic!("{reason}")
+pub(crate) const fn refuse(reason: &'static str) -> ! {
+    panic!("{}", reason) // a `const fn` takes no other form
 }
 
 /// Panics if the condition does not hold.
 #[inline]
 #[track_caller]
-pub(crate) fn check(condition: bool, reason: &'static str) {
+pub(crate) const fn check(condition: bool, reason: &'static str) {
     if !condition {
         refuse(reason)
     }

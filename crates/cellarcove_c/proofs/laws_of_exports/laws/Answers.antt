@@ -7,7 +7,7 @@ ruleset of_numbers = (law.floored_list_is_only, law.fewest_pages_is_only, law.pa
 
 ruleset of_fractions = (law.stands_for_is_only, law.stands_for_number_is_only, law.on_both_is_only, law.power_is_only, law.in_parts_is_only)
 
-ruleset of_texts = (law.in_digits_is_only, law.fract_is_only, law.stands_for_read_is_only, law.read_date_is_only)
+ruleset of_texts = (law.in_digits_is_only, law.fract_is_only, law.stands_for_read_is_only, law.stands_for_decimal_is_only, law.read_date_is_only)
 
 ruleset of_dates = (law.months_later_is_only, law.months_between_is_only, law.years_between_is_only)
 
