@@ -104,7 +104,7 @@ for_npm() {
     wasm=$(proved_wasm) || return
     rm -rf "$work/packed" && mkdir -p "$work/packed/package" "$work/packed/$top/try" &&
         "$1/bindings/js/build" "$work/packed/package" ${wasm:+"$wasm"} &&
-        cp "$1/docs/try/index.html" "$work"/packed/package/* "$work/packed/$top/try" &&
+        cp "$work"/packed/package/* "$work/packed/$top/try" && sed 's|href="\.\./CONTRACTS|href="CONTRACTS|' "$1/docs/try/index.html" >"$work/packed/$top/try/index.html" &&
         "$1/tools/cellarcove" make whole "$work/packed/$top/try/reference" && without_other_pages "$1/docs/CONTRACTS.md" >"$work/packed/$top/try/CONTRACTS.md" && packed package "$2/cellarcove-$version.tgz" && packed "$top" "$2/$top.tar.gz"
 }
 
@@ -191,7 +191,7 @@ tries_c() {
 
 # The sessions of the page, and the manual page without a warning.
 tries_intcalc() {
-    enters intcalc && tar -xzf intcalc-*.tar.gz && cd intcalc-* && "$root/tools/cellarcove" check sessions bin/intcalc && man --warnings -l share/man/man1/intcalc.1 2>error >page &&
+    enters intcalc && tar -xzf intcalc-*.tar.gz && cd intcalc-*/ && "$root/tools/cellarcove" check sessions bin/intcalc && man --warnings -l share/man/man1/intcalc.1 2>error >page &&
         [ ! -s error ] && grep -q NotFitting page
 }
 
