@@ -28,7 +28,7 @@ for_target() { (cd "$work/$1" && "$cargo" "${@:2}"); }
 
 # What an archive may need: of the C library, and of the library of the C compiler.
 needed=(memcpy memmove memset _GLOBAL_OFFSET_TABLE_ __aeabi_{,u}idivmod __aeabi_{,u}ldivmod __aeabi_mem{cpy,move,set}{,4,8} __aeabi_memclr{,4,8})
-needed+=(__{,u}{div,mod}{d,t}i3 __multi3)
+needed+=(__{,u}{div,mod}{d,t}i3 __multi3 __{ashl,lshr}ti3 __aeabi_unwind_cpp_pr{0,1})
 
 # by_cargo TARGET [WORD..]: the archive that is installed.
 by_cargo() {
