@@ -372,16 +372,20 @@ def scalar_type(parameter: Field) -> str:
     return NUMBERS.get(parameter.name, PYTHON.get(parameter.kind, NUMBER))
 
 
-def column_types(parameter: Field, chosen: bool) -> str:
-    """The type of a parameter of which one number is a column, or may be one."""
+def column_types(parameter: Field) -> str:
+    """The type of a parameter of which one number may be a column."""
     leaves = len(EXPORTS().leaves(parameter.kind))
     if leaves == 1:
-        return COLUMN if chosen else f'{COLUMN} | {scalar_type(parameter)}'
-    if not chosen:
-        return f'{COLUMN} | {PYTHON[parameter.kind]} | tuple[{", ".join([EITHER] * leaves)}]'
+        return f'{COLUMN} | {scalar_type(parameter)}'
+    return f'{COLUMN} | {PYTHON[parameter.kind]} | tuple[{", ".join([EITHER] * leaves)}]'
+
+
+def with_column(parameter: Field) -> list[str]:
+    """The types of a parameter of which one number is a column: it is one, or a tuple has one."""
+    leaves = len(EXPORTS().leaves(parameter.kind))
     shapes = ([NUMBER] * first + [COLUMN] + [EITHER] * (leaves - first - 1)
-              for first in range(leaves))
-    return ' | '.join([COLUMN, *(f'tuple[{", ".join(shape)}]' for shape in shapes)])
+              for first in range(leaves) if leaves > 1)
+    return [COLUMN, *(f'tuple[{", ".join(shape)}]' for shape in shapes)]
 
 
 def listed_type(parameter: Field) -> str:
@@ -396,31 +400,32 @@ def listed_type(parameter: Field) -> str:
 
 
 def overloads(name: str, taken: list[tuple[str, str]]) -> str:
-    """A call that is overloaded: what it takes, and returns. If it makes arrays of numpy, a number
-    is none of these: for mypy a call has any type if it fits several overloads with an array of an
-    unknown type, and an array has an `__index__`."""
-    if any(MADE in result for _, result in taken):
-        taken = [(given.replace(NUMBER, '_Number'), result) for given, result in taken]
+    """A call that is overloaded: what it takes, and returns. A number is no array of numpy: for
+    mypy a call has any type if it fits several overloads with an array of an unknown type, and an
+    array has an `__index__`."""
+    taken = [(given.replace(NUMBER, '_Number'), result) for given, result in taken]
     return ''.join(f'@overload\ndef {name}({given}) -> {result}: ...\n' for given, result in taken)
 
 
-def of_arrays(given: list[str], result: str) -> list[tuple[str, str]]:
+def of_arrays(given: list[tuple[str, str]]) -> list[tuple[str, str]]:
     """The overloads with arrays of numpy: those that make others, and those with errors that do not
     raise or a `where`, which make arrays with a mask, or statuses."""
     found = []
-    for taken in given:
+    for taken, result in given:
         raising = taken.replace(WHERE, '').replace('_Errors', '_Raise').replace(COLUMN, OTHER)
         found.append((raising, result))
     others = {NAMED_ERRORS: 'errors: _Marks', WHERE: 'where: Any, '}
     return found + [(taken.replace(old, new), 'Any') for old, new in others.items()
-                    for taken in given if old in taken]
+                    for taken, _ in given if old in taken]
 
 
-def made(call: Call) -> str:
-    """What a call of arrays of numpy returns, if that is an array or a tuple of them."""
-    result = scalar_result(call)
-    is_made = result in {'int', 'bool'} or result.startswith('tuple')
-    return re.sub(r'\b(int|bool)\b', MADE, result) if is_made else 'Any'
+def made(call: Call, is_day: bool = False) -> str:
+    """What a call of arrays of numpy returns: an array, or those of the numbers of its result.
+    Those of a date are one if a date is given as one."""
+    named = next((name for end, (_, name) in CLASSES.items() if end in call.result), None)
+    count = 1 if is_day else len(results(call))
+    return (f'_{named}Arrays' if named else
+            MADE if count == 1 else f'tuple[{", ".join([MADE] * count)}]')
 
 
 def kept_types(parameter: Field) -> str:
@@ -437,24 +442,26 @@ def stub_of_shares(name: str, amount: str, weights: str) -> str:
     return overloads(name, [
         (f'{amount}: {EITHER}, {weights}: {KEPT}, {named}', 'Any'),
         (f'{amount}: {KEPT}, {weights}: {COLUMN} | {listed}, {named}', 'Any'),
-        *of_arrays([f'{amount}: {EITHER}, {weights}: {COLUMN}, {named}',
-                    f'{amount}: {COLUMN}, {weights}: {listed}, {named}'], MADE),
+        *of_arrays([(f'{amount}: {EITHER}, {weights}: {COLUMN}, {named}', MADE),
+                    (f'{amount}: {COLUMN}, {weights}: {listed}, {named}', MADE)]),
         (f'{amount}: {NUMBER}, {weights}: {listed}', 'tuple[int, ...]')])
 
 
 def stub_of_numbers(names: list[str], end: str, call: Call) -> list[tuple[str, str]]:
     """The overloads of a call of numbers with columns. `end` is what comes after these."""
+    scalars = [scalar_type(parameter) for parameter in call.parameters]
+    either = [column_types(parameter) for parameter in call.parameters]
     found, kept = [], []
-    for first in range(len(names)):
-        kinds = [scalar_type(parameter) if k < first else column_types(parameter, k == first)
-                 for k, parameter in enumerate(call.parameters)]
-        found.append(typed(names, kinds) + end)
-        kinds = [kept_types(parameter) if k == first else column_types(parameter, False)
-                 for k, parameter in enumerate(call.parameters)]
-        kept.append((typed(names, kinds) + end, 'Any'))
-    result = made(call)
-    return ([(taken, result) for taken in found] if result == 'Any'
-            else [*kept, *of_arrays(found, result)])
+    for k, parameter in enumerate(call.parameters):
+        kept.append((typed(names, [*either[:k], kept_types(parameter), *either[k + 1:]]) + end,
+                     'Any'))
+        column, *tuples = with_column(parameter)
+        dated = call.result.startswith('Date') and bool(tuples)
+        kinds = {column: dated, ' | '.join(tuples): False} if dated else {
+            ' | '.join([column, *tuples]): False}
+        found += [(typed(names, [*scalars[:k], kind, *either[k + 1:]]) + end, made(call, is_day))
+                  for kind, is_day in kinds.items()]
+    return [*kept, *of_arrays(found)]
 
 
 def typed(names: list[str], kinds: list[str]) -> str:
@@ -483,19 +490,34 @@ def stub(name: str, forms: list[Call]) -> str:
 
 def stub_of_pairs(name: str, call: Call) -> str:
     """A call of congruences or schedules, whose numbers may be columns."""
-    taken, numbers = [*zip(parameter_names(call), by_names(call).parameters)], names_of_one(call)
-    left_out = ''.join(f', {number}: None = ...' for number in numbers)
-    found = []
-    for kind, each, options, result in ((NUMBER, NUMBER, '', scalar_result(call)),
-                                        (f'{COLUMN} | {NUMBER}', 'Any', f', {NAMED}', 'Any')):
-        pairs = ', '.join(f'{given}: {parameter.pair}[{each}]' if parameter.pair
-                          else f'{given}: {kind}' for given, parameter in taken)
-        found.append((f'{pairs}{", *" * bool(left_out or options)}{left_out}{options}', result))
-        if numbers:
-            given = [f'{given}: {"None = ..." if parameter.pair else kind}'
-                     for given, parameter in taken]
-            named = [f'{number}: {kind}' for number in numbers]
-            found.append((f'{", ".join([*given, "*", *named])}{options}', result))
+    taken = [*zip(parameter_names(call), by_names(call).parameters)]
+    numbers, alone = [given for given, parameter in taken if not parameter.pair], names_of_one(call)
+    pair = next(given for given, parameter in taken if parameter.pair)
+    left_out = ''.join(f', {number}: None = ...' for number in alone)
+    star = ', *' * bool(alone)
+
+    def of_pairs(kinds: list[str], each: str) -> str:
+        rest = iter(kinds)
+        return ', '.join(f'{given}: ' + (f'{parameter.pair}[{each}]' if parameter.pair
+                                         else next(rest)) for given, parameter in taken)
+
+    def of_alone(given: str) -> str:
+        return given.replace(f'{alone[0]}: ', f'{pair}: None = ..., *, {alone[0]}: ', 1)
+    scalars = [NUMBER] * len(numbers)
+    found = [(of_pairs(scalars, NUMBER) + star + left_out, scalar_result(call))]
+    end = f'{star or ", *"}{left_out}, {NAMED}'
+    for k in range(len(numbers)):
+        rest = [EITHER] * (len(numbers) - k - 1)
+        found.append((of_pairs([EITHER] * k + [KEPT] + rest, 'Any') + end, 'Any'))
+        found.append(of_arrays([(of_pairs([NUMBER] * k + [COLUMN] + rest, NUMBER) + end,
+                                 made(call))])[0])
+    found.append((of_pairs([EITHER] * len(numbers), 'Any') + end, 'Any'))
+    if alone:
+        names = number_names(call)
+        given = typed(names, [NUMBER] * len(names))
+        found += [(of_alone(given), scalar_result(call)),
+                  *((of_alone(given), result)
+                    for given, result in stub_of_numbers(names, f', {NAMED}', call))]
     return overloads(name, found)
 
 

@@ -1,8 +1,10 @@
 """Calls the package with columns: a matrix of types, layouts and kinds beside Python's integers,
 threads, and a cluster of dask."""
 
+import ast
 import calendar
 import importlib.util
+import itertools
 import math
 import pathlib
 import subprocess
@@ -33,6 +35,8 @@ SIGNED, UNSIGNED = 'i1 i2 i4 i8 >i8 <i2 >i4', 'u1 u2 u4 u8 >u8 >u2 ?'
 REFUSED = 'f2 f4 f8 >f8 c16 O U3 S3 M8[D] M8[ns] m8[h] V4'
 NUMBERS = [12, 100, 7, 1, 96, 30, 60, 2, 5, 18, 64, 9]
 OTHERS = [8, 3, 7, 2, 4, 12, 25, 1, 5, 27, 48, 6]
+
+WITHOUT_ONE = ('base', 'page_size', 'parts')  # parameters of which 1 has no result with a 1
 
 # A call, and what it returns by the integers of Python.
 CALLS = {
@@ -361,6 +365,81 @@ class Scalars(unittest.TestCase):
             self.assertEqual(cellarcove.shares(numpy.array([3]), [yes, 1]).tolist(), [[2, 1]])
             self.assertEqual(cellarcove.fraction_floor((yes, 1)), 1)
             self.assertEqual(str(cellarcove.Date(2024, yes, yes) + yes), '2024-01-02')
+
+
+def parts_of(kind):
+    """The types of a union, or of the items of a tuple."""
+    if isinstance(kind, ast.BinOp):
+        return [*parts_of(kind.left), *parts_of(kind.right)]
+    return kind.elts if isinstance(kind, ast.Tuple) else [kind]
+
+
+def samples(kind, number, shape):
+    """A value of each type of a union in the stub. An array has the number twice, or days."""
+    days = numpy.array([0, 1], 'M8[D]')
+    known = {
+        'None': None,
+        'SupportsColumn': days if shape == 'd' else numpy.array([number, number]),
+        '_Number': number,
+        '_Date': cellarcove.Date(2024, 1, 31),
+        '_Days': days[1] - days[0],
+        '_Fraction': (1, 2),
+        'Congruence[_Number]': cellarcove.Congruence(residue=0, modulus=1),
+        'Iterable[_Number]': [number, number],
+        'Schedule[_Number]': cellarcove.Schedule(first=0, period=1),
+        'Weekday': cellarcove.Weekday.MONDAY,
+    }
+    for part in parts_of(kind):
+        if ast.unparse(part).startswith('tuple['):
+            items = (samples(item, number, 'n') for item in parts_of(part.slice))
+            yield from itertools.product(*items)
+        else:
+            yield known[ast.unparse(part)]
+
+
+def calls_of(function):
+    """The arguments of an overload, of each type that it may take, without its options."""
+    given = [each.arg for each in function.args.posonlyargs]
+    call = cellarcove._columns.CALLS[function.name]
+    shapes = dict(zip(call.names, call.shapes))
+    taken = [*function.args.posonlyargs, *function.args.args, *function.args.kwonlyargs]
+    values = {
+        each.arg: [*samples(each.annotation, 1 + (each.arg in WITHOUT_ONE), shapes.get(each.arg))]
+        for each in taken
+        if each.arg not in cellarcove._columns.NAMED
+    }
+    for chosen in itertools.product(*values.values()):
+        named = dict(zip(values, chosen))
+        yield [named.pop(name) for name in given], named
+
+
+def type_of(found):
+    """The type of a result as the stub writes it."""
+    if isinstance(found, numpy.ndarray):
+        return 'NDArray[Any]'
+    items = ', '.join(map(type_of, found))
+    return f'tuple[{items}]' if type(found) is tuple else f'_{type(found).__name__}Arrays'
+
+
+@unittest.skipIf(missing, f'there is no {missing}')
+class Types(unittest.TestCase):
+    def test_arrays(self):
+        """A call of arrays returns what the stub says: an array, several, or those of a class."""
+        stub = pathlib.Path(cellarcove.__file__).with_name('_calls.pyi').read_text()
+        made = [
+            (function, ast.unparse(function.returns))
+            for function in ast.parse(stub).body
+            if isinstance(function, ast.FunctionDef)
+        ]
+        made = [each for each in made if 'NDArray' in each[1] or each[1].endswith('Arrays')]
+        self.assertGreater(len(made), 200)
+        for function, wanted in made:
+            for given, named in calls_of(function):
+                with self.subTest(function.name, given=given, named=named):
+                    found = getattr(cellarcove, function.name)(*given, **named)
+                    self.assertEqual(type_of(found), wanted)
+                    for each in [found] if isinstance(found, numpy.ndarray) else found:
+                        self.assertIs(type(each), numpy.ndarray)
 
 
 def pick(nested, k):

@@ -5,7 +5,7 @@ from array import array
 from collections.abc import Callable, Iterable
 from decimal import Decimal
 from fractions import Fraction
-from typing import Any, Literal, Protocol, SupportsIndex, TypeVar, overload
+from typing import Any, Literal, NamedTuple, Protocol, SupportsIndex, TypeVar, overload
 
 from numpy.typing import NDArray
 
@@ -40,6 +40,19 @@ class _Series(SupportsColumn, Protocol):  # a `Series` of pandas
 class _Masked(SupportsColumn, Protocol):  # an array of numpy with a mask
     @property
     def mask(self) -> Any: ...
+
+class _ExtendedGcdArrays(NamedTuple):  # an `ExtendedGcd` of arrays of numpy
+    gcd: NDArray[Any]
+    x: NDArray[Any]
+    y: NDArray[Any]
+
+class _SolutionsArrays(NamedTuple):  # `Solutions` of arrays of numpy
+    first: NDArray[Any]
+    step: NDArray[Any]
+
+class _IsoWeekArrays(NamedTuple):  # an `IsoWeek` of arrays of numpy
+    year: NDArray[Any]
+    week: NDArray[Any]
 
 _Kept = _Hashed | _Series | _Masked | SupportsColumns | array[int] | memoryview
 _Column = SupportsColumn | SupportsColumns | array[int] | memoryview
