@@ -28,19 +28,6 @@ names=("$@")
 [ $# -gt 0 ] || mapfile -t names < <(printf '%s\n' crates/*/must-fail-release | cut -d / -f 2)
 mkdir -p "$kept" "$copy" "$work/lists" "$work/said"
 
-# sum_of NAME: a checksum of the kit, and of the sources of the crate and of those below it.
-sum_of() {
-    local below each folders=()
-    for below in $(crates_of "$1" | sort -u); do
-        for each in "crates/$below"/{src,specs,proofs}; do
-            [ ! -d "$each" ] || folders+=("$each")
-        done
-    done
-    { rt version && cat HANDLES &&
-        find "${folders[@]}" -type f | LC_ALL=C sort | xargs sha256sum; } |
-        sha256sum | cut -d ' ' -f 1
-}
-
 # key SUM EDIT: the words by which a line is kept.
 key() { echo "$1 $(sha256sum <"$2" | cut -d ' ' -f 1)"; }
 

@@ -96,6 +96,33 @@ crates_of() {
     done
 }
 
+# sum_of NAME: a checksum of the kit, and of the sources of the crate and of those below it.
+sum_of() {
+    local below each sources=()
+    for below in $(crates_of "$1" | sort -u); do
+        for each in "crates/$below"/{src,specs,proofs}; do
+            [ ! -d "$each" ] || sources+=("$each")
+        done
+    done
+    { rt version && cat HANDLES &&
+        find "${sources[@]}" -type f | LC_ALL=C sort | xargs sha256sum; } |
+        sha256sum | cut -d ' ' -f 1
+}
+
+# keeps_verdicts LOG: out/verdicts keeps the line by which `rt ci` says that a crate is proved, by the checksum of its sources.
+keeps_verdicts() {
+    local name line
+    mkdir -p out/verdicts
+    for name in crates/*; do
+        name=${name#crates/}
+        line=$(awk -v name="$name" '/^== /{ on = $2 == name } on && /^logic=proved / { print; exit }' "$1")
+        [ -z "$line" ] || echo "$(sum_of "$name") $line" >"out/verdicts/$name"
+    done
+}
+
+# verdict_of NAME: the line that is kept of these sources.
+verdict_of() { sed -n "s/^$(sum_of "$1") //p" "out/verdicts/$1" 2>/dev/null | grep .; }
+
 # is_current FILE NAME: the file is there, and no source of the crate or of those below it is newer.
 is_current() {
     local crate sources=()

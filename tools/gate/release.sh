@@ -145,12 +145,11 @@ enters() { mkdir -p "$work/tried/$1" && cp "$files"/* "$work/tried/$1" && takes_
 # lines NAME LANGUAGE: the first block of a language in a part of README.md. These lines are run word for word.
 lines() { block <(sed -n "/^\*\*$1\*\*/,\$p" "$root/README.md") "$2"; }
 
-# Each verdict of the gate, and of a crate whose proof was kept from an earlier run a new one.
+# What `rt` says of each crate: in a run of the gate here that proved the same sources, or else now.
 verdicts() {
     local name
     for name in $(sed -nE 's/^(\w+)( staticlib)?:.*/\1/p' crates.txt); do
-        echo "== $name" && { awk -v name="$name" '/^== /{ on = $2 == name } on && /^logic=proved / { print; found = 1; exit } END { exit !found }' out/passed ||
-            (cd "crates/$name" && rt verdict | grep '^logic=proved ') || return 1; }
+        echo "== $name" && { verdict_of "$name" || (cd "crates/$name" && rt verdict | grep '^logic=proved ') || return 1; }
     done
 }
 
