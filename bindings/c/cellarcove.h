@@ -288,6 +288,26 @@ CELLARCOVE_CONST cellarcove_i64_answer cellarcove_checked_product_i64(int64_t a,
 /** a * b. For 2 and 3 it is 6. CELLARCOVE_NOT_FITTING if the product does not fit. */
 CELLARCOVE_CONST cellarcove_u64_answer cellarcove_checked_product_u64(uint64_t a, uint64_t b);
 
+/* ---- Arrays added number by number ---- */
+
+/** Writes the sums of the numbers in the same places of a and b, and returns the status. Those of 2, -8 and 7 and
+ *  of 3, 5 and -7 are 5, -3 and 0. If the status is not 0, sums stays as it is. a points to a_len aligned numbers,
+ *  which do not change during the call; it may be null if a_len is 0. b points to b_len aligned numbers, which do
+ *  not change during the call; it may be null if b_len is 0. sums points to sums_len aligned numbers, which
+ *  nothing else reads or writes during the call; it may be null if sums_len is 0. CELLARCOVE_OUTSIDE if the three
+ *  do not have the same length. CELLARCOVE_NOT_FITTING if a sum does not fit. */
+CELLARCOVE_WRITES uint32_t cellarcove_checked_sum_each_i64(const int64_t *a, size_t a_len, const int64_t *b,
+    size_t b_len, int64_t *CELLARCOVE_RESTRICT sums, size_t sums_len);
+
+/** Writes the sums of the numbers in the same places of a and b, and returns the status. Those of 2, 8 and 7 and
+ *  of 3, 5 and 0 are 5, 13 and 7. If the status is not 0, sums stays as it is. a points to a_len aligned numbers,
+ *  which do not change during the call; it may be null if a_len is 0. b points to b_len aligned numbers, which do
+ *  not change during the call; it may be null if b_len is 0. sums points to sums_len aligned numbers, which
+ *  nothing else reads or writes during the call; it may be null if sums_len is 0. CELLARCOVE_OUTSIDE if the three
+ *  do not have the same length. CELLARCOVE_NOT_FITTING if a sum does not fit. */
+CELLARCOVE_WRITES uint32_t cellarcove_checked_sum_each_u64(const uint64_t *a, size_t a_len, const uint64_t *b,
+    size_t b_len, uint64_t *CELLARCOVE_RESTRICT sums, size_t sums_len);
+
 /* ---- Division, rounded toward 0, down, up or to the nearest integer ---- */
 
 /** The quotient rounded toward 0, and its remainder, as / and % of C. Those of -8 by 3 are -2 and -2.

@@ -556,6 +556,38 @@ template <class N0, class N1> [[nodiscard]] auto checked_product(N0 a, N1 b) {
     }
 }
 
+// ---- Arrays added number by number
+
+/// Writes the sums of the numbers in the same places of a and b, and returns the status. Those of 2, -8 and 7 and of
+/// 3, 5 and -7 are 5, -3 and 0. If the status is not 0, sums stays as it is. status::outside if the three do not have
+/// the same length. status::not_fitting if a sum does not fit.
+[[nodiscard]] inline status checked_sum_each(const std::int64_t *a, detail::checked<std::size_t> a_length, const std::int64_t *b, detail::checked<std::size_t> b_length, std::int64_t *sums, detail::checked<std::size_t> sums_length) {
+    if (auto error = detail::error_of(a_length, b_length, sums_length); error != status::answer) {
+        return error;
+    }
+    return static_cast<status>(cellarcove_checked_sum_each_i64(a, a_length.value, b, b_length.value, sums, sums_length.value));
+}
+
+/// Writes the sums of the numbers in the same places of a and b, and returns the status. Those of 2, 8 and 7 and of
+/// 3, 5 and 0 are 5, 13 and 7. If the status is not 0, sums stays as it is. status::outside if the three do not have
+/// the same length. status::not_fitting if a sum does not fit.
+[[nodiscard]] inline status checked_sum_each(const std::uint64_t *a, detail::checked<std::size_t> a_length, const std::uint64_t *b, detail::checked<std::size_t> b_length, std::uint64_t *sums, detail::checked<std::size_t> sums_length) {
+    if (auto error = detail::error_of(a_length, b_length, sums_length); error != status::answer) {
+        return error;
+    }
+    return static_cast<status>(cellarcove_checked_sum_each_u64(a, a_length.value, b, b_length.value, sums, sums_length.value));
+}
+
+/// The same for an array, or a container of `std::int64_t` or `std::uint64_t` in one piece.
+template <class Items0, class Items1, class Items2>
+[[nodiscard]] auto checked_sum_each(const Items0 &a, const Items1 &b, Items2 &&sums) {
+    static_assert(detail::has_items<decltype(a), std::int64_t, std::uint64_t>, "the items of a have to be std::int64_t or std::uint64_t");
+    static_assert(detail::has_items<decltype(b), std::int64_t, std::uint64_t>, "the items of b have to be std::int64_t or std::uint64_t");
+    static_assert(detail::has_items<decltype(sums), std::int64_t, std::uint64_t>, "the items of sums have to be std::int64_t or std::uint64_t");
+    static_assert(detail::outlives_call<Items2>, "sums ends with the call: pass a variable, or a view of one");
+    return checked_sum_each(detail::items<std::int64_t, std::uint64_t>(a), std::size(a), detail::items<std::int64_t, std::uint64_t>(b), std::size(b), detail::items<std::int64_t, std::uint64_t>(sums), std::size(sums));
+}
+
 // ---- Division, rounded toward 0, down, up or to the nearest integer
 
 /// The quotient rounded toward 0, and its remainder, as / and % of C. Those of -8 by 3 are -2 and -2. status::outside

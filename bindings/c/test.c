@@ -521,6 +521,23 @@ static void divided_by_one(void) {
     CHECK(cellarcove_div_floor_each_u64(NULL, 0, 1, NULL, 0) == CELLARCOVE_ANSWER);
 }
 
+static void sums_of_arrays(void) {
+    const int64_t a[3] = {2, -8, INT64_MAX}, b[3] = {3, INT64_MIN + 8, INT64_MIN}, other[3] = {3, 8, 1};
+    const uint64_t x[3] = {2, 8, UINT64_MAX}, y[3] = {3, 5, 0}, z[3] = {3, 5, 1};
+    int64_t sums[3] = {7, 7, 7};
+    uint64_t naturals[3] = {7, 7, 7};
+    CHECK(cellarcove_checked_sum_each_i64(a, 3, b, 2, sums, 3) == CELLARCOVE_OUTSIDE && sums[0] == 7);
+    CHECK(cellarcove_checked_sum_each_i64(a, 3, b, 3, sums, 2) == CELLARCOVE_OUTSIDE && sums[0] == 7);
+    CHECK(cellarcove_checked_sum_each_i64(a, 3, other, 3, sums, 3) == CELLARCOVE_NOT_FITTING && sums[0] == 7 && sums[2] == 7);
+    CHECK(cellarcove_checked_sum_each_i64(a, 3, b, 3, sums, 3) == CELLARCOVE_ANSWER && sums[0] == 5 && sums[1] == INT64_MIN && sums[2] == -1);
+    CHECK(cellarcove_checked_sum_each_i64(NULL, 0, NULL, 0, NULL, 0) == CELLARCOVE_ANSWER);
+    CHECK(cellarcove_checked_sum_each_u64(x, 3, y, 2, naturals, 3) == CELLARCOVE_OUTSIDE && naturals[0] == 7);
+    CHECK(cellarcove_checked_sum_each_u64(x, 3, y, 3, naturals, 2) == CELLARCOVE_OUTSIDE && naturals[0] == 7);
+    CHECK(cellarcove_checked_sum_each_u64(x, 3, z, 3, naturals, 3) == CELLARCOVE_NOT_FITTING && naturals[0] == 7 && naturals[2] == 7);
+    CHECK(cellarcove_checked_sum_each_u64(x, 3, y, 3, naturals, 3) == CELLARCOVE_ANSWER && naturals[0] == 5 && naturals[1] == 13 && naturals[2] == UINT64_MAX);
+    CHECK(cellarcove_checked_sum_each_u64(NULL, 0, NULL, 0, NULL, 0) == CELLARCOVE_ANSWER);
+}
+
 static void shares(void) {
     const uint64_t weights[3] = {1, 1, 1}, zeros[3] = {0, 0, 0}, unequal[3] = {1, 1, 98};
     int64_t parts[3] = {7, 7, 7};
@@ -671,6 +688,7 @@ int main(void) {
     last_and_first_week();
     rounded_quotients();
     divided_by_one();
+    sums_of_arrays();
     shares();
     numbers_of_pages();
     counts_and_times();

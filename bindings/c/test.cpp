@@ -75,6 +75,10 @@ static void numbers() {
     CHECK(cellarcove::div_floor_each(std::vector<std::int64_t>{-8, 8, 7}, -3, parts) == status::answer && parts == std::vector<std::int64_t>{2, -3, -3});
     CHECK(cellarcove::div_floor_each(std::vector<std::int64_t>{INT64_MIN, 8, 7}, -1, parts) == status::not_fitting && parts[0] == 2);
     CHECK(cellarcove::div_floor_each(std::vector<std::int64_t>{-8, 8, 7}, UINT64_MAX, parts) == status::not_fitting);
+    const std::vector<std::int64_t> addends{3, 5, -7};
+    CHECK(cellarcove::checked_sum_each(std::vector<std::int64_t>{2, -8, 7}, addends, parts) == status::answer && parts == std::vector<std::int64_t>{5, -3, 0});
+    CHECK(cellarcove::checked_sum_each(std::vector<std::int64_t>{2, INT64_MAX, 7}, addends, parts) == status::not_fitting && parts[0] == 5);
+    CHECK(cellarcove::checked_sum_each(std::vector<std::int64_t>{2, -8}, addends, parts) == status::outside && parts[0] == 5);
     CHECK(*cellarcove::date_from_text("-0001-12-31") == *date::make(-1, 12, 31) && cellarcove::date_from_text("2026-1-1") == status::no_date);
     CHECK(*cellarcove::fraction_to_decimal(*fraction::make(-1, 20), 2) == cellarcove::decimal{true, 0, 5, 2});
     CHECK(cellarcove::fraction_to_decimal(1, 19) == status::outside && cellarcove::fraction_to_decimal(1, -1) == status::outside);

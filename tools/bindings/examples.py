@@ -80,11 +80,12 @@ def argument(parameter: Field, tokens: list[str]) -> Any:
 
 
 def arguments(call: Call, tokens: list[str]) -> list[Any]:
-    """The arguments: a list takes the tokens that the other parameters leave."""
+    """The arguments: lists have the same length, and take the tokens that the other parameters
+    leave."""
     is_list = [bool(parameter.item and not parameter.is_written) for parameter in call.taken]
     rest, found = iter(tokens), list[Any]()
     for parameter, many in zip(call.taken, is_list):
-        count = len(tokens) - is_list.count(False) if many else 1
+        count = (len(tokens) - is_list.count(False)) // is_list.count(True) if many else 1
         found.append(argument(parameter, [next(rest) for _ in range(count)]))
     if [*rest]:
         raise Unclear

@@ -16,10 +16,10 @@ NUMBERS = {f'{sign}{bits}': f'{"u" if sign == "u" else ""}int{bits}_t' for sign 
            for bits in (8, 16, 32, 64)}
 NUMBERS |= {'usize': 'size_t', 'bool': 'bool'}
 # The order of the modules in the header. One that is not here comes last.
-ORDER = ('operators', 'division', 'invariant_divisors', 'divisors', 'coprime', 'lists', 'roots',
-         'powers', 'coefficients', 'counting', 'ranking', 'shares', 'paging', 'layout', 'modulo',
-         'congruences', 'several_congruences', 'schedules', 'fractions', 'rounding', 'decimals',
-         'dates', 'weekdays', 'years', 'texts', 'date_texts')
+ORDER = ('operators', 'array_sums', 'division', 'invariant_divisors', 'divisors', 'coprime',
+         'lists', 'roots', 'powers', 'coefficients', 'counting', 'ranking', 'shares', 'paging',
+         'layout', 'modulo', 'congruences', 'several_congruences', 'schedules', 'fractions',
+         'rounding', 'decimals', 'dates', 'weekdays', 'years', 'texts', 'date_texts')
 
 
 # The pairs of numbers in a row whose positions are easily swapped, by the module of a call: their
@@ -104,9 +104,9 @@ class Call(NamedTuple):
     @property
     def taken(self) -> list[Field]:
         """The parameters without a list that is written and as long as one that is read."""
-        two_lists = sum(bool(parameter.item) for parameter in self.parameters) == 2
+        has_read = any(parameter.item and not parameter.is_written for parameter in self.parameters)
         return [parameter for parameter in self.parameters
-                if not (parameter.is_written and two_lists)]
+                if not (parameter.is_written and has_read)]
 
 
 @functools.lru_cache(maxsize=1)

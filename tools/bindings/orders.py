@@ -45,6 +45,7 @@ REASONS: dict[str, Reason] = {
     'the divisor is 0, or if there is not one quotient for each number': lambda _, every: (
         every[1] == 0
     ),
+    'the three do not have the same length': lambda _, every: False,
     'X or X is 0': lambda x, _: 0 in x,
     'X or X is not positive': lambda x, _: min(x) <= 0,
     'X is negative': lambda x, _: x[0] < 0,
@@ -161,7 +162,9 @@ def tried(call: Call) -> Iterator[Sequence[Any]]:
     if call.is_each:
         forms = EXPORTS().forms()[call.name.removesuffix(EACH)]
         [of_one] = [form for form in forms if form.form == call.form]
-        yield from ([[number], *others] for number, *others in tried(of_one))
+        for given in tried(of_one):
+            yield [[each] if parameter.item else each
+                   for parameter, each in zip(call.taken, given, strict=True)]
         return
     if call.has_slice:
         yield from (with_lists(call) for _ in range(TRIED))

@@ -352,8 +352,8 @@ EITHER = f'{COLUMN} | {NUMBER}'
 NUMBERS = {WEEKDAY: f'Weekday | {NUMBER}', 'days': f'_Days | {NUMBER}'}
 # The parameters of a call with columns that have names alone.
 NAMED_ERRORS = 'errors: _Errors = ...'
-WHERE = 'where: Any = ..., '
-NAMED = f'out: Any = ..., {WHERE}{NAMED_ERRORS}'
+OUT, WHERE = 'out: Any = ..., ', 'where: Any = ..., '
+NAMED = f'{OUT}{WHERE}{NAMED_ERRORS}'
 
 
 def scalar_result(call: Call) -> str:
@@ -380,12 +380,12 @@ def column_types(parameter: Field) -> str:
     return f'{COLUMN} | {PYTHON[parameter.kind]} | tuple[{", ".join([EITHER] * leaves)}]'
 
 
-def with_column(parameter: Field) -> list[str]:
-    """The types of a parameter of which one number is a column: it is one, or a tuple has one."""
+def with_column(parameter: Field) -> str:
+    """The type of a parameter of which one number is a column: it is one, or a tuple has one."""
     leaves = len(EXPORTS().leaves(parameter.kind))
     shapes = ([NUMBER] * first + [COLUMN] + [EITHER] * (leaves - first - 1)
               for first in range(leaves) if leaves > 1)
-    return [COLUMN, *(f'tuple[{", ".join(shape)}]' for shape in shapes)]
+    return ' | '.join([COLUMN, *(f'tuple[{", ".join(shape)}]' for shape in shapes)])
 
 
 def listed_type(parameter: Field) -> str:
@@ -447,20 +447,32 @@ def stub_of_shares(name: str, amount: str, weights: str) -> str:
         (f'{amount}: {NUMBER}, {weights}: {listed}', 'tuple[int, ...]')])
 
 
+def by_days(call: Call, kinds: list[str]) -> list[tuple[list[str], bool]]:
+    """The types of the parameters, and whether the result is one column of dates. If the first one
+    may be a column of dates, of which a call makes another, that stands apart from its other
+    types."""
+    first, _, others = kinds[0].partition(' | ')
+    of_dates = call.result.startswith('Date') and call.parameters[0].kind == 'Date'
+    if of_dates and first in {COLUMN, KEPT}:
+        return [([first, *kinds[1:]], True), ([others, *kinds[1:]], False)]
+    return [(kinds, False)]
+
+
 def stub_of_numbers(names: list[str], end: str, call: Call) -> list[tuple[str, str]]:
-    """The overloads of a call of numbers with columns. `end` is what comes after these."""
+    """The overloads of a call of numbers with columns. `end` is what comes after these. A column
+    of dates gets no `out`."""
     scalars = [scalar_type(parameter) for parameter in call.parameters]
     either = [column_types(parameter) for parameter in call.parameters]
     found, kept = [], []
+
+    def taken(kinds: list[str]) -> list[tuple[str, bool]]:
+        return [(typed(names, each) + (end.replace(OUT, '') if is_day else end), is_day)
+                for each, is_day in by_days(call, kinds)]
     for k, parameter in enumerate(call.parameters):
-        kept.append((typed(names, [*either[:k], kept_types(parameter), *either[k + 1:]]) + end,
-                     'Any'))
-        column, *tuples = with_column(parameter)
-        dated = call.result.startswith('Date') and bool(tuples)
-        kinds = {column: dated, ' | '.join(tuples): False} if dated else {
-            ' | '.join([column, *tuples]): False}
-        found += [(typed(names, [*scalars[:k], kind, *either[k + 1:]]) + end, made(call, is_day))
-                  for kind, is_day in kinds.items()]
+        rest = either[k + 1:]
+        kept += [(given, 'Any') for given, _ in taken([*either[:k], kept_types(parameter), *rest])]
+        found += [(given, made(call, is_day))
+                  for given, is_day in taken([*scalars[:k], with_column(parameter), *rest])]
     return [*kept, *of_arrays(found)]
 
 
@@ -521,13 +533,23 @@ def stub_of_pairs(name: str, call: Call) -> str:
     return overloads(name, found)
 
 
+def classes_of_arrays() -> str:
+    """The classes of results of arrays of numpy. Their fields are those of the results in C."""
+    fields = {name: [path.removeprefix('.') for path, _ in results(forms[0])]
+              for end, (_, name) in CLASSES.items() for _, forms in public_calls()
+              if end in forms[0].result}
+    return '\n'.join(f'class _{name}Arrays(NamedTuple):  # `{name}` of arrays of numpy\n'
+                     + ''.join(f'    {field}: {MADE}\n' for field in names)
+                     for name, names in fields.items())
+
+
 def stubs() -> str:
     """The types of the calls for Python."""
     named = public_calls()
     public = sorted([name for name, _ in named] + list(ALIASES))
     text = (''.join(stub(name, forms) for name, forms in named)
             + ''.join(f'{alias} = {name}\n' for alias, name in ALIASES.items()))
-    return filled('_calls.pyi', calls=text,
+    return filled('_calls.pyi', calls=text, classes=classes_of_arrays(),
                   names='\n'.join(f'    {line}'
                                   for line in textwrap.wrap(', '.join(map(repr, public)) + ',',
                                                             110)))

@@ -55,11 +55,16 @@ def returned(call: Call) -> str:
     )
 
 
-def by_one(call: Call) -> str:
-    """What a loop does first whose second number is one for all, if there is a call of that."""
+def of_each(call: Call) -> str:
+    """What a loop does first, if there is a call of lists: of two, or of one and a number that is
+    one for all."""
     each = EXPORTS().all_forms().get(call.name + EACH, [])
     return ''.join(
-        filled('by_one.c', type=TYPES[LETTERS[form.form]], symbol=form.symbol)
+        filled(
+            'by_both.c' if all(parameter.item for parameter in form.parameters) else 'by_one.c',
+            type=TYPES[LETTERS[form.form]],
+            symbol=form.symbol,
+        )
         for form in each
         if form.form == call.form
     )
@@ -86,7 +91,7 @@ def loop(call: Call) -> str:
     given = arguments(call, lambda k, kind: f'AT(const {TYPES[LETTERS[kind]]}, {k})')
     return filled(
         'loop.c',
-        opening=opening(last, has_status) + by_one(call),
+        opening=opening(last, has_status) + of_each(call),
         closing='    failures += failed != CELLARCOVE_ANSWER;' * has_status,
         name=name,
         type=c_type(call.result),

@@ -38,7 +38,8 @@ IMPORT = re.compile(r'(?:pub )?((?:ghost )?use .*);')
 CODE = re.compile(r'^ *```.*?^ *```$|`[^`\n]*`', re.M | re.S)
 # in a line, or the target of links that name it
 LINK = re.compile(r'(?:\]\(|^\[[^\]\n]+\]: )([^()\s]+)', re.M)
-COPIED = re.compile(r'^ *cp -r \S*crates/\{(.*)\} ', re.M)     # crates that a page says to copy
+# crates that a page says to copy or to unpack
+COPIED = re.compile(r'^ *(?:cp -r|tar -xf \S+) \S*crates/\{(.*)\}(?: |$)', re.M)
 HEADING = re.compile(r'^#{1,6} (.*)$', re.M)
 NAMED = re.compile(r'((?:`\w+`(?:,| and|, and)? )*(?:of )?)`(crates/[\w/]+\.(?:rt|antt))`')
 MESSAGE = re.compile(r'[a-z`].* .*')

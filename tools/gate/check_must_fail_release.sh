@@ -8,8 +8,8 @@
 # reject, and each other mutant, `rt must-fail` tries alone, in the place of those of must-fail. As
 # soon as a list was tried, it prints a line for each mutant that was rejected, and out/rejected
 # keeps that line by the checksums of the mutant, of the kit, and of the sources of the crate and of
-# those below it. So a run tries what has changed, and a run that was stopped goes on. At the end it
-# prints what else `rt` said, and a count.
+# those below it, with their lines in crates.txt. So a run tries what has changed, and a run that was
+# stopped goes on. At the end it prints what else `rt` said, and a count.
 #
 # The libraries below are those that `.ci/run` has left, if it has passed at this commit, or that
 # `rt lib` makes of what `rt check` has kept.

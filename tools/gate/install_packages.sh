@@ -1,6 +1,6 @@
 #!/usr/bin/env bash
 # Installs the packages of Debian that the gate needs and that this machine lacks: for plain Rust the sources of num-integer and
-# num-traits, of the packages that depend on them and whose tests are run, and of serde; for the tools pytest, flake8, mypy and shellcheck; for
+# num-traits, of the packages that depend on them and whose tests are run, and of serde; for the tools pytest, flake8, mypy, shellcheck and xz; for
 # wheels hatchling, with numpy, pandas and dask for its tests; for 32 bits and for WebAssembly compilers, one of them with the sources of its library; and if Node is there, for
 # JavaScript the compiler of TypeScript, Chromium, Firefox, and what bundles. With --all it installs what the other targets of a release and
 # the theorems in Coq need too, and what makes clean roots of Debian.
@@ -26,6 +26,7 @@ python3 -c 'import pytest' 2>/dev/null || /usr/bin/python3 -c 'import pytest' 2>
 for name in flake8 mypy shellcheck; do
     command -v "$name" >/dev/null || missing+=("$name")
 done
+command -v xz >/dev/null || missing+=(xz-utils)
 [ -d /usr/lib/rustlib/src/rust/library/core ] || missing+=(rustc-web rust-web-src)
 command -v i686-linux-gnu-gcc >/dev/null || missing+=(gcc-i686-linux-gnu libc6-dev-i386-cross)
 if command -v node >/dev/null; then

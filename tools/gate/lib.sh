@@ -96,28 +96,50 @@ crates_of() {
     done
 }
 
-# sum_of NAME: a checksum of the kit, and of the sources of the crate and of those below it.
+# sum_of NAME: a checksum of the kit, of the sources of the crate and of those below it, and of their
+# lines in crates.txt.
 sum_of() {
-    local below each sources=()
+    local below each lines='' sources=()
     for below in $(crates_of "$1" | sort -u); do
+        lines+=$(sed -nE "/^$below( staticlib)?:/p" crates.txt)' '
         for each in "crates/$below"/{src,specs,proofs}; do
             [ ! -d "$each" ] || sources+=("$each")
         done
     done
-    { rt version && cat HANDLES &&
+    { rt version && cat HANDLES && echo "$lines" &&
         find "${sources[@]}" -type f | LC_ALL=C sort | xargs sha256sum; } |
         sha256sum | cut -d ' ' -f 1
 }
 
-# keeps_verdicts LOG: out/verdicts keeps the line by which `rt ci` says that a crate is proved, by the checksum of its sources.
-keeps_verdicts() {
-    local name line
-    mkdir -p out/verdicts
+# sums: the name of each crate and the checksum of its sources, a crate a line.
+sums() {
+    local name sum
     for name in crates/*; do
         name=${name#crates/}
-        line=$(awk -v name="$name" '/^== /{ on = $2 == name } on && /^logic=proved / { print; exit }' "$1")
-        [ -z "$line" ] || echo "$(sum_of "$name") $line" >"out/verdicts/$name"
+        sum=$(sum_of "$name") && echo "$name $sum" || return
     done
+}
+
+# line_of NAME LOG: the line of the proof of a crate, if `rt ci` says next that the crate is proved. It
+# rejects some of these lines.
+line_of() {
+    awk -v begin="== $1" -v proved="rt: $1 proved" -v kept="rt: $1 is kept" '
+        /^== / { on = $0 == begin; line = "" }
+        /^logic=/ { line = /^logic=proved / ? $0 : "" }
+        on && ($0 == proved || index($0, kept) == 1) { print line; exit }' "$2"
+}
+
+# keeps_verdicts LOG SUMS: out/verdicts keeps the line by which `rt ci` says that a crate is proved,
+# by the checksum of its sources, if it is the same as before the run.
+keeps_verdicts() {
+    local name sum line
+    mkdir -p out/verdicts
+    while read -r name sum <&3; do
+        line=$(line_of "$name" "$1")
+        if [ -n "$line" ] && [ "$(sum_of "$name")" = "$sum" ]; then
+            echo "$sum $line" >"out/verdicts/$name"
+        fi
+    done 3<"$2"
 }
 
 # verdict_of NAME: the line that is kept of these sources.
@@ -130,10 +152,27 @@ is_current() {
     [ -e "$1" ] && [ -z "$(find "${sources[@]}" -newer "$1" | head -n 1)" ]
 }
 
-# packed TOP FILE: the folder TOP of $work/packed as an archive, the same for the same files.
+# was_left NAME: `rt ci` has proved the crate as it is here, and left its library: no other command
+# leaves one without a stamp, and no source is newer. If not, it says which does not hold.
+was_left() {
+    local library=crates/$1/out/rlib why=
+    if [ ! -d "$library/$1.rlib" ]; then
+        why='is not there'
+    elif [ -e "$library/stamp" ]; then
+        why='has a stamp, which `rt ci` does not write'
+    elif ! is_current "$library/$1.rlib/format" "$1"; then
+        why='is older than its sources'
+    elif ! verdict_of "$1" >/dev/null; then
+        why='is of sources that `rt ci` has not proved'
+    fi
+    [ -z "$why" ] || { echo "$library/$1.rlib $why: run .ci/run" && return 1; }
+}
+
+# packed TOP FILE: the folder TOP of $work/packed as an archive, the same for the same files. If FILE
+# ends in .xz, xz looks for what is repeated as far back as the libraries of Rattle are long.
 packed() {
     tar -C "$work/packed" --sort=name --format=gnu --mtime="@${SOURCE_DATE_EPOCH:-0}" --owner=0 --group=0 --numeric-owner \
-        --mode=u=rwX,go=rX -cf - "$1" | gzip -9n >"$2"
+        --mode=u=rwX,go=rX -cf - "$1" | case $2 in *.xz) xz -T1 --lzma2=preset=3,dict=384MiB ;; *) gzip -9n ;; esac >"$2"
 }
 
 # package_num_integer RUST CRATE FOLDER: the package num-integer, which takes the crate from the folder beside its own.

@@ -5,10 +5,10 @@
 #
 # FOLDER, `dist` if none is given, gets the packages for cargo, the wheel and the source distribution for pip, an archive for C
 # and C++, the proved program intcalc, the package for npm with the WebAssembly that Rattle makes too, the page on which a call is
-# tried, an archive of the sources, the verdicts of the proofs, a bill of materials and SHA256SUMS, as soon as they are tried, and
-# NOTES.md once all else has passed. They are made of a clean clone of the commit that `.ci/run`
+# tried, the crates for Rattle with their proved libraries, an archive of the sources, the verdicts of the proofs, a bill of materials and
+# SHA256SUMS, as soon as they are tried, and NOTES.md once all else has passed. They are made of a clean clone of the commit that `.ci/run`
 # has passed in this checkout, and once more in another folder: both have the same sums. Rattle has made the static library in the gate,
-# or cargo makes it if there is no `rt`. Each file is tried without a net and without `rt`.
+# or cargo makes it if there is no `rt`. Each file is tried without a net and without `rt`, and the crates for Rattle with it.
 #
 # Then it runs the slow checks side by side: all targets, the second suite of mutants, the first lines of both suites, for plain Rust
 # each guard taken out and 20 small wrong bodies, both programs for 100,000 requests, and where mmdebstrap is there Debian's packages and
@@ -118,6 +118,34 @@ for_intcalc() {
         without_other_pages "$1/docs/INTCALC.md" >"$work/packed/$top/INTCALC.md" && packed "$top" "$2/$top.tar.gz"
 }
 
+# libraries: the crates of which a page CALLING.md says how they are called, and those below them.
+libraries() {
+    local page
+    for page in crates/*/CALLING.md; do crates_of "$(basename "${page%/*}")"; done | sort -u
+}
+
+# lines_of NAME..: which kit has proved these crates, and their lines of crates.txt.
+lines_of() {
+    echo "# Cellarcove $version, as $(rt version) has proved it"
+    grep -E "^($(IFS='|' && echo "$*")): " crates.txt
+}
+
+# for_rattle CLONE FOLDER: the crates for Rattle, each with the licences and with the library that
+# `rt ci` has left in this checkout, stamped so that `rt check` proves none again.
+for_rattle() {
+    local name there=$work/packed/crates names=()
+    has_rt || return 0
+    mapfile -t names < <(libraries)
+    rm -rf "$work/packed" && mkdir -p "$there" || return
+    for name in "${names[@]}"; do
+        was_left "$name" && mkdir -p "$there/$name/out/rlib" &&
+            cp -r "$1"/LICENSE-* "$1/crates/$name"/{src,specs,proofs} "$there/$name" &&
+            cp -r "crates/$name/out/rlib/$name.rlib" "$there/$name/out/rlib" || return
+    done
+    lines_of "${names[@]}" >"$there/cellarcove.txt" && cp "$there/cellarcove.txt" "$work/packed/crates.txt" &&
+        python3 tools/gate/stamps.py "$work/packed" && packed crates "$2/cellarcove-rattle-$version.tar.xz"
+}
+
 sources() {
     git -C "$1" archive --format=tar --prefix="cellarcove-$version/" HEAD | gzip -9n >"$2/cellarcove-$version-source.tar.gz"
 }
@@ -126,7 +154,8 @@ sources() {
 make_files() {
     local here=$work/$1/clone there=$work/$1/files
     mkdir -p "$there" && clone "$here" && for_cargo "$here" "$there" && for_pip "$here" "$there" && for_c "$here" "$there" &&
-        for_intcalc "$here" "$there" && for_npm "$here" "$there" && sources "$here" "$there" && (cd "$there" && sha256sum -- *) >"$work/$1/SHA256SUMS"
+        for_intcalc "$here" "$there" && for_npm "$here" "$there" && for_rattle "$here" "$there" && sources "$here" "$there" &&
+        (cd "$there" && sha256sum -- *) >"$work/$1/SHA256SUMS"
 }
 
 # ---- each file, in an empty folder
@@ -145,7 +174,8 @@ enters() { mkdir -p "$work/tried/$1" && cp "$files"/* "$work/tried/$1" && takes_
 # lines NAME LANGUAGE: the first block of a language in a part of README.md. These lines are run word for word.
 lines() { block <(sed -n "/^\*\*$1\*\*/,\$p" "$root/README.md") "$2"; }
 
-# What `rt` says of each crate: in a run of the gate here that proved the same sources, or else now.
+# The line by which each crate is proved: that of `rt ci`, if the gate has proved the same sources
+# here, or else that of `rt verdict` now, which has the same form.
 verdicts() {
     local name
     for name in $(sed -nE 's/^(\w+)( staticlib)?:.*/\1/p' crates.txt); do
@@ -193,6 +223,28 @@ tries_intcalc() {
     enters intcalc && tar -xzf intcalc-*.tar.gz && cd intcalc-*/ && "$root/tools/cellarcove" check sessions bin/intcalc && man --warnings -l share/man/man1/intcalc.1 2>error >page &&
         [ ! -s error ] && grep -q NotFitting page
 }
+
+# first_check NAME..: `rt check` proves the function of docs/RATTLE.md over these libraries, none of
+# which it proves again, in less than a minute of processor time. What takes longer is stopped.
+first_check() {
+    local name said=$PWD/said seconds=$PWD/seconds TIMEFORMAT='%U %S'
+    rm -rf crates/mine/out && (cd crates/mine && ulimit -S -t 60 && { time rt check >"$said" 2>&1; } 2>"$seconds")
+    tail -n 40 "$said" "$seconds"
+    grep -qx 'fn mine::hour_after: proved' "$said" && grep -q '^logic=proved functions=1 ' "$said" &&
+        awk '{ exit $1 + $2 >= 60 }' "$seconds" && [ "$(echo crates/*/out/incremental)" = crates/mine/out/incremental ] || return
+    for name; do grep -q "^statements $name: .* checked=0\$" "$said" || return; done
+}
+
+# tries_rattle: what docs/RATTLE.md says, in an empty repository, and then the same over all libraries.
+tries_rattle() (
+    local names root=$PWD page=$work/page
+    sed 's/^   //' docs/RATTLE.md >"$page" && names=$(libraries) && enters rattle && mkdir mine && cd mine && git init -q . &&
+        bash -e <(block "$page" sh) && { grep -o '`mine: [^`]*' "$page" | tr -d '`' && block "$page" crates; } >crates.txt || exit
+    sed -i '/^#!\[tactic(auto)\]$/q' crates/mine/src/lib.rt && sed '1,/^## First calls/d' "$page" >calls &&
+        { block calls rust && sed '1,/^```$/d' calls | block /dev/stdin rust; } >>crates/mine/src/lib.rt &&
+        first_check integer_core integer_roots num_integer modular && tar -xf ../cellarcove-rattle-*.tar.xz || exit
+    { echo mine: $names && cat crates/cellarcove.txt; } >crates.txt && first_check $names
+)
 
 # tries_javascript: the package passes its tests.
 tries_javascript() {
@@ -251,8 +303,11 @@ notes() {
     [ ! -e "$files/intcalc-$version-$machine.tar.gz" ] || row "intcalc-$version-$machine.tar.gz" 'the proved program for the command line, with a manual page'
     row "cellarcove-$version.tgz" "the package for npm, of WebAssembly that cargo made$(! has_rt || echo ', and of that which Rattle made')"
     row "cellarcove-try-$version.tar.gz" 'a page on which a call is tried, for any web server'
+    [ ! -e "$files/cellarcove-rattle-$version.tar.xz" ] ||
+        row "cellarcove-rattle-$version.tar.xz" "the crates for Rattle, with their libraries as \`$(rt version)\` has proved them"
     row "cellarcove-$version-source.tar.gz" 'all sources'
-    [ ! -e "$files/cellarcove-$version-verdicts.txt" ] || row "cellarcove-$version-verdicts.txt" 'what `rt verdict` says of each crate'
+    [ ! -e "$files/cellarcove-$version-verdicts.txt" ] ||
+        row "cellarcove-$version-verdicts.txt" 'the line of `rt ci` or of `rt verdict` by which each crate is proved'
     row "cellarcove-$version.spdx.json" 'a bill of materials'
     if [ "$mode" = plain ]; then
         printf '\n`.ci/run` was not asked for: nothing of these files was proved here, and Rattle made none of them.\n'
@@ -336,6 +391,7 @@ tried 'the two packages for cargo replace num-integer, by the lines of their pag
 tried 'the wheel is installed by the line of README.md, tested and called at random' alone tries_the_wheel
 tried 'the source distribution is installed, and its tests pass' alone tries_the_source_distribution
 [ ! -e "$files/intcalc-$version-$machine.tar.gz" ] || tried 'the program prints what its page shows, and has a manual page' alone tries_intcalc
+! has_rt || tried 'the crates for Rattle are unpacked by the lines of docs/RATTLE.md, and a first check above them proves none of them again' tries_rattle
 tried 'programs in C and C++ are built by the lines of README.md and docs/C.md, and by pkg-config' alone tries_c
 tried 'the package for npm is installed by the line of README.md, tested, compared with C and called at random' alone tries_javascript
 ! has_rt || tried 'so is the WebAssembly that Rattle made, as cellarcove/proved' alone tries_the_proved_wasm

@@ -61,8 +61,11 @@ def test_pages_alone(tmp_path: Path, link: str, dead: bool) -> None:
 @pytest.mark.parametrize('copied, lines, lacking', [
     ('a,b', 'a: b std\nb: std\n', []), ('a,b', 'a: b std\n', ['no line of b']),
     ('a', 'a: b std\n', ['b is not copied']), ('a,b', '', ['no line of a', 'no line of b'])])
-def test_crates_to_copy(copied: str, lines: str, lacking: list[str]) -> None:
-    text = f'```sh\ncp -r cellarcove/crates/{{{copied}}} crates/\n```\n\n```crates\n{lines}```\n'
+@pytest.mark.parametrize('command', ['cp -r cellarcove/crates/{} crates/',
+                                     'tar -xf ../some-*.tar.xz crates/{}'])
+def test_crates_to_copy(command: str, copied: str, lines: str, lacking: list[str]) -> None:
+    command = command.replace('{}', f'{{{copied}}}')
+    text = f'1. It:\n\n   ```sh\n   {command}\n   ```\n\n```crates\n{lines}```\n'
     assert list(pages.lacking_lines(text, {'a', 'b'})) == lacking
 
 

@@ -3,6 +3,7 @@ threads, and a cluster of dask."""
 
 import ast
 import calendar
+import functools
 import importlib.util
 import itertools
 import math
@@ -273,6 +274,45 @@ class Matrix(unittest.TestCase):
             self.assertEqual(found.tolist(), right)
             self.assertEqual(statuses.tolist(), [2 * (k == place) for k in range(1300)])
 
+    def test_sums_of_columns(self):
+        """Numbers added to numbers, or to one, many at a time, in any layout."""
+        for kind, low in (('i8', -(2**62)), ('u8', 0)):
+            many = numpy.random.default_rng(5).integers(low, low + 2**63, (2, 1300), kind)
+            x, y = many
+            right = [a + b for a, b in zip(x.tolist(), y.tolist())]
+            for count in (0, 1, 511, 512, 513, 1300):
+                found = cellarcove.checked_sum(x[:count], y[:count])
+                self.assertEqual(found.tolist(), right[:count])
+            for part in (slice(None, None, 2), slice(None, None, -1)):
+                found = cellarcove.checked_sum(x[part], y[part])
+                self.assertEqual(found.tolist(), right[part])
+            for pair in ((x, 5), (5, x)):
+                found = cellarcove.checked_sum(*pair)
+                self.assertEqual(found.tolist(), [a + 5 for a in x.tolist()])
+            for part in (slice(None), slice(1, None), slice(None, -1)):
+                room = numpy.zeros(1301, kind)
+                a, out = room[:-1][part], room[1:][part]
+                for to in (a, out):
+                    a[:] = x[part]
+                    cellarcove.checked_sum(y[part], a, out=to)
+                    self.assertEqual(to.tolist(), right[part])
+
+    def test_sums_that_do_not_fit(self):
+        """Sums that do not fit, in any block: each has its status, and the others are there."""
+        for kind, first, step in (('i8', 2**63 - 1, 1), ('i8', -(2**63), -1), ('u8', 2**64 - 1, 1)):
+            for places in ((0,), (511,), (512,), (7, 1299), tuple(range(1300))):
+                x = numpy.zeros(1300, kind)
+                x[list(places)] = first
+                found, statuses = cellarcove.checked_sum(x, step, errors='status')
+                right = [0 if k in places else step for k in range(1300)]
+                self.assertEqual(found.tolist(), right)
+                self.assertEqual(statuses.tolist(), [2 * (k in places) for k in range(1300)])
+                with self.assertRaises(cellarcove.NotFitting) as raised:
+                    cellarcove.checked_sum(x, numpy.full(1300, step, kind))
+                self.assertEqual(
+                    (raised.exception.index, raised.exception.count), (places[0], len(places))
+                )
+
     def test_outputs(self):
         """An output of any layout gets the results, also one that is an input."""
         for layout in (
@@ -421,14 +461,26 @@ def type_of(found):
     return f'tuple[{items}]' if type(found) is tuple else f'_{type(found).__name__}Arrays'
 
 
+def fields_of(stub):
+    """The names of the fields of each class in the stub."""
+    return {
+        each.name: [part.target.id for part in each.body if isinstance(part, ast.AnnAssign)]
+        for each in stub.body
+        if isinstance(each, ast.ClassDef)
+    }
+
+
 @unittest.skipIf(missing, f'there is no {missing}')
 class Types(unittest.TestCase):
     def test_arrays(self):
-        """A call of arrays returns what the stub says: an array, several, or those of a class."""
-        stub = pathlib.Path(cellarcove.__file__).with_name('_calls.pyi').read_text()
+        """A call of arrays returns what the stub says: an array, several, or those of a class,
+        whose fields have the names in the stub. It takes `out` if the stub does."""
+        text = pathlib.Path(cellarcove.__file__).with_name('_calls.pyi').read_text()
+        stub = ast.parse(text)
+        fields = fields_of(stub)
         made = [
             (function, ast.unparse(function.returns))
-            for function in ast.parse(stub).body
+            for function in stub.body
             if isinstance(function, ast.FunctionDef)
         ]
         made = [each for each in made if 'NDArray' in each[1] or each[1].endswith('Arrays')]
@@ -436,10 +488,22 @@ class Types(unittest.TestCase):
         for function, wanted in made:
             for given, named in calls_of(function):
                 with self.subTest(function.name, given=given, named=named):
-                    found = getattr(cellarcove, function.name)(*given, **named)
+                    call = functools.partial(getattr(cellarcove, function.name), *given, **named)
+                    found = call()
                     self.assertEqual(type_of(found), wanted)
-                    for each in [found] if isinstance(found, numpy.ndarray) else found:
-                        self.assertIs(type(each), numpy.ndarray)
+                    self.assertEqual([*getattr(found, '_fields', [])], fields.get(wanted, []))
+                    arrays = [found] if isinstance(found, numpy.ndarray) else found
+                    self.assertEqual({type(each) for each in arrays}, {numpy.ndarray})
+                    self.write(call, arrays, [each.arg for each in function.args.kwonlyargs])
+
+    def write(self, call, right, names):
+        """A call writes its results into other arrays, or it is an error if it has no `out`."""
+        out = tuple(map(numpy.zeros_like, right))
+        if 'out' not in names:
+            self.assertRaisesRegex(TypeError, 'takes no out', call, out=out)
+            return
+        call(out=out)
+        self.assertEqual([each.tolist() for each in out], [each.tolist() for each in right])
 
 
 def pick(nested, k):

@@ -98,6 +98,11 @@ floored_list_is_only divisor numbers p q h k =
     ext_get_or (pos 0) p q (h.one_each ∙ sym k.one_each)
     (λ i within. quotient_is_only.1 (get_or numbers i (pos 0)) divisor (get_or q i (pos 0)) (k.each i (omega (arith, within, h.one_each))) (get_or p i (pos 0)) (h.each i (omega (arith, within, h.one_each))))
 
+pub summed_list_is_only : law.SummedListIsOnly
+summed_list_is_only a b p q h k =
+    ext_get_or (pos 0) p q (h.one_each ∙ sym k.one_each)
+    (λ i within. h.each i (omega (arith, within, h.one_each)) ∙ sym (k.each i (omega (arith, within, h.one_each))))
+
 pub fewest_pages_is_only : law.FewestPagesIsOnly
 fewest_pages_is_only items page_size a b h k = let most = h.fewest b k.enough in let least = k.fewest a h.enough in grind (arith, linear)
 

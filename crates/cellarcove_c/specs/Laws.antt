@@ -12,6 +12,7 @@ use Rattle.ratio64.specs.declared.fraction.Ratio.{Ratio}
 use Rattle.ratio64.specs.declared.parse.ParseRatioError.{ParseRatioError}
 use Rattle.modular.specs.declared.congruent_numbers.Congruence.{Congruence}
 use Rattle.cellarcove_c.specs.Answers.{Answers}
+use Rattle.cellarcove_c.specs.ArraySums.{AreSums}
 use Rattle.cellarcove_c.specs.Congruences.{AnswersModulo, IsClassOfBoth, IsNextOfSeveral}
 use Rattle.cellarcove_c.specs.Dates.{IsDayOfIsoNumber, IsMonthsLater, IsOfIsoNumber, MatchMonthsBetween, MatchYearsBetween}
 use Rattle.cellarcove_c.specs.DateTexts.{ReadsDate}
@@ -60,6 +61,10 @@ NextOfSeveralIsOnly {X} value fits = (from : ℤ) (congruences : List (Congruenc
 -- Numbers have at most one list of quotients by a divisor.
 abbrev pub FlooredListIsOnly : Type 0
 FlooredListIsOnly = (divisor : ℤ) (numbers p q : List ℤ) → AreFloored divisor numbers p → AreFloored divisor numbers q → p ≡ q
+
+-- Two lists have at most one list of sums.
+abbrev pub SummedListIsOnly : Type 0
+SummedListIsOnly = (a b p q : List ℤ) → AreSums a b p → AreSums a b q → p ≡ q
 
 -- Each number of items has at most one fewest number of pages.
 abbrev pub FewestPagesIsOnly : Type 0

@@ -1,5 +1,6 @@
 pub mod Statuses
 pub mod Answers
+pub mod ArraySums
 pub mod Quotients
 pub mod Roots
 pub mod Paging

@@ -1,7 +1,7 @@
 //! Exact fractions. A fraction that is passed is reduced first, and a part of it that does not fit
 //! then is rejected. If both fractions are rejected, the status is that of the first.
 
-ghost use Rattle.std.specs.Prelude.{◌≡◌, ◌<ℤ◌, ◌≤ℤ◌, pos, Err, MatchResult, Ok, Result};
+ghost use Rattle.std.specs.Prelude.{◌≡◌, ◌<ℤ◌, ◌≤ℤ◌, ◌*ℤ◌, pos, Err, MatchResult, Ok, Result};
 ghost use Rattle.ratio64.specs.Fraction.{fraction_cmp};
 ghost use Rattle.ratio64.specs.Limiting.{IsNearestWithin};
 ghost use Rattle.ratio64.specs.Ratio.{AnswersFraction, den_of, num_of};
@@ -163,11 +163,11 @@ pub extern "C" fn cellarcove_fraction_cmp(a: Fraction, b: Fraction) -> OrderAnsw
         ≡ order_number (fraction_cmp (num_of x) (den_of x) (num_of y) (den_of y))))
         (λ e. (result.status ≡ number_of e) × (result.order ≡ pos 0)) }
 {
+    if a.den > 0 && b.den > 0 {
+        return OrderAnswer::of(order_by_products(a, b));
+    }
     match order(a.reduced(), b.reduced()) {
-        Ok(order) => OrderAnswer {
-            status: ANSWER,
-            order: number_of_order(order),
-        },
+        Ok(order) => OrderAnswer::of(order),
         Err(error) => OrderAnswer {
             status: error.number(),
             order: 0,
@@ -247,6 +247,18 @@ impl FractionAnswer {
     }
 }
 
+impl OrderAnswer {
+    /// Returns an order.
+    fn of(order: Ordering) -> OrderAnswer
+        ensures { result ≡ record { status = 0; order = order_number order } }
+    {
+        OrderAnswer {
+            status: ANSWER,
+            order: number_of_order(order),
+        }
+    }
+}
+
 /// Returns the sum of two fractions, or the first error.
 fn sum(a: Result<Ratio, RatioError>, b: Result<Ratio, RatioError>) -> Result<Ratio, RatioError>
     ensures { IsSumOf a b result }
@@ -320,6 +332,20 @@ fn order(a: Result<Ratio, RatioError>, b: Result<Ratio, RatioError>) -> Result<O
         (λ e. result ≡ Err e) }
 {
     Ok(a?.cmp(&b?))
+}
+
+/// Returns the order of two fractions whose denominators are positive. They need not be reduced.
+fn order_by_products(a: Fraction, b: Fraction) -> Ordering
+    ensures { result ≡ fraction_cmp a.num a.den b.num b.den }
+{
+    wide_product(a.num, b.den).cmp(&wide_product(b.num, a.den))
+}
+
+/// Returns the product, which has 128 bits.
+fn wide_product(a: i64, b: i64) -> i128
+    ensures { result ≡ a *ℤ b }
+{
+    i128::from(a) * i128::from(b)
 }
 
 /// Returns the number of an order.

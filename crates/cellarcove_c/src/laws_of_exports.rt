@@ -10,7 +10,7 @@ ghost use Rattle.num_integer.specs.RootOf.{IsRoot};
 ghost use Rattle.ratio64.specs.Ratio.{AnswersFraction, den_of, num_of};
 ghost use Rattle.ratio64.specs.Rounding.{IsRounded};
 ghost use Rattle.cellarcove_c.specs.Congruences.{IsNever};
-ghost use Rattle.cellarcove_c.specs.Laws.{AnswersIsOnly, AnswersModuloIsOnly, ClassOfBothIsOnly, DayOfIsoNumberIsOnly, FewestPagesIsOnly, FlooredListIsOnly, FractIsOnly, InDigitsIsOnly, InPartsIsOnly, MonthsBetweenIsOnly, MonthsLaterIsOnly, NextOfSeveralIsOnly, OfIsoNumberIsOnly, OnBothIsOnly, OrderNumberIsOnly, PaddingIsOnly, PowerIsOnly, ReadDateIsOnly, ReasonIsOnly, RootWithRestIsOnly, StandsForDecimalIsOnly, StandsForIsOnly, StandsForNumberIsOnly, StandsForReadIsOnly, YearsBetweenIsOnly};
+ghost use Rattle.cellarcove_c.specs.Laws.{AnswersIsOnly, AnswersModuloIsOnly, ClassOfBothIsOnly, DayOfIsoNumberIsOnly, FewestPagesIsOnly, FlooredListIsOnly, FractIsOnly, InDigitsIsOnly, InPartsIsOnly, MonthsBetweenIsOnly, MonthsLaterIsOnly, NextOfSeveralIsOnly, OfIsoNumberIsOnly, OnBothIsOnly, OrderNumberIsOnly, PaddingIsOnly, PowerIsOnly, ReadDateIsOnly, ReasonIsOnly, RootWithRestIsOnly, StandsForDecimalIsOnly, StandsForIsOnly, StandsForNumberIsOnly, StandsForReadIsOnly, SummedListIsOnly, YearsBetweenIsOnly};
 ghost use Rattle.cellarcove_c.specs.Statuses.{StatusIs, no_solution, outside};
 
 /// States each law. A law about every property is stated for one. No export calls it.
@@ -22,6 +22,7 @@ fn laws()
     ensures class_of_both_is_only { ClassOfBothIsOnly (λ x. pos x) (FitsUnsignedBits 64) }
     ensures next_of_several_is_only { NextOfSeveralIsOnly (λ x. x) (FitsSigned w64) }
     ensures floored_list_is_only { FlooredListIsOnly }
+    ensures summed_list_is_only { SummedListIsOnly }
     ensures fewest_pages_is_only { FewestPagesIsOnly }
     ensures padding_is_only { PaddingIsOnly }
     ensures root_with_rest_is_only { RootWithRestIsOnly }

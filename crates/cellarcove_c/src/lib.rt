@@ -3,6 +3,7 @@
 #![tactic(auto)]
 
 mod answers;
+mod array_sums;
 mod binomials;
 mod coefficients;
 mod congruences;

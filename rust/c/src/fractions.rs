@@ -127,11 +127,11 @@ pub extern "C" fn cellarcove_fraction_times(a: Fraction, n: i64, d: i64) -> Frac
 /// not fit.
 #[unsafe(no_mangle)]
 pub extern "C" fn cellarcove_fraction_cmp(a: Fraction, b: Fraction) -> OrderAnswer {
+    if a.den > 0 && b.den > 0 {
+        return OrderAnswer::of(order_by_products(a, b));
+    }
     match order(a.reduced(), b.reduced()) {
-        Ok(order) => OrderAnswer {
-            status: ANSWER,
-            order: number_of_order(order),
-        },
+        Ok(order) => OrderAnswer::of(order),
         Err(error) => OrderAnswer {
             status: error.number(),
             order: 0,
@@ -188,6 +188,16 @@ impl FractionAnswer {
         FractionAnswer {
             status,
             value: Fraction { num: 0, den: 0 },
+        }
+    }
+}
+
+impl OrderAnswer {
+    /// Returns an order.
+    fn of(order: Ordering) -> OrderAnswer {
+        OrderAnswer {
+            status: ANSWER,
+            order: number_of_order(order),
         }
     }
 }
@@ -252,6 +262,16 @@ fn order(
     b: Result<Ratio, RatioError>,
 ) -> Result<Ordering, RatioError> {
     Ok(a?.cmp(&b?))
+}
+
+/// Returns the order of two fractions whose denominators are positive. They need not be reduced.
+fn order_by_products(a: Fraction, b: Fraction) -> Ordering {
+    wide_product(a.num, b.den).cmp(&wide_product(b.num, a.den))
+}
+
+/// Returns the product, which has 128 bits.
+fn wide_product(a: i64, b: i64) -> i128 {
+    i128::from(a) * i128::from(b)
 }
 
 /// Returns the number of an order.

@@ -51,6 +51,7 @@ pub extern "C" fn cellarcove_built_by() -> *const c_char {
 }
 
 mod answers;
+mod array_sums;
 mod binomials;
 mod coefficients;
 mod congruences;

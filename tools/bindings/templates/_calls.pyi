@@ -41,18 +41,7 @@ class _Masked(SupportsColumn, Protocol):  # an array of numpy with a mask
     @property
     def mask(self) -> Any: ...
 
-class _ExtendedGcdArrays(NamedTuple):  # an `ExtendedGcd` of arrays of numpy
-    gcd: NDArray[Any]
-    x: NDArray[Any]
-    y: NDArray[Any]
-
-class _SolutionsArrays(NamedTuple):  # `Solutions` of arrays of numpy
-    first: NDArray[Any]
-    step: NDArray[Any]
-
-class _IsoWeekArrays(NamedTuple):  # an `IsoWeek` of arrays of numpy
-    year: NDArray[Any]
-    week: NDArray[Any]
+{classes}
 
 _Kept = _Hashed | _Series | _Masked | SupportsColumns | array[int] | memoryview
 _Column = SupportsColumn | SupportsColumns | array[int] | memoryview
