@@ -51,7 +51,10 @@ times_from period to start [] none =
 times_from {from = from} {first = first} {start = start'} period to start (t ∷ items) (next, rest) = (
   record {
     from_there = omega (linear, start.from_there, next.from_there);
-    holds = record { time = record { from_first = omega (linear, start.holds, next.from_there); congruent = next.holds.congruent }; to_there = next.holds.to_there };
+    holds = record {
+      time = record { from_first = omega (linear, start.holds, next.from_there); congruent = next.holds.congruent };
+      to_there = next.holds.to_there;
+    };
     least = λ u above h. next.least u (start.least u above h.time.from_first) record { to_there = h.to_there; congruent = h.time.congruent };
   },
   times_from {from = t +ℤ pos 1} {first = first} {start = t +ℤ pos 1} period to

@@ -92,7 +92,10 @@ next_multiple_is_aligned offset alignment up =
     let own = next_multiple_is offset alignment up in
     let next = next_multiple_least {n = pos offset} {d = pos alignment} {m = pos (next_multiple_of offset alignment)} (omega ints) (record {
       quotient = own.2.factor;
-      is = record { remainder = pos offset -ℤ pos (next_multiple_of offset alignment); division = ceiled_by_range (omega (products, own.2.product)) (omega (ints, own.0)) (omega (ints, own.1)) };
+      is = record {
+        remainder = pos offset -ℤ pos (next_multiple_of offset alignment);
+        division = ceiled_by_range (omega (products, own.2.product)) (omega (ints, own.0)) (omega (ints, own.1));
+      };
       product = omega (products, own.2.product);
     }) in
     record { from_offset = next.0; multiple = next.2; least = next.3 }

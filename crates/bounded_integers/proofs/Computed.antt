@@ -28,7 +28,8 @@ negated_by_last {n} {d} {q} {r} e division =
     omega (arith, sizes, whole.equation, whole.small, negated, mul-one q)
 
 -- which is in the range, or -low
-negation_inside : {low high n q : ℤ} → IsRange (Between low high) low high → low ≤ℤ negsuc 0 → Between low high n → q ≡ neg_ℤ n → Between low high q ⊎ (q ≡ neg_ℤ low)
+negation_inside : {low high n q : ℤ} → IsRange (Between low high) low high → low ≤ℤ negsuc 0
+    → Between low high n → q ≡ neg_ℤ n → Between low high q ⊎ (q ≡ neg_ℤ low)
 negation_inside {low} {high} {n} {q} range signed inside e = elim (zero_or_not (n +ℤ neg_ℤ low)) [
   | inl least ↦ inr (omega (arith, linear))
   | inr other ↦ inl (grind (arith, linear, range.low_end, range.positive))
@@ -41,7 +42,8 @@ module _ {fits : ℤ → Type 0} {low high least most : ℤ} (native : IsRange f
   computed {z} inside = (native.between z).1 (omega (arith, linear, inside, (native.between low).0 ends.0, (native.between high).0 ends.1))
 
   -- and each result on two numbers that the form has
-  pub each_computed : (answer : ℤ → ℤ → ℤ → Type 0) {v w m n : ℤ} → v ≡ m → w ≡ n → EachFits (Between low high) (answer m n) → EachFits fits (answer v w)
+  pub each_computed : (answer : ℤ → ℤ → ℤ → Type 0) {v w m n : ℤ} → v ≡ m → w ≡ n
+      → EachFits (Between low high) (answer m n) → EachFits fits (answer v w)
   each_computed answer e f each = λ z is. computed (result_inside answer e f each is)
 
   -- and the quotient of any two of its numbers

@@ -2,7 +2,8 @@
 use Rattle.callers.proofs.Common.{AreCongruent, IsResidue, arith, congruent_difference, congruent_refl, congruent_sum, congruent_sym, congruent_trans, congruent_is_natural, ints, pos, pos-*ℤ-pos, sym, ℕ, ◌%◌, ◌*ℤ◌, ◌*◌, ◌+ℤ◌, ◌+◌, ◌-ℤ◌, ◌<◌, ◌↔◌, ◌∙◌, ◌≡◌}
 
 -- x is encrypted to b exactly if f·x is the residue of b - s
-pub is_decrypted : (f s x : ℕ) {m b : ℕ} → b < 256 → IsResidue (pos 256) (pos b -ℤ pos s) (pos m) → AreCongruent (pos 256) (pos f *ℤ pos x) (pos m) ↔ ((f * x + s) % 256 ≡ b)
+pub is_decrypted : (f s x : ℕ) {m b : ℕ} → b < 256 → IsResidue (pos 256) (pos b -ℤ pos s) (pos m)
+    → AreCongruent (pos 256) (pos f *ℤ pos x) (pos m) ↔ ((f * x + s) % 256 ≡ b)
 is_decrypted f s x {b = b} below moved =
     let sum : pos f *ℤ pos x +ℤ pos s ≡ pos (f * x + s) = omega (arith, ints, pos-*ℤ-pos f x) in
     let rest : pos (f * x + s) -ℤ pos s ≡ pos f *ℤ pos x = omega (arith, ints, pos-*ℤ-pos f x) in

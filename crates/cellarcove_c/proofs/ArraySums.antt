@@ -20,7 +20,8 @@ module _ {X : Type 0} (value : X → ℤ) (a b : List X) {i : ℕ} {x y : X} (in
       let right : get_or (map value b) i (pos 0) ≡ value y = get_or-map value b i y (pos 0) (omega (arith, in_a, same)) ∙ ap value (sym y_is) in
       rw (left, right) refl
 
-  pub one_more_fits : (fits : ℤ → Type 0) (so_far now : Bool) → IsTrue so_far ↔ SumsFitTo fits i (map value a) (map value b) → IsTrue now ↔ fits (value x +ℤ value y)
+  pub one_more_fits : (fits : ℤ → Type 0) (so_far now : Bool)
+      → IsTrue so_far ↔ SumsFitTo fits i (map value a) (map value b) → IsTrue now ↔ fits (value x +ℤ value y)
       → IsTrue (so_far && now) ↔ SumsFitTo fits (i + 1) (map value a) (map value b)
   one_more_fits fits false now before this = (λ h. absurd (false≢true h), λ all. before.1 (λ k below. all k (omega (arith, below))))
   one_more_fits fits true now before this = (

@@ -14,7 +14,8 @@ module _ {X : Type 0} (value : X → ℤ) (fits : ℤ → Type 0) (a m b n : ℤ
     -- where the least common multiple fits
     pub class_is : EachFits fits (IsLeastCommonMultiple m n) → (status : ℕ) (class : Congruence X) (o : Option (Congruence X))
         → MatchOption o (IsNever Both) (λ s. fits (value s.residue) × fits (value s.modulus) × IsResidueClass Both (value s.residue) (value s.modulus)) → answer_of status class ≡ o
-        → Refuses (StatusIs no_solution) zeros status class → IsClassOfBoth value fits a m b n (zeros.residue, zeros.modulus) status (class.residue, class.modulus)
+        → Refuses (StatusIs no_solution) zeros status class
+        → IsClassOfBoth value fits a m b n (zeros.residue, zeros.modulus) status (class.residue, class.modulus)
     class_is lcm_fits zero class o own same refuses =
         let found = subst (λ (p : Option (Congruence X)). MatchOption p (IsNever Both) (λ s. fits (value s.residue) × fits (value s.modulus) × IsResidueClass Both (value s.residue) (value s.modulus))) (sym same) own in
         let (x, solves) = class_has found.2 in
@@ -39,8 +40,10 @@ module _ {X : Type 0} (value : X → ℤ) (fits : ℤ → Type 0) (a m b n : ℤ
         }
 
     -- where it does not
-    pub reason_is : ¬ (EachFits fits (IsLeastCommonMultiple m n)) → (status : ℕ) → (status ≡ not_fitting) ↔ ((x : ℤ) × Both x) → (status ≡ no_solution) ↔ IsNever Both
-        → StatusIsOneOf not_fitting no_solution status → IsClassOfBoth value fits a m b n (zeros.residue, zeros.modulus) status (zeros.residue, zeros.modulus)
+    pub reason_is : ¬ (EachFits fits (IsLeastCommonMultiple m n)) → (status : ℕ)
+        → (status ≡ not_fitting) ↔ ((x : ℤ) × Both x) → (status ≡ no_solution) ↔ IsNever Both
+        → StatusIsOneOf not_fitting no_solution status
+        → IsClassOfBoth value fits a m b n (zeros.residue, zeros.modulus) status (zeros.residue, zeros.modulus)
     reason_is beyond status fitting solved either = record {
       answer = λ _ _ lcm_fits. absurd (beyond lcm_fits);
       modulus_is_bad = (λ same. absurd (no_third either (λ e. absurd (omega (arith, e))) (λ e. absurd (omega (arith, e))) same), λ bad. absurd (not_bad good.0 good.1 bad));

@@ -12,7 +12,8 @@ class_has {first = first} h = (first, h.no_other first (congruent_refl first))
 
 -- the value of a common solution is in range
 pub value_in_range : {X : Type 0} (value : X → ℤ) (fits : ℤ → Type 0) (from : ℤ) (Solves : ℤ → Type 0) (zero_value : X) (status : ℕ) (solution : X) (found : CommonSolution X)
-    → MatchCommonSolution found (IsNever Solves) (IsBeyond fits (IsLeastFrom from Solves)) (λ t. fits (value t) × IsLeastFrom from Solves (value t)) → common_solution_of status solution ≡ found
+    → MatchCommonSolution found (IsNever Solves) (IsBeyond fits (IsLeastFrom from Solves)) (λ t. fits (value t) × IsLeastFrom from Solves (value t))
+    → common_solution_of status solution ≡ found
     → Refuses (StatusIsOneOf not_fitting no_solution) zero_value status solution → fits (value zero_value) → fits (value solution)
 value_in_range {X} value fits from Solves zero_value zero solution found own same refuses zero_fits =
     (subst (λ (s : CommonSolution X). MatchCommonSolution s (IsNever Solves) (IsBeyond fits (IsLeastFrom from Solves)) (λ t. fits (value t) × IsLeastFrom from Solves (value t))) (sym same) own).0

@@ -38,7 +38,8 @@ negative_or : (a b : ℕ) → a < 2 ^ 64 → b < 2 ^ 64 → (2 ^ 63 ≤ a) ⊎ (
 negative_or a b a_fits b_fits one =
     negative_of_bits (2 ^ 64 - 1 - bit_or a b) (bit_or a b) (omega (arith, or_lt 64 a b a_fits b_fits)) (omega (arith, one, le_or_l a b, le_or_r a b))
 
-pub negative_unless_positive_is : (x : ℤ) → FitsSigned w64 x → (to_z w64 (bit_or ((of_z w64 x + (2 ^ 64 - 1)) % 2 ^ 64) (of_z w64 x)) <ℤ pos 0) ↔ (x ≤ℤ pos 0)
+pub negative_unless_positive_is : (x : ℤ) → FitsSigned w64 x
+    → (to_z w64 (bit_or ((of_z w64 x + (2 ^ 64 - 1)) % 2 ^ 64) (of_z w64 x)) <ℤ pos 0) ↔ (x ≤ℤ pos 0)
 negative_unless_positive_is (pos zero) fits =
     (λ _. omega (arith, ints), λ _. negative_or ((0 + (2 ^ 64 - 1)) % 2 ^ 64) 0 (omega arith) (omega arith) (inl (omega arith)))
 negative_unless_positive_is (pos (suc n)) fits =

@@ -22,13 +22,15 @@ module _ {C P : Type 0} (pair : C → P) (Has : P → Type 0) (congruences : Lis
       }
 
   -- with all of them
-  pub all_copied : (pairs : List P) (i : ℕ) → length congruences ≤ i → length pairs ≡ length congruences → AreCopied pair Has congruences pairs i → (pairs ≡ map pair congruences) × All Has pairs
+  pub all_copied : (pairs : List P) (i : ℕ) → length congruences ≤ i → length pairs ≡ length congruences
+      → AreCopied pair Has congruences pairs i → (pairs ≡ map pair congruences) × All Has pairs
   all_copied pairs i done same h =
       let whole : take i pairs ≡ pairs = take_all i pairs (omega (arith, done, same)) in
       (sym whole ∙ h.copied ∙ ap (map pair) (take_all i congruences done), subst (All Has) whole h.each)
 
 -- what all pairs have, that of a congruence has
-pub copied_has : {C P : Type 0} (pair : C → P) (Has : P → Type 0) (congruences : List C) (i : ℕ) {c : C} → c ≡ get_or congruences i c → i < length congruences
+pub copied_has : {C P : Type 0} (pair : C → P) (Has : P → Type 0) (congruences : List C) (i : ℕ) {c : C}
+    → c ≡ get_or congruences i c → i < length congruences
     → All Has (map pair congruences) → Has (pair c)
 copied_has pair Has congruences i {c} is within all =
     let long : length (map pair congruences) ≡ length congruences = length-map congruences pair in

@@ -15,12 +15,18 @@ use Rattle.cellarcove_c.proofs.Complements.{complement_of_bits}
 use Rattle.cellarcove_c.specs.Quotients.{AreFloored, QuotientsFit}
 
 pub natural_quotient : (n d : ℕ) → 0 < d → IsQuotient IsFloored (pos n) (pos d) (pos (n / d))
-natural_quotient n d up = record { remainder = pos (n % d); division = floored_by_range (omega (arith, ints)) (omega (arith, ints)) (omega (arith, ints, mod_below n d up)) }
+natural_quotient n d up = record {
+  remainder = pos (n % d);
+  division = floored_by_range (omega (arith, ints)) (omega (arith, ints)) (omega (arith, ints, mod_below n d up));
+}
 
 pub negative_quotient : (n d : ℕ) → 0 < d → IsQuotient IsFloored (negsuc n) (pos d) (negsuc (n / d))
 negative_quotient n d up =
     let rest = mod_below n d up in
-    record { remainder = pos (d - 1 - n % d); division = floored_by_range (omega (arith, ints, rest)) (omega (arith, ints)) (omega (arith, ints, up)) }
+    record {
+      remainder = pos (d - 1 - n % d);
+      division = floored_by_range (omega (arith, ints, rest)) (omega (arith, ints)) (omega (arith, ints, up));
+    }
 
 floored_by_negative_range : {n d q r : ℤ} → n ≡ q *ℤ d +ℤ r → r ≤ℤ pos 0 → d <ℤ r → IsFloored n d q r
 floored_by_negative_range equation to_zero above = grind (arith, sizes)
@@ -29,7 +35,10 @@ floored_by_negative_range equation to_zero above = grind (arith, sizes)
 quotient_to_zero : (n d : ℕ) → 0 < d → IsQuotient IsFloored (neg_ℤ (pos n)) (neg_ℤ (pos d)) (pos (n / d))
 quotient_to_zero n d up =
     let equation : neg_ℤ (pos n) ≡ pos (n / d) *ℤ neg_ℤ (pos d) +ℤ neg_ℤ (pos (n % d)) = rw (mul_neg (pos (n / d)) (pos d)) (omega (arith, ints)) in
-    record { remainder = neg_ℤ (pos (n % d)); division = floored_by_negative_range equation (omega (arith, ints)) (omega (arith, ints, mod_below n d up)) }
+    record {
+      remainder = neg_ℤ (pos (n % d));
+      division = floored_by_negative_range equation (omega (arith, ints)) (omega (arith, ints, mod_below n d up));
+    }
 
 -- by minus d, of a positive number
 quotient_of_positive : (n d : ℕ) → 0 < d → IsQuotient IsFloored (pos (suc n)) (neg_ℤ (pos d)) (negsuc (n / d))
@@ -39,7 +48,8 @@ quotient_of_positive n d up =
     record { remainder = pos (suc (n % d)) -ℤ pos d; division = floored_by_negative_range equation (omega (arith, ints, rest)) (omega (arith, ints)) }
 
 -- the quotient of a number that is complemented before and after it if it is negative
-pub complement_quotient : (x m r : ℤ) (q d : ℕ) → 0 < d → FitsSigned w64 x → q ≡ unsigned_abs m / d → (pos 0 ≤ℤ x → m ≡ x) → (x <ℤ pos 0 → m ≡ pos 0 -ℤ x -ℤ pos 1)
+pub complement_quotient : (x m r : ℤ) (q d : ℕ) → 0 < d → FitsSigned w64 x → q ≡ unsigned_abs m / d
+    → (pos 0 ≤ℤ x → m ≡ x) → (x <ℤ pos 0 → m ≡ pos 0 -ℤ x -ℤ pos 1)
     → (pos 0 ≤ℤ x → r ≡ to_z w64 q) → (x <ℤ pos 0 → r ≡ pos 0 -ℤ to_z w64 q -ℤ pos 1) → IsQuotient IsFloored x (pos d) r
 complement_quotient (pos a) m r q d up fits q_is m_up _ r_up _ =
     let from_zero : pos 0 ≤ℤ pos a = omega (arith, ints) in
@@ -71,7 +81,8 @@ negated : (n : ℕ) → pos 0 -ℤ negsuc (suc n) -ℤ pos 1 ≡ pos (suc n)
 negated n = omega (arith, ints)
 
 -- a quotient that is complemented twice
-kept : (r : ℤ) (q n d : ℕ) → FitsSigned w64 r → q < 2 ^ 63 → q ≡ n / d → r ≡ pos 0 -ℤ to_z w64 q -ℤ pos 1 → to_z w64 (2 ^ 64 - 1 - of_z w64 r) ≡ pos (n / d)
+kept : (r : ℤ) (q n d : ℕ) → FitsSigned w64 r → q < 2 ^ 63 → q ≡ n / d → r ≡ pos 0 -ℤ to_z w64 q -ℤ pos 1
+    → to_z w64 (2 ^ 64 - 1 - of_z w64 r) ≡ pos (n / d)
 kept r q n d fits small q_is is =
     let is : r ≡ pos 0 -ℤ pos q -ℤ pos 1 = rw (to_z_pos w64 q small) at is in
     complement_of_bits r fits ∙ omega (arith, ints, is, q_is)
@@ -117,7 +128,13 @@ i64_between (pos n) = (λ f. (omega (arith, ints, f.sfits), omega (arith, ints, 
 i64_between (negsuc n) = (λ f. (omega (arith, ints, f.sfits), omega (arith, ints, f.sfits)), λ h. record { sfits = omega (arith, ints, h.0, h.1) })
 
 i64_range : IsRange (FitsSigned w64) (negsuc (2 ^ 63 - 1)) (pos (2 ^ 63 - 1))
-i64_range = record { between = i64_between; low_end = inr (inr (omega (arith, ints))); positive = omega (arith, ints); bounded = omega (arith, ints); bounded_below = inr (omega (arith, ints)) }
+i64_range = record {
+  between = i64_between;
+  low_end = inr (inr (omega (arith, ints)));
+  positive = omega (arith, ints);
+  bounded = omega (arith, ints);
+  bounded_below = inr (omega (arith, ints));
+}
 
 fits_by_other : {x d z : ℤ} → FitsSigned w64 x → FitsSigned w64 d → d ≢ negsuc 0 → IsQuotient IsFloored x d z → FitsSigned w64 z
 fits_by_other x_fits d_fits other h = other_quotient_fits i64_range x_fits d_fits other h.division.division
@@ -133,7 +150,10 @@ fits_by_minus_one {x} {z} x_fits other h =
     (i64_between z).1 (omega (arith, linear, is, range.1, range.0, other), omega (arith, linear, is, range.0, range.1, other))
 
 pub by_minus_one : (x : ℤ) → IsQuotient IsFloored x (negsuc 0) (pos 0 -ℤ x)
-by_minus_one x = record { remainder = pos 0; division = floored_by_negative_range (omega (arith, linear, products)) (omega (arith, ints)) (omega (arith, ints)) }
+by_minus_one x = record {
+  remainder = pos 0;
+  division = floored_by_negative_range (omega (arith, linear, products)) (omega (arith, ints)) (omega (arith, ints));
+}
 
 least_by_minus_one : ¬ (EachFits (FitsSigned w64) (IsQuotient IsFloored (negsuc (2 ^ 63 - 1)) (negsuc 0)))
 least_by_minus_one fits =
@@ -174,7 +194,8 @@ pub record AreFlooredTo (d : ℤ) (i : ℕ) (numbers quotients : List ℤ) : Typ
 pub none_floored : {d : ℤ} {numbers quotients : List ℤ} → length quotients ≡ length numbers → AreFlooredTo d 0 numbers quotients
 none_floored same = grind arith
 
-pub one_more_floored : {d : ℤ} {i : ℕ} {numbers quotients : List ℤ} (q : ℤ) → i < length numbers → IsQuotient IsFloored (get_or numbers i (pos 0)) d q → AreFlooredTo d i numbers quotients
+pub one_more_floored : {d : ℤ} {i : ℕ} {numbers quotients : List ℤ} (q : ℤ) → i < length numbers
+    → IsQuotient IsFloored (get_or numbers i (pos 0)) d q → AreFlooredTo d i numbers quotients
     → AreFlooredTo d (i + 1) numbers (set quotients i q)
 one_more_floored {d} {i} {numbers} {quotients} q within is h =
     record {
@@ -183,20 +204,23 @@ one_more_floored {d} {i} {numbers} {quotients} q within is h =
     }
 
 -- the same of numbers and a quotient as the type holds them
-pub one_more_signed : {d : ℤ} {i : ℕ} {numbers quotients : List ℤ} (q : ℤ) → FitsSigned w64 (get_or numbers i (pos 0)) → FitsSigned w64 q → i < length numbers
+pub one_more_signed : {d : ℤ} {i : ℕ} {numbers quotients : List ℤ} (q : ℤ)
+    → FitsSigned w64 (get_or numbers i (pos 0)) → FitsSigned w64 q → i < length numbers
     → IsQuotient IsFloored (to_z w64 (of_z w64 (get_or numbers i (pos 0)))) d q → AreFlooredTo d i numbers quotients
     → AreFlooredTo d (i + 1) numbers (set quotients i (to_z w64 (of_z w64 q)))
 one_more_signed {d} {i} {numbers} q number_fits q_fits within is h =
     rw (to_z-of_z w64 q q_fits) (one_more_floored q within (rw (to_z-of_z w64 (get_or numbers i (pos 0)) number_fits) at is) h)
 
-pub all_floored : {d : ℤ} {i : ℕ} {numbers quotients : List ℤ} → length numbers ≤ i → AreFlooredTo d i numbers quotients → AreFloored d numbers quotients
+pub all_floored : {d : ℤ} {i : ℕ} {numbers quotients : List ℤ} → length numbers ≤ i
+    → AreFlooredTo d i numbers quotients → AreFloored d numbers quotients
 all_floored end h = record { one_each = h.one_each; each = λ k within. h.each k (omega (arith, within, end)) }
 
 -- natural numbers as integers
 abbrev integers : List ℕ → List ℤ
 integers numbers = map (λ x. pos x) numbers
 
-pub one_more_natural : (d i : ℕ) (numbers quotients : List ℕ) (q : ℕ) → 0 < d → i < length numbers → q ≡ slice_index numbers i / d → AreFlooredTo (pos d) i (integers numbers) (integers quotients)
+pub one_more_natural : (d i : ℕ) (numbers quotients : List ℕ) (q : ℕ) → 0 < d → i < length numbers
+    → q ≡ slice_index numbers i / d → AreFlooredTo (pos d) i (integers numbers) (integers quotients)
     → AreFlooredTo (pos d) (i + 1) (integers numbers) (integers (slice_set quotients i q))
 one_more_natural d i numbers quotients q up within is h =
     let written : integers (slice_set quotients i q) ≡ set (integers quotients) i (pos q) = map-set (λ (x : ℕ). pos x) quotients i q in

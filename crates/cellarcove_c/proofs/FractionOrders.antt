@@ -10,7 +10,8 @@ use Rattle.cellarcove_c.proofs.Common.{◌≡◌, ◌<ℤ◌, ◌∙◌, ℤ, �
 use Rattle.cellarcove_c.specs.Fractions.{OnBothFractions, order_number}
 
 -- such a fraction has an exact result, which fits
-pub positive_has_result : {a b : ℤ} → FitsSigned w64 a → FitsSigned w64 b → pos 0 <ℤ b → (x : Ratio) × IsExact a b (num_of x) (den_of x) × AnswersFraction a b (Ok x)
+pub positive_has_result : {a b : ℤ} → FitsSigned w64 a → FitsSigned w64 b → pos 0 <ℤ b
+    → (x : Ratio) × IsExact a b (num_of x) (den_of x) × AnswersFraction a b (Ok x)
 positive_has_result {a} {b} a_fits b_fits up =
     let found = exact_result_exists a b (positive_is_nonzero up) in
     let x : Ratio = record { num = found.0; den = found.1; reduced = found.2.reduced } in
@@ -21,7 +22,8 @@ positive_has_result {a} {b} a_fits b_fits up =
     (x, found.2, exact_answer x found.2 num_fits den_fits)
 
 -- so two of them compare as their exact results do
-pub results_compare_alike : {a b c d : ℤ} {status : ℕ} {order : Ordering} → FitsSigned w64 a → FitsSigned w64 b → FitsSigned w64 c → FitsSigned w64 d → pos 0 <ℤ b → pos 0 <ℤ d
+pub results_compare_alike : {a b c d : ℤ} {status : ℕ} {order : Ordering} → FitsSigned w64 a
+    → FitsSigned w64 b → FitsSigned w64 c → FitsSigned w64 d → pos 0 <ℤ b → pos 0 <ℤ d
     → status ≡ 0 → order ≡ fraction_cmp a b c d
     → (p q : Result Ratio RatioError) × AnswersFraction a b p × AnswersFraction c d q
     × OnBothFractions p q (λ x y. (status ≡ 0) × (order_number order ≡ order_number (fraction_cmp (num_of x) (den_of x) (num_of y) (den_of y))))

@@ -41,7 +41,8 @@ is_beyond {year} {week} weekday same beyond h =
     record { day = day; day_of_week = weekday; number = same; of_week = own; beyond = λ y k. beyond day y own k }
 
 -- and one that has a date has not
-pub not_beyond : {year : ℤ} {week number : ℕ} (weekday : Weekday) (date : Date) → iso_number weekday ≡ number → IsDayOfIsoWeek (number_of date) year week weekday
+pub not_beyond : {year : ℤ} {week number : ℕ} (weekday : Weekday) (date : Date) → iso_number weekday ≡ number
+    → IsDayOfIsoWeek (number_of date) year week weekday
     → FitsSigned w64 date.year → ¬ (IsDayBeyond year week number)
 not_beyond {year} {week} weekday date same own fits = λ h.
     let weekday_is = iso_number_is_only h.day_of_week weekday (h.number ∙ sym same) in

@@ -25,7 +25,8 @@ answers_is_only domain Is Reason zeros (suc s) (suc t) a b only one h k = grind 
 positive_of : (m : ℤ) → ¬ (m ≤ℤ pos 0) → pos 0 <ℤ m
 positive_of m h = by_lt_z (pos 0) m (λ up. up) (λ low. absurd (h low))
 
-pub answers_modulo_is_only : {A : Type 0} (modulus : ℤ) (reason : ℕ) (without : Type 0) (Is : A → Type 0) → law.AnswersModuloIsOnly modulus reason without Is
+pub answers_modulo_is_only : {A : Type 0} (modulus : ℤ) (reason : ℕ) (without : Type 0) (Is : A → Type 0)
+    → law.AnswersModuloIsOnly modulus reason without Is
 answers_modulo_is_only modulus reason without Is zeros zero zero a b only never h k = grind arith
 answers_modulo_is_only modulus reason without Is zeros (suc s) zero a b only never h k = grind arith
 answers_modulo_is_only modulus reason without Is zeros s (suc t) a b only never h k = grind arith
@@ -37,11 +38,13 @@ same_pair (a, b) (x, y) first second = rw (first, second) refl
 
 module _ {X : Type 0} (value : X → ℤ) (fits : ℤ → Type 0) {a m b n : ℤ} {zeros : X × X} where
   -- a reason of one result is the status of each other
-  reason_of_both : {s t : ℕ} {c d : X × X} → IsClassOfBoth value fits a m b n zeros s c → IsClassOfBoth value fits a m b n zeros t d → IsReasonOfCongruences t → s ≡ t
+  reason_of_both : {s t : ℕ} {c d : X × X} → IsClassOfBoth value fits a m b n zeros s c
+      → IsClassOfBoth value fits a m b n zeros t d → IsReasonOfCongruences t → s ≡ t
   reason_of_both h k reason = grind arith
 
   -- a class with the status 0 is that of the numbers that solve both
-  class_of : {c : X × X} → ((z : ℤ) → fits z ⊎ (¬ (fits z))) → IsClassOfBoth value fits a m b n zeros 0 c → IsResidueClass (SolvesBothCongruences a m b n) (value c.0) (value c.1)
+  class_of : {c : X × X} → ((z : ℤ) → fits z ⊎ (¬ (fits z))) → IsClassOfBoth value fits a m b n zeros 0 c
+      → IsResidueClass (SolvesBothCongruences a m b n) (value c.0) (value c.1)
   class_of decided h =
       let first = positive_of m (λ low. absurd (omega (arith, h.modulus_is_bad.1 (inl low)))) in
       let second = positive_of n (λ low. absurd (omega (arith, h.modulus_is_bad.1 (inr low)))) in
@@ -69,14 +72,16 @@ module _ {X : Type 0} (value : X → ℤ) (fits : ℤ → Type 0) {from : ℤ} {
   least_of : {x : X} → IsNextOfSeveral value fits from congruences zero_value 0 x → IsLeastFrom from (SolvesEach value congruences) (value x)
   least_of h = solved h (λ same. absurd (omega (arith, same))) (λ same. absurd (omega (arith, same)))
 
-  beyond_of : {s : ℕ} {x : X} → IsNextOfSeveral value fits from congruences zero_value s x → s ≡ not_fitting → IsBeyond fits (IsLeastFrom from (SolvesEach value congruences))
+  beyond_of : {s : ℕ} {x : X} → IsNextOfSeveral value fits from congruences zero_value s x → s ≡ not_fitting
+      → IsBeyond fits (IsLeastFrom from (SolvesEach value congruences))
   beyond_of h far = rw far at (solved h (λ same. absurd (omega (arith, far, same))) (λ same. absurd (omega (arith, far, same))))
 
   never_of : {s : ℕ} {x : X} → IsNextOfSeveral value fits from congruences zero_value s x → s ≡ no_solution → IsNever (SolvesEach value congruences)
   never_of h none = rw none at (solved h (λ same. absurd (omega (arith, none, same))) (λ same. absurd (omega (arith, none, same))))
 
   -- if one result has a number that fits, no other has a reason
-  no_reason : {t : ℕ} {x y : X} → fits (value x) → IsNextOfSeveral value fits from congruences zero_value 0 x → IsNextOfSeveral value fits from congruences zero_value t y → IsReasonOfSeveral t → ⊥
+  no_reason : {t : ℕ} {x y : X} → fits (value x) → IsNextOfSeveral value fits from congruences zero_value 0 x
+      → IsNextOfSeveral value fits from congruences zero_value t y → IsReasonOfSeveral t → ⊥
   no_reason in_range h k (inl more) = omega (arith, h.too_many.1 (k.too_many.0 more))
   no_reason in_range h k (inr (inl bad)) = omega (arith, h.modulus_is_bad.1 (k.modulus_is_bad.0 bad))
   no_reason in_range h k (inr (inr (inl far))) = let (z, least, beyond) = beyond_of k far in beyond (subst fits (least_is_only least _ (least_of h)) in_range)
@@ -144,7 +149,8 @@ same_sign a b P h k = grind arith
 no_more : (m whole other part rest : ℕ) → whole * m + part ≡ other * m + rest → part < m → other ≤ whole
 no_more m whole other part rest same below = grind (arith, mul-le-mul_right {m = whole + 1} {n = other} m)
 
-same_digits : {units : ℤ} {places : ℕ} {a b : Bool} {whole other part rest : ℕ} → HasDigits units places a whole part → HasDigits units places b other rest
+same_digits : {units : ℤ} {places : ℕ} {a b : Bool} {whole other part rest : ℕ}
+    → HasDigits units places a whole part → HasDigits units places b other rest
     → (a ≡ b) × (whole ≡ other) × (part ≡ rest)
 same_digits {whole = whole} {other = other} h k =
     let size = sym h.size ∙ k.size in
@@ -232,7 +238,8 @@ same_read {text} {a} {b} p q h k =
     (sym parts.year_is ∙ k.has_parts.year_is, sym parts.month_is ∙ k.has_parts.month_is, sym parts.day_is ∙ k.has_parts.day_is)
 
 -- a text with a date is not refused
-not_refused : {text : List ℕ} {a b : Parts} {t : ℕ} → FitsSigned w64 a.year → HasText text a → ReadsDate text (record { status = suc t; date = b }) → ⊥
+not_refused : {text : List ℕ} {a b : Parts} {t : ℕ} → FitsSigned w64 a.year → HasText text a
+    → ReadsDate text (record { status = suc t; date = b }) → ⊥
 not_refused p h k = k.none.0 (k.refusal nonzero).1 h.date (rw h.has_parts.year_is p) h.text_is
 
 pub read_date_is_only : law.ReadDateIsOnly

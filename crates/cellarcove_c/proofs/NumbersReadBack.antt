@@ -40,7 +40,10 @@ pub division_read : {Kind : ℤ → ℤ → ℤ → ℤ → Type 0} {x y : ℤ} 
     → Answers {A = ℤ × ℤ} ((y ≢ pos 0) × EachFits (FitsSigned w64) (IsQuotient Kind x y)) (λ (q, rest). Kind x y q rest) (IsReason (y ≡ pos 0)) (pos 0, pos 0) status value
 division_read {Kind} {x} {y} {status} {value} x_fits y_fits own refuses =
     let own = rw (to_z-of_z w64 x x_fits, to_z-of_z w64 y y_fits) at own in
-    record { answer = third_only _ (λ r. FitsSigned w64 r.0) (λ r. FitsSigned w64 r.1) (λ r. Kind x y r.0 r.1) (answer_of status value) own; refusal = refuses }
+    record {
+      answer = third_only _ (λ r. FitsSigned w64 r.0) (λ r. FitsSigned w64 r.1) (λ r. Kind x y r.0 r.1) (answer_of status value) own;
+      refusal = refuses;
+    }
 
 -- what goals about quotients and multiples need
 pub ruleset quotients = (to_z-of_z, quotient_read, multiple_read, division_read)

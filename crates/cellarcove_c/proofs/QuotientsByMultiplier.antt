@@ -45,7 +45,8 @@ halved n h j within =
 pub within_number : (f n : ℕ) → f < 2 ^ 64 → f * n / 2 ^ 64 ≤ n
 within_number f n fits = omega (arith, mul-le-mul_right {m = f} {n = 2 ^ 64} n (omega (arith, fits)))
 
-pub quotient_by_multiplier : (f n d i j : ℕ) → 0 < d → f < 2 ^ 64 → n < 2 ^ 64 → i ≤ 1 → (i ≡ 0 → j ≡ 0) → d ≤ 2 ^ (i + j) → f + 2 ^ 64 ≡ 2 ^ 64 * 2 ^ (i + j) / d + 1
+pub quotient_by_multiplier : (f n d i j : ℕ) → 0 < d → f < 2 ^ 64 → n < 2 ^ 64 → i ≤ 1 → (i ≡ 0 → j ≡ 0)
+    → d ≤ 2 ^ (i + j) → f + 2 ^ 64 ≡ 2 ^ 64 * 2 ^ (i + j) / d + 1
     → (f * n / 2 ^ 64 + (n - f * n / 2 ^ 64) / 2 ^ i) / 2 ^ j ≡ n / d
 quotient_by_multiplier f n d zero j up f_fits n_fits _ none above rounded =
     let none : j ≡ 0 = none refl in
@@ -69,7 +70,8 @@ by_magnitude f n d s up small above rounded =
     let most : n * (d - 1 - rest) ≤ 2 ^ 63 * (d - 1 - rest) = mul-le-mul_right (d - 1 - rest) small in
     by_excess n d (2 ^ 63 * 2 ^ s) f (d - 1 - rest) up over (omega (arith, most, up, above))
 
-pub quotient_of_double : (f n d s : ℕ) → 0 < d → n < 2 ^ 63 → d ≤ 2 ^ s → f ≡ (2 ^ 63 * 2 ^ s - 1) / d + 1 → f * (n * 2 ^ 1 % 2 ^ 64) / 2 ^ 64 / 2 ^ s ≡ n / d
+pub quotient_of_double : (f n d s : ℕ) → 0 < d → n < 2 ^ 63 → d ≤ 2 ^ s → f ≡ (2 ^ 63 * 2 ^ s - 1) / d + 1
+    → f * (n * 2 ^ 1 % 2 ^ 64) / 2 ^ 64 / 2 ^ s ≡ n / d
 quotient_of_double f n d s up small above rounded =
     let double : n * 2 ^ 1 % 2 ^ 64 ≡ n * 2 ^ 1 = mod-eq_of_lt (omega (arith, small)) in
     let halves : f * (n * 2 ^ 1) / 2 ^ 64 ≡ f * n / 2 ^ 63 = omega arith in
@@ -115,7 +117,8 @@ multiplier_is d k u v u_is v_is fits most above least =
     let more = quotient_more ((2 ^ k - d) * 2 ^ 64) d (2 ^ 64) (omega (arith, above, least)) in
     rw (u_is, v_is, power, whole, parts) (omega (arith, more))
 
-pub ceil_log2_is : (d : ℕ) → 0 < d → d < 2 ^ 64 → (d ≤ 2 ^ (64 - count_leading_zeros 64 (d - 1))) × (2 ^ (64 - count_leading_zeros 64 (d - 1)) < 2 * d)
+pub ceil_log2_is : (d : ℕ) → 0 < d → d < 2 ^ 64
+    → (d ≤ 2 ^ (64 - count_leading_zeros 64 (d - 1))) × (2 ^ (64 - count_leading_zeros 64 (d - 1)) < 2 * d)
 ceil_log2_is d up fits =
     let top = leading_length 64 (d - 1) (omega (arith, fits)) in
     let same : 64 - count_leading_zeros 64 (d - 1) ≡ top.0 = omega (arith, top.1) in

@@ -18,7 +18,8 @@ module _ {X C : Type 0} (value : X → ℤ) (fits : ℤ → Type 0) (from : ℤ)
   }
 
   -- the status of a common solution is no other than these
-  pub common_solution_is : (status : ℕ) (found : X) → HavePositiveModuli value copies → Refuses (StatusIsOneOf not_fitting no_solution) zero_value status found
+  pub common_solution_is : (status : ℕ) (found : X) → HavePositiveModuli value copies
+      → Refuses (StatusIsOneOf not_fitting no_solution) zero_value status found
       → MatchCommonSolution (common_solution_of status found) (IsNever (SolvesEach value copies)) (IsBeyond fits (IsLeastFrom from (SolvesEach value copies))) (λ t. IsLeastFrom from (SolvesEach value copies) (value t))
       → IsNextOfSeveral value fits from copies zero_value status found
   common_solution_is status found positive refuses own = record {

@@ -10,5 +10,6 @@ room text n rest zero size n_fits rest_fits e =
 room text n rest (suc at) size n_fits rest_fits e = omega arith
 
 -- a digit is written between those that are left and those that are written
-pub one_digit_more : (left ds text : List ℕ) (at d : ℕ) → 0 < at → at ≤ length text → (left ++ (d ∷ [])) ++ drop at text ≡ ds → left ++ drop (at - 1) (set text (at - 1) d) ≡ ds
+pub one_digit_more : (left ds text : List ℕ) (at d : ℕ) → 0 < at → at ≤ length text
+    → (left ++ (d ∷ [])) ++ drop at text ≡ ds → left ++ drop (at - 1) (set text (at - 1) d) ≡ ds
 one_digit_more left ds text at d pos within e = grind (arith, drop, set, drop-set, append_assoc)

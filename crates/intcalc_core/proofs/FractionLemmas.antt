@@ -13,18 +13,23 @@ refused_given (inr (fit, inr (b, inr (d, inr (x, inl h))))) = inr (fit, inr (b, 
 refused_given (inr (fit, inr (b, inr (d, inr (x, inr (y, none)))))) = absurd none
 
 -- the second lies outside
-pub second_outside : {a b c d : ℤ} {x : Ratio} → IsRatioOf a b x → IsFraction c d → IsOutsideI64 c d → NeedsFractions a b c d (λ _. ⊥) (Err NotFitting)
+pub second_outside : {a b c d : ℤ} {x : Ratio} → IsRatioOf a b x → IsFraction c d → IsOutsideI64 c d
+    → NeedsFractions a b c d (λ _. ⊥) (Err NotFitting)
 second_outside x fraction far = inr (x.exact.fraction, inr (fraction, inr (x.inside, inl (λ inside. inside far, refl))))
 
 -- ---- their sum and product
 
 -- the answer of a call for m/n
-answered : {m n : ℤ} {r : Result Answer Refusal} (answer : Result Ratio RatioError) → n ≢ pos 0 → AnswersFraction m n answer → MatchResult answer (λ z. r ≡ Ok (Two (num_of z) (den_of z))) (λ _. r ≡ Err NotFitting) → AnswersExact m n r
+answered : {m n : ℤ} {r : Result Answer Refusal} (answer : Result Ratio RatioError) → n ≢ pos 0
+    → AnswersFraction m n answer
+    → MatchResult answer (λ z. r ≡ Ok (Two (num_of z) (den_of z))) (λ _. r ≡ Err NotFitting)
+    → AnswersExact m n r
 answered (Ok z) fraction h is = inr (ok_is_inside h, record { first = num_of z; second = den_of z; is = is; meets = h.exact })
 answered (Err e) fraction h is = inl (λ inside. inside (err_is_outside e fraction h), is)
 
 -- m/n is asked of the fractions a/b and c/d
-asked : {a b c d m n : ℤ} {x y : Ratio} {r : Result Answer Refusal} (answer : Result Ratio RatioError) → IsRatioOf a b x → IsRatioOf c d y → n ≢ pos 0 → AnswersFraction m n answer
+asked : {a b c d m n : ℤ} {x y : Ratio} {r : Result Answer Refusal} (answer : Result Ratio RatioError)
+    → IsRatioOf a b x → IsRatioOf c d y → n ≢ pos 0 → AnswersFraction m n answer
     → MatchResult answer (λ z. r ≡ Ok (Two (num_of z) (den_of z))) (λ _. r ≡ Err NotFitting) → NeedsFractions a b c d (AnswersExact m n) r
 asked answer x y nonzero h is = inr (x.exact.fraction, inr (y.exact.fraction, inr (x.inside, inr (y.inside, answered answer nonzero h is))))
 
@@ -58,12 +63,14 @@ module _ {a b c d : ℤ} (a_fits : FitsSigned w128 a) (b_fits : FitsSigned w128 
     given : PartsFit a b c d × IsRatioOf a b x × IsRatioOf c d y
     given = rw (to_z-of_z w128 a a_fits, to_z-of_z w128 b b_fits, to_z-of_z w128 c c_fits, to_z-of_z w128 d d_fits) at h
 
-    pub sum_outcome : {r : Result Answer Refusal} (answer : Result Ratio RatioError) → MatchResult answer (λ z. r ≡ Ok (Two (num_of z) (den_of z))) (λ _. r ≡ Err NotFitting)
+    pub sum_outcome : {r : Result Answer Refusal} (answer : Result Ratio RatioError)
+        → MatchResult answer (λ z. r ≡ Ok (Two (num_of z) (den_of z))) (λ _. r ≡ Err NotFitting)
         → AnswersFraction (num_of x *ℤ den_of y +ℤ num_of y *ℤ den_of x) (den_of x *ℤ den_of y) answer → OutcomeIn fits (RatioAdd a b c d) r
     unfolding OutcomeOfFitting
     sum_outcome answer is k = inr (given.0, asked answer given.1 given.2 (denominators given.1 given.2) (sum_of_exact_results given.1.exact given.2.exact k) is)
 
-    pub product_outcome : {r : Result Answer Refusal} (answer : Result Ratio RatioError) → MatchResult answer (λ z. r ≡ Ok (Two (num_of z) (den_of z))) (λ _. r ≡ Err NotFitting)
+    pub product_outcome : {r : Result Answer Refusal} (answer : Result Ratio RatioError)
+        → MatchResult answer (λ z. r ≡ Ok (Two (num_of z) (den_of z))) (λ _. r ≡ Err NotFitting)
         → AnswersFraction (num_of x *ℤ num_of y) (den_of x *ℤ den_of y) answer → OutcomeIn fits (RatioMul a b c d) r
     unfolding OutcomeOfFitting
     product_outcome answer is k = inr (given.0, asked answer given.1 given.2 (denominators given.1 given.2) (product_of_exact_results given.1.exact given.2.exact k) is)
@@ -71,12 +78,15 @@ module _ {a b c d : ℤ} (a_fits : FitsSigned w128 a) (b_fits : FitsSigned w128 
 -- ---- operands that were narrowed to x, y, z and w
 
 -- a narrowed operand is read back from its bits
-pub narrowed : (a : ℤ) {x : ℤ} → FitsSigned w128 a → (x ≡ to_z w128 (of_z w128 a)) × FitsSigned w64 (to_z w128 (of_z w128 a)) → (to_z w64 (of_z w64 x) ≡ a) × FitsSigned w64 a
+pub narrowed : (a : ℤ) {x : ℤ} → FitsSigned w128 a
+    → (x ≡ to_z w128 (of_z w128 a)) × FitsSigned w64 (to_z w128 (of_z w128 a))
+    → (to_z w64 (of_z w64 x) ≡ a) × FitsSigned w64 a
 narrowed a fits h =
     let read = rw (to_z-of_z w128 a fits) at h in
     (ap (λ (t : ℤ). to_z w64 (of_z w64 t)) read.0 ∙ to_z-of_z w64 a read.1, read.1)
 
-pub given_or_refused : {a b c d x y z w : ℤ} (r : Result (Ratio × Ratio) Refusal) → (x ≡ a) × FitsSigned w64 a → (y ≡ b) × FitsSigned w64 b → (z ≡ c) × FitsSigned w64 c → (w ≡ d) × FitsSigned w64 d
+pub given_or_refused : {a b c d x y z w : ℤ} (r : Result (Ratio × Ratio) Refusal) → (x ≡ a) × FitsSigned w64 a
+    → (y ≡ b) × FitsSigned w64 b → (z ≡ c) × FitsSigned w64 c → (w ≡ d) × FitsSigned w64 d
     → MatchResult r (λ (p, q). IsRatioOf x y p × IsRatioOf z w q) (λ refusal. NeedsFractions x y z w (λ _. ⊥) (Err refusal))
     → MatchResult r (λ (p, q). PartsFit a b c d × IsRatioOf a b p × IsRatioOf c d q) (λ refusal. NeedsParts a b c d (λ _. ⊥) (Err refusal))
 given_or_refused (Ok x) a_is b_is c_is d_is h =

@@ -27,5 +27,6 @@ only_reply (Some asked) s t m n a b =
     let status = ap status_of e in
     (cc, cc)
 
-pub only_line : {words : List (List ℕ)} {line : List ℕ} {status : ℕ} → IsLine words line status → IsOnly (λ (other, n). IsLine words other n) (line, status)
+pub only_line : {words : List (List ℕ)} {line : List ℕ} {status : ℕ} → IsLine words line status
+    → IsOnly (λ (other, n). IsLine words other n) (line, status)
 only_line {words} {line} {status} a (other, n) b = grind (arith, only_request, only_reply)

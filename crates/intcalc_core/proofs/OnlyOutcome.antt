@@ -3,7 +3,8 @@ use Rattle.intcalc_core.proofs.Common.{◌≡◌, ◌⊎◌, ◌↔◌, ◌+ℤ�
 use Rattle.num_integer.specs.Only.{IsOnly}
 
 -- if the rest of a condition leaves one result, so does the condition
-only_needs : {P R S : Type 0} {refusal : Refusal} {r s : Result Answer Refusal} → (R → S → s ≡ r) → (¬ P × (r ≡ Err refusal)) ⊎ (P × R) → (¬ P × (s ≡ Err refusal)) ⊎ (P × S) → s ≡ r
+only_needs : {P R S : Type 0} {refusal : Refusal} {r s : Result Answer Refusal} → (R → S → s ≡ r)
+    → (¬ P × (r ≡ Err refusal)) ⊎ (P × R) → (¬ P × (s ≡ Err refusal)) ⊎ (P × S) → s ≡ r
 only_needs only (inl h) (inl k) = cc
 only_needs only (inl h) (inr k) = absurd (h.0 k.0)
 only_needs only (inr h) (inl k) = absurd (k.0 h.0)
@@ -12,7 +13,8 @@ only_needs only (inr h) (inr k) = only h.1 k.1
 only_one : (P : ℤ → Type 0) {r s : Result Answer Refusal} → ((n : ℤ) → P n → IsOnly P n) → AnswersOne P r → AnswersOne P s → s ≡ r
 only_one P only h k = let e = only h.number h.meets k.number k.meets in cc
 
-only_two : (P : ℤ → ℤ → Type 0) {r s : Result Answer Refusal} → ((m n : ℤ) → P m n → IsOnly (λ (p, q). P p q) (m, n)) → AnswersTwo P r → AnswersTwo P s → s ≡ r
+only_two : (P : ℤ → ℤ → Type 0) {r s : Result Answer Refusal}
+    → ((m n : ℤ) → P m n → IsOnly (λ (p, q). P p q) (m, n)) → AnswersTwo P r → AnswersTwo P s → s ≡ r
 only_two P only h k =
     let e = only h.first h.second h.meets (k.first, k.second) k.meets in
     k.is ∙ ap (λ (t : ℤ × ℤ). Ok (Two t.0 t.1)) e ∙ sym h.is
@@ -35,10 +37,12 @@ only_gcd_and_lcm : (a b g l : ℤ) → AreGcdAndLcm a b g l → IsOnly (λ (h, m
 only_gcd_and_lcm a b g l h (i, m) k = rw (gcd_is_only a b g h.greatest i k.greatest, lcm_is_only a b l h.least m k.least) refl
 
 -- fractions have one result m/n
-only_fractions : {a b c d : ℤ} (m n : ℤ) {r s : Result Answer Refusal} → NeedsFractions a b c d (AnswersExact m n) r → NeedsFractions a b c d (AnswersExact m n) s → s ≡ r
+only_fractions : {a b c d : ℤ} (m n : ℤ) {r s : Result Answer Refusal}
+    → NeedsFractions a b c d (AnswersExact m n) r → NeedsFractions a b c d (AnswersExact m n) s → s ≡ r
 only_fractions m n = only_needs (only_needs (only_needs (only_needs (only_needs (only_two (IsExact m n) (exact_result_is_only m n))))))
 
-only_of_fitting : (fits : ℤ → Type 0) (call : Call) (r s : Result Answer Refusal) → OutcomeOfFitting fits call r → OutcomeOfFitting fits call s → s ≡ r
+only_of_fitting : (fits : ℤ → Type 0) (call : Call) (r s : Result Answer Refusal)
+    → OutcomeOfFitting fits call r → OutcomeOfFitting fits call s → s ≡ r
 unfolding OutcomeOfFitting
 only_of_fitting fits (DivRem n d) r s = only_needs (only_needs (only_two (IsTruncated n d) (division_is_only.0 n d)))
 only_of_fitting fits (DivModFloor n d) r s = only_needs (only_needs (only_two (IsFloored n d) (division_is_only.1 n d)))

@@ -12,5 +12,6 @@ map_Some_same (x ∷ xs) (y ∷ ys) e =
     cc
 
 -- as many words as n are those at 0 to n - 1
-pub words_at : (n : ℕ) (words : List (Bor (List ℕ))) (e : Bor (List ℕ)) → n ≤ length words → length words < n + 1 → map (λ w. w.now) words ≡ map (λ i. (get_or words i e).now) (range_with_len 0 n)
+pub words_at : (n : ℕ) (words : List (Bor (List ℕ))) (e : Bor (List ℕ)) → n ≤ length words
+    → length words < n + 1 → map (λ w. w.now) words ≡ map (λ i. (get_or words i e).now) (range_with_len 0 n)
 words_at n words e low high = fill_by_all _ (map (λ w. w.now) words) n [] (length-map words _ ∙ omega arith) (λ i below. get_or-map (λ w. w.now) words i e [] (omega arith))

@@ -38,7 +38,8 @@ pub agree_at_gcd : {a m b n g : ℤ} → IsGreatestCommonDivisor m n g → AreCo
 agree_at_gcd h near = record { congruent = λ k other. rw (only_gcd h other) at near }
 
 -- a congruence that agrees with two agrees with both at once
-merged_agree : {a m b n e k x l : ℤ} → pos 0 <ℤ n → SolvesBothCongruences a m b n x → IsLeastCommonMultiple m n l → Agree a m e k → Agree b n e k → Agree x l e k
+merged_agree : {a m b n e k x l : ℤ} → pos 0 <ℤ n → SolvesBothCongruences a m b n x
+    → IsLeastCommonMultiple m n l → Agree a m e k → Agree b n e k → Agree x l e k
 merged_agree {m = m} {n = n} {k = k} n_up both least left right = record {
   congruent = λ g h.
       let at_m = gcd_exists m k in
@@ -83,16 +84,21 @@ module _ {C : Type 0} (residue modulus : C → ℤ) where
   SolvesAt x c = AreCongruent (modulus c) x (residue c)
 
   -- what is required of all pairs, of the one at an index
-  pub pair_at : (fits : ℤ → Type 0) (pairs : List C) (i : ℕ) {x : C} → x ≡ get_or pairs i x → i < length pairs → IsSystem fits residue modulus pairs → IsInRange fits x × IsPositive x
+  pub pair_at : (fits : ℤ → Type 0) (pairs : List C) (i : ℕ) {x : C} → x ≡ get_or pairs i x → i < length pairs
+      → IsSystem fits residue modulus pairs → IsInRange fits x × IsPositive x
   pair_at fits pairs i is within system = (at_item (IsInRange fits) pairs i is within system.0, at_item IsPositive pairs i is within system.1)
 
   -- what is required of the first pair, and of the others
-  pub split_system : (fits : ℤ → Type 0) {c : C} {cs pairs : List C} → pairs ≡ c ∷ cs → IsSystem fits residue modulus pairs → (IsInRange fits c × IsPositive c) × IsSystem fits residue modulus cs
+  pub split_system : (fits : ℤ → Type 0) {c : C} {cs pairs : List C} → pairs ≡ c ∷ cs
+      → IsSystem fits residue modulus pairs
+      → (IsInRange fits c × IsPositive c) × IsSystem fits residue modulus cs
   split_system fits {c} {cs} split system =
       let whole = subst (IsSystem fits residue modulus) split system in
       ((All-head (IsInRange fits) c cs whole.0, All-head IsPositive c cs whole.1), (All-tail (IsInRange fits) c cs whole.0, All-tail IsPositive c cs whole.1))
 
-  pub common_with : (cs : List C) {a m : ℤ} → pos 0 <ℤ m → All IsPositive cs → AgreesWithEach residue modulus a m cs → AgreeInPairs residue modulus cs → (x : ℤ) × AreCongruent m x a × SolvesEachItem residue modulus cs x
+  pub common_with : (cs : List C) {a m : ℤ} → pos 0 <ℤ m → All IsPositive cs
+      → AgreesWithEach residue modulus a m cs → AgreeInPairs residue modulus cs
+      → (x : ℤ) × AreCongruent m x a × SolvesEachItem residue modulus cs x
   common_with [] {a} {m} up positive agrees pairs = (a, congruent_refl a, All-nil (SolvesAt a))
   common_with (c ∷ cs) {a} {m} up positive agrees pairs =
       let c_up = All-head IsPositive c cs positive in
@@ -112,7 +118,8 @@ module _ {C : Type 0} (residue modulus : C → ℤ) where
       let rest = common_with cs (All-head IsPositive c cs positive) (All-tail IsPositive c cs positive) pairs.0 pairs.1 in
       (rest.0, All-cons (SolvesAt rest.0) c cs rest.1 rest.2)
 
-  pub first_agrees : {c : C} {cs rest : List C} {x : ℤ} → rest ≡ c ∷ cs → SolvesEachItem residue modulus rest x → AgreesWithEach residue modulus (residue c) (modulus c) cs
+  pub first_agrees : {c : C} {cs rest : List C} {x : ℤ} → rest ≡ c ∷ cs
+      → SolvesEachItem residue modulus rest x → AgreesWithEach residue modulus (residue c) (modulus c) cs
   first_agrees {c} {cs} {x = x} split each =
       let solved = subst (All (SolvesAt x)) split each in
       λ k d within. solved_agree (All-head (SolvesAt x) c cs solved) (All-tail (SolvesAt x) c cs solved k d within)
@@ -124,7 +131,8 @@ module _ {C : Type 0} (residue modulus : C → ℤ) where
   no_pairs P None (c ∷ cs) other none = absurd (omega arith)
   no_pairs P (Some x) cs other none = absurd (other x refl)
 
-  pub period_of_solutions : {x : ℤ} (cs : List C) → All IsPositive cs → SolvesEachItem residue modulus cs x → (l : ℤ) × Narrowed (SolvesEachItem residue modulus cs) (SolvesEachItem residue modulus cs) x l
+  pub period_of_solutions : {x : ℤ} (cs : List C) → All IsPositive cs → SolvesEachItem residue modulus cs x
+      → (l : ℤ) × Narrowed (SolvesEachItem residue modulus cs) (SolvesEachItem residue modulus cs) x l
   period_of_solutions {x} [] positive each = (pos 1, narrowed_by_one refl (λ y. All-nil (SolvesAt y)))
   period_of_solutions {x} (c ∷ cs) positive each =
       let up = All-head IsPositive c cs positive in
@@ -142,7 +150,8 @@ module _ {C : Type 0} (residue modulus : C → ℤ) where
 
   -- if some number solves each congruence, there is a least one, beyond the type if none in the type does
   pub least_beyond : {fits : ℤ → Type 0} {from : ℤ} (cs : List C) → All IsPositive cs → (x : ℤ) × SolvesEachItem residue modulus cs x
-      → ((t : ℤ) → from ≤ℤ t → SolvesEachItem residue modulus cs t → ¬ (fits t)) → (t : ℤ) × IsLeastFrom from (SolvesEachItem residue modulus cs) t × ¬ (fits t)
+      → ((t : ℤ) → from ≤ℤ t → SolvesEachItem residue modulus cs t → ¬ (fits t))
+      → (t : ℤ) × IsLeastFrom from (SolvesEachItem residue modulus cs) t × ¬ (fits t)
   least_beyond {from = from} cs positive solution none =
       let period = (period_of_solutions cs positive solution.1).1 in
       let least = least_by_next period (next_congruent_is (residue_exists (solution.0 -ℤ from) period.positive).1) in
@@ -164,11 +173,14 @@ module _ {Each Both : ℤ → Type 0} {from next : ℤ} (narrows : (x : ℤ) →
       omega (arith, linear, h.least x (passed x far has) (narrows x has))
 
   -- none after the last number of the type
-  pub none_after_last : {fits : ℤ → Type 0} {low high t : ℤ} → IsRange fits low high → fits t → IsLeastFrom next Both t → ¬ (Each t) → ¬ (fits (t +ℤ pos 1)) → (x : ℤ) → from ≤ℤ x → Each x → ¬ (fits x)
+  pub none_after_last : {fits : ℤ → Type 0} {low high t : ℤ} → IsRange fits low high → fits t
+      → IsLeastFrom next Both t → ¬ (Each t) → ¬ (fits (t +ℤ pos 1)) → (x : ℤ) → from ≤ℤ x → Each x
+      → ¬ (fits x)
   none_after_last range t_fits h none last x far has x_fits = last (between_fits range t_fits x_fits (omega (arith, linear)) (candidate_passed h none x far has))
 
   -- none if the next number that solves two of them is not in the type
-  pub none_at_end : {X : Type 0} (value : X → ℤ) {fits : ℤ → Type 0} {low high : ℤ} (found : CommonSolution X) → IsRange fits low high → fits next → ((t : X) → found ≡ At t → ⊥)
+  pub none_at_end : {X : Type 0} (value : X → ℤ) {fits : ℤ → Type 0} {low high : ℤ} (found : CommonSolution X)
+      → IsRange fits low high → fits next → ((t : X) → found ≡ At t → ⊥)
       → MatchCommonSolution found ((x : ℤ) → ¬ (Both x)) ((t : ℤ) × IsLeastFrom next Both t × ¬ (fits t)) (FitsWith fits value (IsLeastFrom next Both))
       → (x : ℤ) → from ≤ℤ x → Each x → ¬ (fits x)
   none_at_end value Never range next_fits other h = λ x far has _. h x (narrows x has)
@@ -179,16 +191,20 @@ pub after_candidate : {from next t : ℤ} → from ≤ℤ next → next ≤ℤ t
 after_candidate onward further = omega (arith, linear)
 
 -- each candidate is nearer to the last number of the type
-pub nearer_to_last : {fits : ℤ → Type 0} {low high next t further : ℤ} → IsRange fits low high → fits further → further ≡ t +ℤ pos 1 → next ≤ℤ t → unsigned_abs (high -ℤ further) < unsigned_abs (high -ℤ next)
+pub nearer_to_last : {fits : ℤ → Type 0} {low high next t further : ℤ} → IsRange fits low high → fits further
+    → further ≡ t +ℤ pos 1 → next ≤ℤ t → unsigned_abs (high -ℤ further) < unsigned_abs (high -ℤ next)
 nearer_to_last range further_fits is onward = omega (arith, sizes, ((range.between _).0 further_fits).1)
 
 -- ---- the class of the numbers that solve the congruences so far
 
 module _ {C : Type 0} (residue modulus : C → ℤ) (congruences : List C) {i : ℕ} {first step : ℤ} (h : Narrowed (SolvesEachItem residue modulus congruences) (SolvesEachItem residue modulus (take i congruences)) first step) where
-  pub narrowed_solves : {c : C} → c ≡ get_or congruences i c → i < length congruences → (x : ℤ) → SolvesEachItem residue modulus congruences x → SolvesBothCongruences first step (residue c) (modulus c) x
+  pub narrowed_solves : {c : C} → c ≡ get_or congruences i c → i < length congruences → (x : ℤ)
+      → SolvesEachItem residue modulus congruences x
+      → SolvesBothCongruences first step (residue c) (modulus c) x
   narrowed_solves is within x each = grind arith
 
-  pub narrowed_more : {c : C} {f s : ℤ} → c ≡ get_or congruences i c → i < length congruences → IsResidueClass (SolvesBothCongruences first step (residue c) (modulus c)) f s
+  pub narrowed_more : {c : C} {f s : ℤ} → c ≡ get_or congruences i c → i < length congruences
+      → IsResidueClass (SolvesBothCongruences first step (residue c) (modulus c)) f s
       → Narrowed (SolvesEachItem residue modulus congruences) (SolvesEachItem residue modulus (take (i + 1) congruences)) f s
   narrowed_more is within class = record {
     positive = omega (arith, linear, class.below.from_zero, class.below.below);
@@ -198,7 +214,9 @@ module _ {C : Type 0} (residue modulus : C → ℤ) (congruences : List C) {i : 
         one_item_more (SolvesAt residue modulus x) congruences i is within (h.no_other x both.first) both.second;
   }
 
-pub least_of_class : {Is : ℤ → Type 0} {first step : ℤ} → Narrowed Is Is first step → {A : Type 0} (number : A → ℤ) {fits : ℤ → Type 0} {low high from : ℤ} (found : Option A) → IsRange fits low high → fits from
+pub least_of_class : {Is : ℤ → Type 0} {first step : ℤ} → Narrowed Is Is first step
+    → {A : Type 0} (number : A → ℤ) {fits : ℤ → Type 0} {low high from : ℤ} (found : Option A)
+    → IsRange fits low high → fits from
     → MatchOption found ((t : ℤ) × IsNextCongruent from first step t × ¬ (fits t)) (FitsWith fits number (IsNextCongruent from first step))
     → MatchOption found ((t : ℤ) → from ≤ℤ t → Is t → ¬ (fits t)) (FitsWith fits number (IsLeastFrom from Is))
 least_of_class h number (Some t) range from_fits next = (next.0, least_by_next h next.1)

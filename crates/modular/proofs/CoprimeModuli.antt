@@ -6,7 +6,8 @@ coprime_by : {a m : ℤ} → ((d : ℤ) → Divides d a → Divides d m → Divi
 coprime_by {a} {m} each = record { from_zero = omega (arith, linear); divides_left = one_divides a; divides_right = one_divides m; greatest = each }
 
 -- A number that is coprime to two numbers is coprime to their product.
-pub coprime_product : {a m n : ℤ} → IsGreatestCommonDivisor a m (pos 1) → IsGreatestCommonDivisor a n (pos 1) → IsGreatestCommonDivisor a (m *ℤ n) (pos 1)
+pub coprime_product : {a m n : ℤ} → IsGreatestCommonDivisor a m (pos 1) → IsGreatestCommonDivisor a n (pos 1)
+    → IsGreatestCommonDivisor a (m *ℤ n) (pos 1)
 coprime_product h k = coprime_by (λ d left right.
     let apart = coprime_by (λ e of_m of_d. h.greatest e (Divides_trans of_d left) of_m) in
     k.greatest d left (coprime_divides apart right))

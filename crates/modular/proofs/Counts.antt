@@ -9,7 +9,8 @@ step_further : {step t first : ℤ} → AreCongruent step t first → AreCongrue
 step_further {step} {t} h = congruent_trans (congruent_by (pos 1) (omega (arith, products))) h
 
 -- the least number of steps that reaches `from` leads to the next congruent number
-pub next_by_times : {from start first step k : ℤ} → pos 0 <ℤ step → AreCongruent step first start → IsTimesToReach from start step k → IsNextCongruent from first step (start +ℤ step *ℤ k)
+pub next_by_times : {from start first step k : ℤ} → pos 0 <ℤ step → AreCongruent step first start
+    → IsTimesToReach from start step k → IsNextCongruent from first step (start +ℤ step *ℤ k)
 next_by_times {from} {start} {first} {step} {k} up at_start h = record {
   from_there = h.from_there;
   holds = congruent_trans (congruent_by k (omega (arith, linear))) (congruent_sym at_start);
@@ -20,7 +21,8 @@ next_by_times {from} {start} {first} {step} {k} up at_start h = record {
 }
 
 -- the count is the number of steps from the first congruent number to the first one after the range
-count_of_steps : {to first step u : ℤ} (n : ℕ) {from t : ℤ} → pos 0 <ℤ step → IsNextCongruent from first step t → IsNextCongruent (to +ℤ pos 1) first step u → u ≡ t +ℤ step *ℤ pos n
+count_of_steps : {to first step u : ℤ} (n : ℕ) {from t : ℤ} → pos 0 <ℤ step
+    → IsNextCongruent from first step t → IsNextCongruent (to +ℤ pos 1) first step u → u ≡ t +ℤ step *ℤ pos n
     → IsCountOfCongruent from to first step (pos n)
 count_of_steps {to} {u = u} zero {from} {t} up at_start at_end is = grind (arith, products)
 count_of_steps {to} {first} {step} {u} (suc n) {from} {t} up at_start at_end is =
@@ -32,7 +34,11 @@ count_of_steps {to} {first} {step} {u} (suc n) {from} {t} up at_start at_end is 
     record {
       items = t ∷ rest.items;
       all = (
-        record { from_there = at_start.from_there; holds = record { to_there = within; congruent = at_start.holds }; least = λ x far h. at_start.least x far h.congruent },
+        record {
+          from_there = at_start.from_there;
+          holds = record { to_there = within; congruent = at_start.holds };
+          least = λ x far h. at_start.least x far h.congruent;
+        },
         rest.all,
       );
       counted = omega (arith, ints, rest.counted);
@@ -44,12 +50,14 @@ pub record IsCountedByTimes (from to first step times : ℤ) : Type 0 where
   pub last : AreCongruent step to first → IsCountOfCongruent from to first step (times +ℤ pos 1)
   pub other : ¬ (AreCongruent step to first) → IsCountOfCongruent from to first step times
 
-counted_steps : {from to first step t u count : ℤ} → pos 0 <ℤ step → IsNextCongruent from first step t → IsNextCongruent (to +ℤ pos 1) first step u → pos 0 ≤ℤ count → u ≡ t +ℤ step *ℤ count
+counted_steps : {from to first step t u count : ℤ} → pos 0 <ℤ step → IsNextCongruent from first step t
+    → IsNextCongruent (to +ℤ pos 1) first step u → pos 0 ≤ℤ count → u ≡ t +ℤ step *ℤ count
     → IsCountOfCongruent from to first step count
 counted_steps {count = pos n} up at_start at_end from_zero is = count_of_steps n up at_start at_end is
 counted_steps {count = negsuc n} up at_start at_end from_zero is = absurd (omega (arith, ints))
 
-pub counted_by_times : {from to first start step j k : ℤ} → pos 0 <ℤ step → IsResidue step first start → ¬ (to <ℤ from) → IsTimesToReach to start step k → IsTimesToReach from start step j
+pub counted_by_times : {from to first start step j k : ℤ} → pos 0 <ℤ step → IsResidue step first start
+    → ¬ (to <ℤ from) → IsTimesToReach to start step k → IsTimesToReach from start step j
     → IsCountedByTimes from to first step (k -ℤ j)
 counted_by_times {from} {to} {first} {start} {step} {j} {k} up at_start ordered at_end at_from =
     let times = at_from.least k (omega (arith, linear, at_end.from_there, from_not_less ordered)) in
@@ -69,6 +77,8 @@ counted_by_times {from} {to} {first} {start} {step} {j} {k} up at_start ordered 
           counted_steps up own (record { from_there = by_lt_z to (start +ℤ step *ℤ k) (λ less. omega (arith, linear)) (λ fine. absurd (apart_from (omega (arith, linear)))); holds = last.holds; least = λ x beyond near. last.least x (omega (arith, linear)) near }) (omega (arith, linear)) apart;
     }
 
-pub count_from_zero : {X : Type 0} (fits : ℤ → Type 0) (value : X → ℤ) (N : Type 0) (from : ℤ) (Has : ℤ → Type 0) (r : Option X) → MatchOption r N (λ n. fits (value n) × IsCountFrom from Has (value n)) → IfSome r (λ n. pos 0 ≤ℤ value n)
+pub count_from_zero : {X : Type 0} (fits : ℤ → Type 0) (value : X → ℤ) (N : Type 0) (from : ℤ) (Has : ℤ → Type 0) (r : Option X)
+    → MatchOption r N (λ n. fits (value n) × IsCountFrom from Has (value n))
+    → IfSome r (λ n. pos 0 ≤ℤ value n)
 count_from_zero fits value N from Has (Some n) h = omega (arith, ints, h.1.counted)
 count_from_zero fits value N from Has None h = tt

@@ -40,7 +40,8 @@ halved_by {two = two} {rest = rest} {half = half} {digit = digit} first_is one_i
     record { half_from_zero = omega (arith, sizes); smaller = omega (arith, sizes); whole = whole; is_digit = grind (arith, sizes) }
 
 -- the new total is the old one, and the addend if the digit is 1
-pub doubling_iteration : {m x y total addend rest half digit t a : ℤ} → Doubling m x y total addend rest → IsHalved rest half digit → LiesBelow m t → AreCongruent m (total +ℤ addend *ℤ digit) t
+pub doubling_iteration : {m x y total addend rest half digit t a : ℤ} → Doubling m x y total addend rest
+    → IsHalved rest half digit → LiesBelow m t → AreCongruent m (total +ℤ addend *ℤ digit) t
     → IsResidue m (addend +ℤ addend) a → Doubling m x y t a half
 doubling_iteration {total = total} {addend = addend} {half = half} {digit = digit} h k below sum double =
     let split : total +ℤ addend *ℤ ((half +ℤ half) +ℤ digit) ≡ (total +ℤ addend *ℤ digit) +ℤ (addend +ℤ addend) *ℤ half = simp expand (omega (arith, linear)) in
@@ -50,11 +51,13 @@ doubling_iteration {total = total} {addend = addend} {half = half} {digit = digi
 pub total_at_zero : {m digit : ℤ} (total addend : ℤ) → digit ≡ pos 0 → AreCongruent m (total +ℤ addend *ℤ digit) total
 total_at_zero total addend zero = congruent_by (pos 0) (rw zero (omega (arith, products)))
 
-pub total_at_one : {m digit t : ℤ} (total addend : ℤ) → (digit ≡ pos 0) ⊎ (digit ≡ pos 1) → digit ≢ pos 0 → AreCongruent m (total +ℤ addend) t → AreCongruent m (total +ℤ addend *ℤ digit) t
+pub total_at_one : {m digit t : ℤ} (total addend : ℤ) → (digit ≡ pos 0) ⊎ (digit ≡ pos 1) → digit ≢ pos 0
+    → AreCongruent m (total +ℤ addend) t → AreCongruent m (total +ℤ addend *ℤ digit) t
 total_at_one {digit = digit} total addend is_digit other h = let one : digit ≡ pos 1 = omega (arith, linear, is_digit) in rw (one, mul-one addend) h
 
 -- at the end the rest is 1, or 0 and the total is the product
-pub doubling_last : {m x y total addend rest r : ℤ} → Doubling m x y total addend rest → ¬ (pos 1 <ℤ rest) → rest ≢ pos 0 → IsResidue m (total +ℤ addend) r → IsResidue m (x *ℤ y) r
+pub doubling_last : {m x y total addend rest r : ℤ} → Doubling m x y total addend rest → ¬ (pos 1 <ℤ rest)
+    → rest ≢ pos 0 → IsResidue m (total +ℤ addend) r → IsResidue m (x *ℤ y) r
 doubling_last {total = total} {addend = addend} {rest = rest} h low other sum =
     let one : rest ≡ pos 1 = omega (arith, linear, h.rest_from_zero, from_not_less low) in
     record { below = sum.below; congruent = congruent_trans h.congruent (total_at_one total addend (inr one) other sum.congruent) }

@@ -15,7 +15,8 @@ pub record EuclidDivision (m a previous current previous_size size s : ℤ) : Ty
   pub previous_is : AreCongruent m previous (neg_ℤ s *ℤ (previous_size *ℤ a))
   pub current_is : AreCongruent m current (s *ℤ (size *ℤ a))
 
-pub first_division : {m a x none one : ℤ} → pos 0 <ℤ m → IsResidue m a x → none ≡ pos 0 → one ≡ pos 1 → EuclidDivision m a m x none one (signed false 1)
+pub first_division : {m a x none one : ℤ} → pos 0 <ℤ m → IsResidue m a x → none ≡ pos 0 → one ≡ pos 1
+    → EuclidDivision m a m x none one (signed false 1)
 first_division {m} {a} {x} {none} {one} up h none_is one_is = record {
   previous_from_zero = omega (arith, linear);
   current_from_zero = h.below.from_zero;
@@ -61,12 +62,14 @@ module _ {m a p c u v q r s : ℤ} (h : EuclidDivision m a p c u v s) (nonzero :
   pub next_size_fits : {fits : ℤ → Type 0} {low high : ℤ} → IsRange fits low high → fits m → fits (u +ℤ q *ℤ v)
   next_size_fits range m_fits = within_fits range m_fits (inl (next_up, next_at_most))
 
-next_is : (s a u v q : ℤ) {m p c : ℤ} → AreCongruent m p (neg_ℤ s *ℤ (u *ℤ a)) → AreCongruent m c (s *ℤ (v *ℤ a)) → AreCongruent m (p -ℤ q *ℤ c) (neg_ℤ s *ℤ ((u +ℤ q *ℤ v) *ℤ a))
+next_is : (s a u v q : ℤ) {m p c : ℤ} → AreCongruent m p (neg_ℤ s *ℤ (u *ℤ a))
+    → AreCongruent m c (s *ℤ (v *ℤ a)) → AreCongruent m (p -ℤ q *ℤ c) (neg_ℤ s *ℤ ((u +ℤ q *ℤ v) *ℤ a))
 next_is s a u v q h k =
     let spread : neg_ℤ s *ℤ (u *ℤ a) -ℤ q *ℤ (s *ℤ (v *ℤ a)) ≡ neg_ℤ s *ℤ ((u +ℤ q *ℤ v) *ℤ a) = simp expand (omega (arith, linear)) in
     rw spread at (congruent_difference h (congruent_product (congruent_refl q) k))
 
-pub next_division : {m a p c u v q r next : ℤ} (n : Bool) → EuclidDivision m a p c u v (signed n 1) → c ≢ pos 0 → IsTruncated p c q r → next ≡ u +ℤ q *ℤ v → EuclidDivision m a c r v next (signed (not n) 1)
+pub next_division : {m a p c u v q r next : ℤ} (n : Bool) → EuclidDivision m a p c u v (signed n 1)
+    → c ≢ pos 0 → IsTruncated p c q r → next ≡ u +ℤ q *ℤ v → EuclidDivision m a c r v next (signed (not n) 1)
 next_division {a = a} {u = u} {v = v} {q = q} n h nonzero division is =
     let back : neg_ℤ (neg_ℤ (signed n 1)) ≡ signed n 1 = omega (arith, linear) in
     rw (is, signed-not n 1 refl) (record {

@@ -18,7 +18,8 @@ square_apart : (y : ℤ) → (y -ℤ pos 1) *ℤ (y -ℤ pos 1) ≡ pos 1 -ℤ y
 square_apart y = simp expand (omega (arith, products))
 
 -- from the inverse modulo d to that modulo a divisor of its square
-newton : (m x : ℤ) {d e next : ℤ} → Divides e (d *ℤ d) → AreCongruent d (m *ℤ x) (pos 1) → AreCongruent e next (x *ℤ (pos 2 -ℤ m *ℤ x)) → AreCongruent e (m *ℤ next) (pos 1)
+newton : (m x : ℤ) {d e next : ℤ} → Divides e (d *ℤ d) → AreCongruent d (m *ℤ x) (pos 1)
+    → AreCongruent e next (x *ℤ (pos 2 -ℤ m *ℤ x)) → AreCongruent e (m *ℤ next) (pos 1)
 newton m x divides h step =
     let first : (m *ℤ x) *ℤ (pos 2 -ℤ m *ℤ x) ≡ m *ℤ (x *ℤ (pos 2 -ℤ m *ℤ x)) = simp expand (omega (arith, linear)) in
     let near = rw (square_apart (m *ℤ x), first) at (Divides_trans divides (divides_product h.divides h.divides)) in

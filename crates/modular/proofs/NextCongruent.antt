@@ -7,8 +7,13 @@ not_larger : {modulus from t u : ℤ} → AreCongruent modulus t u → from ≤�
 not_larger h u_from t_below = from_not_less (λ less. let none = small_multiple_is_zero h.divides (omega (arith, sizes)) in omega (arith, linear))
 
 -- a number less than the modulus further is the next one
-pub next_within_step : {from residue modulus t : ℤ} → AreCongruent modulus t residue → from ≤ℤ t → t <ℤ (from +ℤ modulus) → IsNextCongruent from residue modulus t
-next_within_step near t_from t_below = record { from_there = t_from; holds = near; least = λ u u_from h. not_larger (congruent_trans near (congruent_sym h)) u_from t_below }
+pub next_within_step : {from residue modulus t : ℤ} → AreCongruent modulus t residue → from ≤ℤ t
+    → t <ℤ (from +ℤ modulus) → IsNextCongruent from residue modulus t
+next_within_step near t_from t_below = record {
+  from_there = t_from;
+  holds = near;
+  least = λ u u_from h. not_larger (congruent_trans near (congruent_sym h)) u_from t_below;
+}
 
 -- it comes after the residue of the difference
 pub next_congruent_is : {from residue modulus w : ℤ} → IsResidue modulus (residue -ℤ from) w → IsNextCongruent from residue modulus (from +ℤ w)
@@ -27,18 +32,22 @@ previous_congruent_is {to} {residue} {modulus} {w} wait =
     }
 
 -- a number with the property fits the type or is beyond it
-pub found_or_beyond : {X : Type 0} (fits : ℤ → Type 0) (value : X → ℤ) (Is : ℤ → Type 0) {z : ℤ} (found : Option X) → Is z → AnswersWhere (fits z) (λ t. fits (value t) × (value t ≡ z)) found
+pub found_or_beyond : {X : Type 0} (fits : ℤ → Type 0) (value : X → ℤ) (Is : ℤ → Type 0) {z : ℤ} (found : Option X)
+    → Is z → AnswersWhere (fits z) (λ t. fits (value t) × (value t ≡ z)) found
     → MatchOption found ((t : ℤ) × Is t × ¬ (fits t)) (FitsWith fits value Is)
 found_or_beyond fits value Is (Some t) is h = (h.1.0, subst Is (sym h.1.1) is)
 found_or_beyond fits value Is None is h = (_, is, h)
 
 -- if it fits, it is less than the modulus away
-pub near_next : {X : Type 0} (fits : ℤ → Type 0) (value : X → ℤ) (from : ℤ) {modulus w : ℤ} (found : Option X) → LiesBelow modulus w → AnswersWhere (fits (from +ℤ w)) (λ t. fits (value t) × (value t ≡ from +ℤ w)) found
+pub near_next : {X : Type 0} (fits : ℤ → Type 0) (value : X → ℤ) (from : ℤ) {modulus w : ℤ} (found : Option X)
+    → LiesBelow modulus w
+    → AnswersWhere (fits (from +ℤ w)) (λ t. fits (value t) × (value t ≡ from +ℤ w)) found
     → IfSome found (λ t. value t <ℤ (from +ℤ modulus))
 near_next fits value from (Some t) below h = omega (arith, linear, below.below, h.1.1)
 near_next fits value from None below h = tt
 
-pub near_previous : {X : Type 0} (fits : ℤ → Type 0) (value : X → ℤ) (to : ℤ) {modulus w : ℤ} (found : Option X) → LiesBelow modulus w → AnswersWhere (fits (to -ℤ w)) (λ t. fits (value t) × (value t ≡ to -ℤ w)) found
+pub near_previous : {X : Type 0} (fits : ℤ → Type 0) (value : X → ℤ) (to : ℤ) {modulus w : ℤ} (found : Option X)
+    → LiesBelow modulus w → AnswersWhere (fits (to -ℤ w)) (λ t. fits (value t) × (value t ≡ to -ℤ w)) found
     → IfSome found (λ t. (to -ℤ modulus) <ℤ value t)
 near_previous fits value to (Some t) below h = omega (arith, linear, below.below, h.1.1)
 near_previous fits value to None below h = tt

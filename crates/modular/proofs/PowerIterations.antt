@@ -17,11 +17,13 @@ powering_first {a = a} e first =
     record { congruent = rw (comm (pos 1) (int_pow a e), mul-one (int_pow a e)) at (congruent_product first (congruent_refl (int_pow a e))) }
 
 -- by the last binary digit, and by the square to the power of the half
-by_last_digit : (power square : ℤ) (digit h : ℕ) → power *ℤ int_pow square (digit + (h + h)) ≡ (power *ℤ int_pow square digit) *ℤ int_pow (square *ℤ square) h
+by_last_digit : (power square : ℤ) (digit h : ℕ)
+    → power *ℤ int_pow square (digit + (h + h)) ≡ (power *ℤ int_pow square digit) *ℤ int_pow (square *ℤ square) h
 by_last_digit power square digit h = rw (int_pow_add square digit (h + h), power_of_square square h) (simp expand refl)
 
 -- the power is multiplied if the last digit is 1
-pub powering_iteration : {m a power square p s : ℤ} {e rest : ℕ} → Powering m a e power square rest → AreCongruent m (power *ℤ int_pow square (rest % 2)) p → AreCongruent m (square *ℤ square) s
+pub powering_iteration : {m a power square p s : ℤ} {e rest : ℕ} → Powering m a e power square rest
+    → AreCongruent m (power *ℤ int_pow square (rest % 2)) p → AreCongruent m (square *ℤ square) s
     → Powering m a e p s (rest / 2)
 powering_iteration {m} {a} {power} {square} {e = e} {rest = rest} h product next =
     let digits : rest ≡ rest % 2 + (rest / 2 + rest / 2) = omega arith in

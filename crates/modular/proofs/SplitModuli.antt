@@ -60,7 +60,8 @@ module _ (m i : ℕ) (inverse : m * i % 2 ^ 64 ≡ 1) where
   joined_low x y = joined_at_unit (pos m *ℤ pos i) (represented m i x) (pos y) unit
 
   -- the pair of z: the form of z modulo the odd factor, and its low bits
-  pub joined_is : (x y : ℕ) {z : ℤ} → AreCongruent (pos m) z (represented m i x) → AreCongruent (pos (2 ^ 64)) z (pos y) → AreCongruent (pos (m * 2 ^ 64)) z (joined m i x y)
+  pub joined_is : (x y : ℕ) {z : ℤ} → AreCongruent (pos m) z (represented m i x)
+      → AreCongruent (pos (2 ^ 64)) z (pos y) → AreCongruent (pos (m * 2 ^ 64)) z (joined m i x y)
   joined_is x y odd low = congruent-both (pos i) unit (congruent_trans odd (congruent_sym (joined_odd x y))) (congruent_trans low (congruent_sym (joined_low x y)))
 
   -- the pair of a number that fits in 64 bits
@@ -75,7 +76,8 @@ module _ (m i : ℕ) (inverse : m * i % 2 ^ 64 ≡ 1) where
       (congruent_trans (congruent_product (joined_low x y) (joined_low u v)) (natural_residue (y * v) (omega arith)).congruent)
 
   -- its residue modulo m times a power of two
-  joined_residue : (x y k r q : ℕ) → k ≤ 64 → q < 2 ^ k → IsResidue (pos m) (represented m i x) (pos r) → AreCongruent (pos (2 ^ k)) (pos r +ℤ pos m *ℤ pos q) (pos y)
+  joined_residue : (x y k r q : ℕ) → k ≤ 64 → q < 2 ^ k → IsResidue (pos m) (represented m i x) (pos r)
+      → AreCongruent (pos (2 ^ k)) (pos r +ℤ pos m *ℤ pos q) (pos y)
       → IsResidue (pos (m * 2 ^ k)) (joined m i x y) (pos (r + m * q))
   joined_residue x y k r q few small h low =
       let below = h.below.below in
@@ -98,7 +100,8 @@ module _ (m i : ℕ) (inverse : m * i % 2 ^ 64 ≡ 1) where
       rw power (joined_residue x y k r _ (omega arith) (mod_below _ (2 ^ k) up) h (quotient_low m i r y up (omega arith) small (low_divides k (omega arith)) unit))
 
   -- the residue of a power, from the pair of the base
-  pub power_residue : (a e k : ℕ) {n r : ℕ} {base power : ℤ} → m * 2 ^ k ≡ n → k ≤ 64 → AreCongruent (pos (m * 2 ^ 64)) (pos a) base → AreCongruent (pos (m * 2 ^ 64)) (int_pow base e) power
+  pub power_residue : (a e k : ℕ) {n r : ℕ} {base power : ℤ} → m * 2 ^ k ≡ n → k ≤ 64
+      → AreCongruent (pos (m * 2 ^ 64)) (pos a) base → AreCongruent (pos (m * 2 ^ 64)) (int_pow base e) power
       → IsResidue (pos (m * 2 ^ k)) power (pos r) → IsResidue (pos n) (int_pow (pos a) e) (pos r)
   power_residue a e k n_is few at_base at_power h =
       let near = congruent_divisor (Divides_times (pos m) (low_divides k few)) (congruent_trans (congruent_power e at_base) at_power) in

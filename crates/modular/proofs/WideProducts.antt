@@ -12,7 +12,9 @@ residue_by_magnitude : {m z : ℤ} {w p : ℕ} → pos 0 <ℤ m → w ≡ unsign
 residue_by_magnitude {m} {w = w} up size h = let m_is : pos w ≡ m = omega (arith, sizes) in rw m_is at h
 
 -- the residue of a product, by signs and magnitudes
-pub residue_by_magnitudes : (s t : Bool) (u v : ℕ) {w r : ℕ} {m a b : ℤ} → pos 0 <ℤ m → IsTrue s ↔ (a <ℤ pos 0) → IsTrue t ↔ (b <ℤ pos 0) → u ≡ unsigned_abs a → v ≡ unsigned_abs b → w ≡ unsigned_abs m
+pub residue_by_magnitudes : (s t : Bool) (u v : ℕ) {w r : ℕ} {m a b : ℤ} → pos 0 <ℤ m
+    → IsTrue s ↔ (a <ℤ pos 0) → IsTrue t ↔ (b <ℤ pos 0) → u ≡ unsigned_abs a → v ≡ unsigned_abs b
+    → w ≡ unsigned_abs m
     → IsResidue (pos w) (signed (not (beq s t)) (u * v)) (pos r) → IsResidue m (a *ℤ b) (pos r)
 residue_by_magnitudes s t u v up a_sign b_sign a_size b_size m_size h =
     rw (← signed_product s t u v, signed_is a_sign a_size, signed_is b_sign b_size) at (residue_by_magnitude up m_size h)

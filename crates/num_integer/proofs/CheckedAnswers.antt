@@ -27,7 +27,8 @@ answer_only {fits} {P} own only w_fits is = (λ y h. subst fits (is ∙ only y h
 -- ---- products by their magnitudes
 
 -- if the magnitude of a product fits, the product does
-pub product_fits_by_size : {fits : ℤ → Type 0} {low high : ℤ} (a b : ℤ) → IsRange fits low high → fits a → fits b → fits (pos (unsigned_abs (a *ℤ b))) → fits (a *ℤ b)
+pub product_fits_by_size : {fits : ℤ → Type 0} {low high : ℤ} (a b : ℤ) → IsRange fits low high → fits a
+    → fits b → fits (pos (unsigned_abs (a *ℤ b))) → fits (a *ℤ b)
 product_fits_by_size {low = low} a b range a_fits b_fits size_fits =
     let a_in = (range.between a).0 a_fits in
     let b_in = (range.between b).0 b_fits in
@@ -42,7 +43,8 @@ negated_is z below = omega (arith, sizes)
 -- ---- least common multiples
 
 -- the least common multiple with 0 is 0
-pub zero_lcm : (fits : ℤ → Type 0) {a b z : ℤ} → (a ≡ pos 0) ⊎ (b ≡ pos 0) → fits z → z ≡ pos 0 → EachFits fits (IsLeastCommonMultiple a b) × (fits z × IsLeastCommonMultiple a b z)
+pub zero_lcm : (fits : ℤ → Type 0) {a b z : ℤ} → (a ≡ pos 0) ⊎ (b ≡ pos 0) → fits z → z ≡ pos 0
+    → EachFits fits (IsLeastCommonMultiple a b) × (fits z × IsLeastCommonMultiple a b z)
 zero_lcm fits {a} {b} with_zero z_fits is =
     let own = lcm_zero with_zero in
     answer_only {P = IsLeastCommonMultiple a b} own (λ y. only_lcm own) z_fits is
@@ -55,7 +57,8 @@ lcm_by_gcd {a} {b} {g} {q} nonzero greatest is =
     lcm-product greatest nonzero (rw (exact, left_comm a g q, unsigned_abs-mul g (a *ℤ q)) (ap (λ (n : ℤ). n *ℤ pos (unsigned_abs (a *ℤ q))) size))
 
 -- if it fits, the greatest common divisor does
-pub gcd_fits_with_lcm : {fits : ℤ → Type 0} {low high a b : ℤ} → IsRange fits low high → a ≢ pos 0 → b ≢ pos 0 → EachFits fits (IsLeastCommonMultiple a b) → EachFits fits (IsGreatestCommonDivisor a b)
+pub gcd_fits_with_lcm : {fits : ℤ → Type 0} {low high a b : ℤ} → IsRange fits low high → a ≢ pos 0 → b ≢ pos 0
+    → EachFits fits (IsLeastCommonMultiple a b) → EachFits fits (IsGreatestCommonDivisor a b)
 gcd_fits_with_lcm {a = a} {b = b} range a_nonzero b_nonzero each g greatest =
     let own = lcm_exists a b in
     fits_below range (each own.0 own.1) greatest.from_zero (divisor_at_most (lcm_positive own.1 a_nonzero b_nonzero) (Divides_trans greatest.divides_right own.1.right_divides))
@@ -63,7 +66,8 @@ gcd_fits_with_lcm {a = a} {b = b} range a_nonzero b_nonzero each g greatest =
 -- ---- results that are computed in a wider type and converted to a narrower one
 
 -- The only number with a property, converted to a type, is the result exactly if it fits the type.
-pub narrowed : {X E D : Type 0} (value : X → ℤ) (fits P : ℤ → Type 0) {y : X} (r : Result X E) → D → P (value y) → IsOnly P (value y) → OkIff r (fits (value y)) y
+pub narrowed : {X E D : Type 0} (value : X → ℤ) (fits P : ℤ → Type 0) {y : X} (r : Result X E) → D
+    → P (value y) → IsOnly P (value y) → OkIff r (fits (value y)) y
     → AnswersWhere (D × EachFits fits P) (FitsWith fits value P) (result_ok r)
 narrowed value fits P (Ok x) domain is only converted =
     ((domain, λ z own. subst fits (sym (only z own)) converted.0), (rw converted.1 converted.0, rw converted.1 is))

@@ -33,7 +33,8 @@ pub each_fits : {fits P : ℤ → Type 0} {x : ℤ} {A : Type 0} → P x → ((y
 each_fits {fits} own only test = (λ t y h. subst fits (only y h) (test.0 t), λ each. test.1 (each _ own))
 
 -- the same by a divisor that is not 0
-pub each_fits_by : {fits P : ℤ → Type 0} {x d : ℤ} {A : Type 0} → d ≢ pos 0 → P x → ((y : ℤ) → P y → x ≡ y) → A ↔ fits x → A ↔ ((d ≢ pos 0) × EachFits fits P)
+pub each_fits_by : {fits P : ℤ → Type 0} {x d : ℤ} {A : Type 0} → d ≢ pos 0 → P x → ((y : ℤ) → P y → x ≡ y)
+    → A ↔ fits x → A ↔ ((d ≢ pos 0) × EachFits fits P)
 each_fits_by {fits} {P} nonzero own only test = let each = each_fits {fits = fits} {P = P} own only test in (λ t. (nonzero, each.0 t), λ domain. each.1 domain.1)
 
 -- a power of two that fits has fewer than 128 twos
@@ -48,7 +49,8 @@ gcd_domain range a_fits b_fits test = let same = gcd_fits_is range a_fits b_fits
 -- ---- when the quotient of a division fits, of any kind
 
 module _ {fits : ℤ → Type 0} {low high n d : ℤ} {Kind : ℤ → ℤ → ℤ → ℤ → Type 0} (kind : IsKind Kind) (range : IsRange fits low high) (n_fits : fits n) (d_fits : fits d) where
-  pub by_minus_one : (magnitude top : ℕ) → d ≡ negsuc 0 → magnitude ≡ unsigned_abs n → pos top ≡ high → IsTrue (nat_le magnitude top) ↔ ((d ≢ pos 0) × EachFits fits (IsQuotient Kind n d))
+  pub by_minus_one : (magnitude top : ℕ) → d ≡ negsuc 0 → magnitude ≡ unsigned_abs n → pos top ≡ high
+      → IsTrue (nat_le magnitude top) ↔ ((d ≢ pos 0) × EachFits fits (IsQuotient Kind n d))
   by_minus_one magnitude top minus size ends =
       let n_in = (range.between n).0 n_fits in
       let d_in = (range.between d).0 d_fits in
@@ -64,7 +66,8 @@ module _ {fits : ℤ → Type 0} {low high n d : ℤ} {Kind : ℤ → ℤ → �
 -- ---- when the next and the previous multiple fit
 
 -- a number is that of its sign and magnitude
-pub signed_is : {negative : Bool} {magnitude : ℕ} {z : ℤ} → IsTrue negative ↔ (z <ℤ pos 0) → magnitude ≡ unsigned_abs z → signed negative magnitude ≡ z
+pub signed_is : {negative : Bool} {magnitude : ℕ} {z : ℤ} → IsTrue negative ↔ (z <ℤ pos 0)
+    → magnitude ≡ unsigned_abs z → signed negative magnitude ≡ z
 signed_is {negative = true} sign size = let below = sign.0 refl in omega (arith, linear, abs_is)
 signed_is {negative = false} sign size = let up = from_test sign refl in omega (arith, linear, abs_is)
 
@@ -77,19 +80,22 @@ module _ {fits : ℤ → Type 0} {low high : ℤ} {least most : ℕ} (range : Is
   inside : (z : ℤ) → IsWithin least most z ↔ fits z
   inside z = grind arith
 
-  pub parts_inside : {negative : Bool} {magnitude : ℕ} {z : ℤ} → IsTrue negative ↔ (z <ℤ pos 0) → magnitude ≡ unsigned_abs z → fits z → IsWithin least most (signed negative magnitude)
+  pub parts_inside : {negative : Bool} {magnitude : ℕ} {z : ℤ} → IsTrue negative ↔ (z <ℤ pos 0)
+      → magnitude ≡ unsigned_abs z → fits z → IsWithin least most (signed negative magnitude)
   parts_inside sign size z_fits = rw (signed_is sign size) ((inside _).1 z_fits)
 
   pub test_inside : {answer : Bool} {z : ℤ} → IsTrue answer ↔ IsWithin least most z → IsTrue answer ↔ fits z
   test_inside test = (λ t. (inside _).0 (test.0 t), λ f. test.1 ((inside _).1 f))
 
   -- the same of a number that is computed of two, by their signs and magnitudes
-  pub test_of_both : {answer s t : Bool} {m n : ℕ} {a b : ℤ} (of : ℤ → ℤ → ℤ) → IsTrue s ↔ (a <ℤ pos 0) → m ≡ unsigned_abs a → IsTrue t ↔ (b <ℤ pos 0) → n ≡ unsigned_abs b
+  pub test_of_both : {answer s t : Bool} {m n : ℕ} {a b : ℤ} (of : ℤ → ℤ → ℤ) → IsTrue s ↔ (a <ℤ pos 0)
+      → m ≡ unsigned_abs a → IsTrue t ↔ (b <ℤ pos 0) → n ≡ unsigned_abs b
       → IsTrue answer ↔ IsWithin least most (of (signed s m) (signed t n)) → IsTrue answer ↔ fits (of a b)
   test_of_both of s m t n test = test_inside (rw (signed_is s m, signed_is t n) at test)
 
 -- if the multiple is a known number
-pub multiple_domain : {fits : ℤ → Type 0} {Kind : ℤ → ℤ → ℤ → ℤ → Type 0} {n d m : ℤ} {answer : Bool} → IsKind Kind → d ≢ pos 0 → IsMultiple Kind n d m → IsTrue answer ↔ fits m
+pub multiple_domain : {fits : ℤ → Type 0} {Kind : ℤ → ℤ → ℤ → ℤ → Type 0} {n d m : ℤ} {answer : Bool}
+    → IsKind Kind → d ≢ pos 0 → IsMultiple Kind n d m → IsTrue answer ↔ fits m
     → IsTrue answer ↔ ((d ≢ pos 0) × EachFits fits (IsMultiple Kind n d))
 multiple_domain kind nonzero own test = each_fits_by nonzero own (λ k h. sym (only_multiple (λ q r p s. kind.only) own k h)) test
 
@@ -107,7 +113,8 @@ module _ {fits : ℤ → Type 0} {low high a b : ℤ} {most m n : ℕ} (range : 
       each_fits own (λ h. only_gcd own) (test_up range top)
 
   -- else it is at most either
-  pub gcd_of_nonzero : {least : ℕ} → fits a → fits b → m ≢ 0 → n ≢ 0 → least ≡ min m n → IsTrue (nat_le least most) ↔ EachFits fits (IsGreatestCommonDivisor a b)
+  pub gcd_of_nonzero : {least : ℕ} → fits a → fits b → m ≢ 0 → n ≢ 0 → least ≡ min m n
+      → IsTrue (nat_le least most) ↔ EachFits fits (IsGreatestCommonDivisor a b)
   gcd_of_nonzero {least} a_fits b_fits m_nonzero n_nonzero is = (
     λ t g greatest.
         let a_size = divisor_size greatest.divides_left (λ e. m_nonzero (left ∙ ap unsigned_abs e)) in
@@ -131,6 +138,7 @@ module _ {fits : ℤ → Type 0} {low high a b : ℤ} {most m n : ℕ} (range : 
       fits_128_bits h.from_zero (omega (arith, linear, within, range.bounded)))
 
 -- a sum with a number that is not negative fits exactly if it is at most the largest number, by signs and magnitudes
-pub sum_fits_exactly : {fits : ℤ → Type 0} {low high a b : ℤ} {negative answer : Bool} {m n h : ℕ} → IsRange fits low high → fits a → pos 0 ≤ℤ b → IsTrue negative ↔ (a <ℤ pos 0) → m ≡ unsigned_abs a
+pub sum_fits_exactly : {fits : ℤ → Type 0} {low high a b : ℤ} {negative answer : Bool} {m n h : ℕ}
+    → IsRange fits low high → fits a → pos 0 ≤ℤ b → IsTrue negative ↔ (a <ℤ pos 0) → m ≡ unsigned_abs a
     → n ≡ unsigned_abs b → pos h ≡ high → IsTrue answer ↔ ((signed negative m +ℤ pos n) ≤ℤ pos h) → IsTrue answer ↔ fits (a +ℤ b)
 sum_fits_exactly {high = high} {a = a} {b = b} {answer = answer} {n = n} range a_fits up negative a_size b_size top test = grind (arith, sizes)

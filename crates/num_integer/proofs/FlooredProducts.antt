@@ -17,14 +17,17 @@ signed_product false true m n = grind (arith, products)
 signed_product false false m n = grind (arith, products)
 
 -- the floored division of a number by signs and magnitudes, from that of its magnitude with the sign of the quotient by the magnitude of the divisor
-pub division_by_magnitudes : (s u : Bool) (m e : ℕ) {q : ℤ} {r : ℕ} → IsFloored (signed (not (beq s u)) m) (pos e) q (pos r) → IsFloored (signed s m) (signed u e) q (signed u r)
+pub division_by_magnitudes : (s u : Bool) (m e : ℕ) {q : ℤ} {r : ℕ}
+    → IsFloored (signed (not (beq s u)) m) (pos e) q (pos r)
+    → IsFloored (signed s m) (signed u e) q (signed u r)
 division_by_magnitudes true false m e h = h
 division_by_magnitudes false false m e h = h
 division_by_magnitudes true true m e h = grind (arith, products, sizes)
 division_by_magnitudes false true m e h = grind arith
 
 -- a part of a number lies between 0 and the number, so it fits
-pub part_fits : {fits : ℤ → Type 0} {low high a b d q r : ℤ} → IsRange fits low high → fits a → pos 0 ≤ℤ a → pos 0 ≤ℤ b → b ≤ℤ d → pos 0 <ℤ d → IsDivision (a *ℤ b) d q r → fits q
+pub part_fits : {fits : ℤ → Type 0} {low high a b d q r : ℤ} → IsRange fits low high → fits a → pos 0 ≤ℤ a
+    → pos 0 ≤ℤ b → b ≤ℤ d → pos 0 <ℤ d → IsDivision (a *ℤ b) d q r → fits q
 part_fits {a = a} {b = b} {d = d} {q = q} {r = r} range a_fits a_up b_up within up h =
     let rest : (neg_ℤ d <ℤ r) × (r <ℤ d) = omega (arith, sizes, h.small) in
     let product = product_from_zero a b a_up b_up in

@@ -26,7 +26,8 @@ factorials-pos [] = omega arith
 factorials-pos (count ∷ counts) = mul-pos (factorial_pos count) (factorials-pos counts)
 
 -- the law with counts before
-shared_out : (before : ℕ) (counts : List ℕ) → product (coefficients_from before counts) * product (map factorial counts) * factorial before ≡ factorial (before + sum counts)
+shared_out : (before : ℕ) (counts : List ℕ)
+    → product (coefficients_from before counts) * product (map factorial counts) * factorial before ≡ factorial (before + sum counts)
 unfolding coefficients_from
 shared_out before [] = let e : before + 0 ≡ before = omega arith in rw e (omega arith)
 shared_out before (count ∷ counts) =
@@ -113,17 +114,25 @@ module _ {X : Type 0} {fits : ℤ → Type 0} {value : X → ℤ} {counts : List
   pub multinomial_first : {m t : ℤ} → fits m → m ≡ pos 1 → fits t → t ≡ pos 0 → IsMultinomialSoFar fits value counts 0 m t
   multinomial_first m_fits one t_fits none =
       let first : IsSharedSoFar value counts 0 (pos 1) (pos 0) =
-      record { total_from_zero = omega (arith, ints); positive = omega (arith, ints); from_zero = λ k d l h. absurd (omega arith); rest = omega arith } in
+      record {
+        total_from_zero = omega (arith, ints);
+        positive = omega (arith, ints);
+        from_zero = λ k d l h. absurd (omega arith);
+        rest = omega arith;
+      } in
       record { total_in_range = t_fits; in_range = m_fits; shared = rw (one, none) first }
 
   module _ {i : ℕ} {x : X} {m t : ℤ} (before : IsMultinomialSoFar fits value counts i m t) (inside : i < length counts) (at : x ≡ get_or counts i x) where
     -- after an iteration at a count that is not negative
-    pub multinomial_next : {t' c m' : ℤ} → pos 0 ≤ℤ value x → fits t' → t' ≡ t +ℤ value x → c ≡ coefficient_of t' (value x) → fits m' → m' ≡ m *ℤ c → IsMultinomialSoFar fits value counts (i + 1) m' t'
+    pub multinomial_next : {t' c m' : ℤ} → pos 0 ≤ℤ value x → fits t' → t' ≡ t +ℤ value x
+        → c ≡ coefficient_of t' (value x) → fits m' → m' ≡ m *ℤ c
+        → IsMultinomialSoFar fits value counts (i + 1) m' t'
     multinomial_next up t_fits total ways m_fits next =
         record { total_in_range = t_fits; in_range = m_fits; shared = rw (next, ways, total) (shared_next before.shared inside at up) }
 
     -- an iteration fits if the multinomial of all counts does, and none is negative
-    pub iteration_fits : {low high : ℤ} → IsRange fits low high → All (λ (y : X). fits (value y)) counts → HasFittingMultinomial fits value counts → IterationFits fits m t (value x)
+    pub iteration_fits : {low high : ℤ} → IsRange fits low high → All (λ (y : X). fits (value y)) counts
+        → HasFittingMultinomial fits value counts → IterationFits fits m t (value x)
     iteration_fits {high = high} range in_range (from_zero, all_fits) =
         let x_up = rw (← at) at (from_zero i x inside) in
         let after = shared_next before.shared inside at x_up in
@@ -157,7 +166,8 @@ module _ {X : Type 0} {fits : ℤ → Type 0} {value : X → ℤ} {counts : List
 -- ---- counts in another order have the same multinomial
 
 -- a product of factorials with one number replaced, multiplied across
-factorials-set : (xs : List ℕ) (i y d : ℕ) → i < length xs → product (map factorial (set xs i y)) * factorial (get_or xs i d) ≡ product (map factorial xs) * factorial y
+factorials-set : (xs : List ℕ) (i y d : ℕ) → i < length xs
+    → product (map factorial (set xs i y)) * factorial (get_or xs i d) ≡ product (map factorial xs) * factorial y
 factorials-set [] i y d h = absurd (omega arith)
 factorials-set (x ∷ xs) zero y d h = omega arith
 factorials-set (x ∷ xs) (suc i) y d h = let e = ap (λ (t : ℕ). factorial x * t) (factorials-set xs i y d (omega arith)) in omega arith

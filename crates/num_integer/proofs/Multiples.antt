@@ -91,10 +91,12 @@ lcm_is {a} {b} h = elim (zero_or_not b) [
 ]
 
 -- the lcm of two literals fits if the computed one does
-pub literal_lcm_fits : (bits : ℕ) {a b l : ℤ} → IsLeastCommonMultiple a b l → IsTrue (nat_lt (lcm_number (unsigned_abs a) (unsigned_abs b)) (2 ^ bits)) → FitsUnsignedBits bits l
+pub literal_lcm_fits : (bits : ℕ) {a b l : ℤ} → IsLeastCommonMultiple a b l
+    → IsTrue (nat_lt (lcm_number (unsigned_abs a) (unsigned_abs b)) (2 ^ bits)) → FitsUnsignedBits bits l
 literal_lcm_fits bits h test = subst (FitsUnsignedBits bits) (sym (lcm_is h)) (ltb-true _ _ test)
 
-pub literal_lcm_fits_signed : (w : Width) {a b l : ℤ} → IsLeastCommonMultiple a b l → IsTrue (nat_lt (lcm_number (unsigned_abs a) (unsigned_abs b)) (2 ^ hbits w)) → FitsSigned w l
+pub literal_lcm_fits_signed : (w : Width) {a b l : ℤ} → IsLeastCommonMultiple a b l
+    → IsTrue (nat_lt (lcm_number (unsigned_abs a) (unsigned_abs b)) (2 ^ hbits w)) → FitsSigned w l
 literal_lcm_fits_signed w h test = subst (FitsSigned w) (sym (lcm_is h)) (fits_signed_from_abs w _ (ltb-true _ _ test))
 
 -- ---- even numbers

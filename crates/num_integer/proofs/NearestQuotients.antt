@@ -50,7 +50,8 @@ module _ {n d q r : ℤ} (h : IsFloored n d q r) (A : Type 0) where
       other_quotient_fits range n_fits d_fits (λ e. omega (arith, sizes, next.1)) next.0
 
   -- the nearer quotient leaves at most half of the divisor, and a half only where the tie P allows it
-  nearer_is : (P : ℤ → Type 0) (z : ℤ) → (d ≡ r +ℤ r → A → P q) → (IsDivision n d (q +ℤ pos 1) (r -ℤ d) → d ≡ neg_ℤ ((r -ℤ d) +ℤ (r -ℤ d)) → ¬ A → P (q +ℤ pos 1))
+  nearer_is : (P : ℤ → Type 0) (z : ℤ) → (d ≡ r +ℤ r → A → P q)
+      → (IsDivision n d (q +ℤ pos 1) (r -ℤ d) → d ≡ neg_ℤ ((r -ℤ d) +ℤ (r -ℤ d)) → ¬ A → P (q +ℤ pos 1))
       → IsNearer A d q r z → (s : ℤ) × IsDivision n d z s × (2 * unsigned_abs s ≤ unsigned_abs d) × (2 * unsigned_abs s ≡ unsigned_abs d → P z)
   nearer_is P z down up (inl (inl less, is)) = rw is (r, h.division, omega arith, λ half. absurd (omega arith))
   nearer_is P z down up (inl (inr (same, a), is)) = rw is (r, h.division, omega arith, λ half. down (omega (arith, sizes)) a)
@@ -217,11 +218,14 @@ module _ {fits : ℤ → Type 0} {low high n d : ℤ} (range : IsRange fits low 
   ]
 
   -- so the quotients of one kind fit exactly if those of another do
-  pub same_fit : {Kind Other : ℤ → ℤ → ℤ → ℤ → Type 0} → IsKind Kind → IsKind Other → EachFits fits (IsQuotient Kind n d) ↔ EachFits fits (IsQuotient Other n d)
+  pub same_fit : {Kind Other : ℤ → ℤ → ℤ → ℤ → Type 0} → IsKind Kind → IsKind Other
+      → EachFits fits (IsQuotient Kind n d) ↔ EachFits fits (IsQuotient Other n d)
   same_fit kind other = (λ each q h. each_quotient_fits kind each (other.division h.division), λ each q h. each_quotient_fits other each (kind.division h.division))
 
 -- the test whether the quotient rounded down fits is that whether the nearest one does
-pub test_of_nearest : {Kind : ℤ → ℤ → ℤ → ℤ → Type 0} → IsRounding Kind → {fits : ℤ → Type 0} {low high n d : ℤ} {test : Bool} → IsRange fits low high → fits n → fits d → IsTrue test ↔ ((d ≢ pos 0) × EachFits fits (IsQuotient IsFloored n d))
+pub test_of_nearest : {Kind : ℤ → ℤ → ℤ → ℤ → Type 0} → IsRounding Kind
+    → {fits : ℤ → Type 0} {low high n d : ℤ} {test : Bool} → IsRange fits low high → fits n → fits d
+    → IsTrue test ↔ ((d ≢ pos 0) × EachFits fits (IsQuotient IsFloored n d))
     → IsTrue test ↔ ((d ≢ pos 0) × EachFits fits (IsQuotient Kind n d))
 test_of_nearest rounding range n_fits d_fits test =
     let same = same_fit range n_fits d_fits floored rounding.kind in

@@ -93,7 +93,10 @@ equal_rounded {a} {b} {c} {d} {r} b_up d_up equal h =
 pub equal_rounded_even : {a b c d r : ℤ} → pos 0 <ℤ b → pos 0 <ℤ d → AreEqual a b c d → IsRoundedEven a b r → IsRoundedEven c d r
 equal_rounded_even {c = c} {d} {r} b_up d_up equal h =
     let both = near_both b_up d_up equal h.division.division h.division.nearest in
-    record { remainder = c -ℤ r *ℤ d; division = record { division = both.division; nearest = both.nearest; tie = λ half. h.division.tie (both.tie half) } }
+    record {
+      remainder = c -ℤ r *ℤ d;
+      division = record { division = both.division; nearest = both.nearest; tie = λ half. h.division.tie (both.tie half) };
+    }
 
 -- ---- in parts
 
@@ -101,7 +104,11 @@ module _ {a b num den parts : ℤ} {r : Result Ratio RatioError} (b_up : pos 0 <
   in_parts : (Is : ℤ → ℤ → ℤ → Type 0)
       → ((q : ℤ) → pos 0 <ℤ den → pos 0 <ℤ b → AreEqual (num *ℤ parts) den (a *ℤ parts) b → Is (num *ℤ parts) den q → Is (a *ℤ parts) b q)
       → AnswersInParts (Is (num *ℤ parts) den) parts r → AnswersInParts (Is (a *ℤ parts) b) parts r
-  in_parts Is equal h = record { number = h.number; is = equal _ exact.reduced.positive b_up (equal_times _ (AreEqual_sym exact.equal)) h.is; fraction = h.fraction }
+  in_parts Is equal h = record {
+    number = h.number;
+    is = equal _ exact.reduced.positive b_up (equal_times _ (AreEqual_sym exact.equal)) h.is;
+    fraction = h.fraction;
+  }
 
   -- To round an exact result down to parts is to round the fraction.
   pub floored_in_parts : AnswersInParts (IsQuotient IsFloored (num *ℤ parts) den) parts r

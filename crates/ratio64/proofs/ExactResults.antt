@@ -38,7 +38,10 @@ exact_quotients {a} {b} {g} up x =
     let right = exact_quotient nonzero x.divides_right in
     record {
       fraction = positive_is_nonzero up;
-      reduced = record { positive = factor_positive up (gcd_positive x (positive_is_nonzero up)) right; lowest = divided_by_gcd nonzero (rw (← left, ← right) x) };
+      reduced = record {
+        positive = factor_positive up (gcd_positive x (positive_is_nonzero up)) right;
+        lowest = divided_by_gcd nonzero (rw (← left, ← right) x);
+      };
       equal = equal_parts g left right;
     }
 
@@ -47,7 +50,11 @@ pub coprime_is_exact : {a b g : ℤ} → IsFraction a b → pos 0 ≤ℤ b → I
 coprime_is_exact {a} {b} {g} fraction up x small =
     let nonzero = gcd_nonzero x fraction in
     let one : g ≡ pos 1 = omega linear in
-    record { fraction = fraction; reduced = record { positive = omega linear; lowest = subst (IsGreatestCommonDivisor a b) one x }; equal = record { cross = refl } }
+    record {
+      fraction = fraction;
+      reduced = record { positive = omega linear; lowest = subst (IsGreatestCommonDivisor a b) one x };
+      equal = record { cross = refl };
+    }
 
 pub exact_result_exists : (a b : ℤ) → IsFraction a b → (num den : ℤ) × IsExact a b num den
 exact_result_exists a (pos b) fraction = (_, _, exact_quotients (omega linear) (gcd_exists a (pos b)).1)

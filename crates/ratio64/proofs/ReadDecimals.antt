@@ -124,7 +124,14 @@ parts_spelled {text} {w} {q} e whole part =
     record {
       whole_digits = whole;
       part_digits = part;
-      spelled = record { whole = w; part = q; parts = e; part_places = refl; whole_digits = whole; spelled = record { digits = digits; value = refl } };
+      spelled = record {
+        whole = w;
+        part = q;
+        parts = e;
+        part_places = refl;
+        whole_digits = whole;
+        spelled = record { digits = digits; value = refl };
+      };
     }
 
 spelled_part : {text : List ℕ} {u : ℤ} {p : ℕ} (s : SpellsDecimal text u p) → AllDigits 10 s.part

@@ -3,7 +3,8 @@ use Rattle.ratio64.proofs.Common.{◌≡◌, ℤ, Ok, Result, FitsSigned, of_z, 
 use Rattle.ratio64.proofs.FractionAnswers.{at_ok}
 
 -- What is exact of the words of two numbers is exact of the numbers.
-pub exact_of_words : {a b n d : ℤ} → FitsSigned w64 a → FitsSigned w64 b → IsExact (to_z w64 (of_z w64 a)) (to_z w64 (of_z w64 b)) n d → IsExact a b n d
+pub exact_of_words : {a b n d : ℤ} → FitsSigned w64 a → FitsSigned w64 b
+    → IsExact (to_z w64 (of_z w64 a)) (to_z w64 (of_z w64 b)) n d → IsExact a b n d
 exact_of_words a_fits b_fits exact = rw (to_z-of_z w64 _ a_fits, to_z-of_z w64 _ b_fits) at exact
 
 -- What `unwrap` returns of `Ratio::new(a, b)` is the exact result of a/b.

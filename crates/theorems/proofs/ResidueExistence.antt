@@ -22,7 +22,8 @@ reduced_modulus_exists a m =
 -- ---- the solutions of a congruence
 
 -- a congruence that has a solution has a class of solutions, whose step is the reduced modulus
-solutions : {a b m : ℤ} (x : ℤ) → pos 0 <ℤ m → Solves a b m x → (first step : ℤ) × (IsResidueClass (Solves a b m) first step × IsReducedModulus a m step)
+solutions : {a b m : ℤ} (x : ℤ) → pos 0 <ℤ m → Solves a b m x
+    → (first step : ℤ) × (IsResidueClass (Solves a b m) first step × IsReducedModulus a m step)
 solutions {a} {b} {m} x up h =
     let bezout = bezout_answer_exists a m in
     let greatest = bezout.3.greatest in
@@ -77,7 +78,8 @@ next_of_class {first = first} {step = step} from class =
     let next = next_congruent_exists from first step (omega (arith, linear, class.below.from_zero, class.below.below)) in
     (next.0, record { from_there = next.1.from_there; holds = class.no_other next.0 next.1.holds; least = λ u far h. next.1.least u far (class.every u h) })
 
-both_solved : {a m b n : ℤ} (x : ℤ) → pos 0 <ℤ m → pos 0 <ℤ n → SolvesBothCongruences a m b n x → (first step : ℤ) × IsResidueClass (SolvesBothCongruences a m b n) first step
+both_solved : {a m b n : ℤ} (x : ℤ) → pos 0 <ℤ m → pos 0 <ℤ n → SolvesBothCongruences a m b n x
+    → (first step : ℤ) × IsResidueClass (SolvesBothCongruences a m b n) first step
 both_solved {a} {m} {b} {n} x m_up n_up h =
     let start = residue_exists a m_up in
     let gap = residue_exists (b -ℤ start.0) n_up in
@@ -85,7 +87,8 @@ both_solved {a} {m} {b} {n} x m_up n_up h =
     let class = solutions {a = m} {b = gap.0} solved.0 n_up solved.2 in
     (start.0 +ℤ m *ℤ class.0, m *ℤ class.1, both_found m_up n_up start.1 gap.1 class.2.0 class.2.1 refl refl refl)
 
-pub next_common_solution_exists : (from a m b n x : ℤ) → pos 0 <ℤ m → pos 0 <ℤ n → SolvesBothCongruences a m b n x → (t : ℤ) × IsNextCommonSolution from a m b n t
+pub next_common_solution_exists : (from a m b n x : ℤ) → pos 0 <ℤ m → pos 0 <ℤ n
+    → SolvesBothCongruences a m b n x → (t : ℤ) × IsNextCommonSolution from a m b n t
 next_common_solution_exists from a m b n x m_up n_up h = let class = both_solved x m_up n_up h in next_of_class from class.2
 
 abbrev IsPositive : {X : Type 0} → (X → ℤ) → Congruence X → Type 0
@@ -94,7 +97,8 @@ IsPositive value c = pos 0 <ℤ value c.modulus
 abbrev SolvesOne : {X : Type 0} → (X → ℤ) → ℤ → Congruence X → Type 0
 SolvesOne value x c = AreCongruent (value c.modulus) x (value c.residue)
 
-each_solved : {X : Type 0} (value : X → ℤ) (congruences : List (Congruence X)) (x : ℤ) → All (IsPositive value) congruences → SolvesEach value congruences x
+each_solved : {X : Type 0} (value : X → ℤ) (congruences : List (Congruence X)) (x : ℤ)
+    → All (IsPositive value) congruences → SolvesEach value congruences x
     → (first step : ℤ) × IsResidueClass (SolvesEach value congruences) first step
 each_solved value [] x up h = (
   pos 0,
@@ -120,6 +124,7 @@ each_solved value (c ∷ rest) x up h =
       },
     )
 
-pub next_solution_of_each_exists : {X : Type 0} (value : X → ℤ) (congruences : List (Congruence X)) (from x : ℤ) → All (λ c. pos 0 <ℤ value c.modulus) congruences → SolvesEach value congruences x
+pub next_solution_of_each_exists : {X : Type 0} (value : X → ℤ) (congruences : List (Congruence X)) (from x : ℤ)
+    → All (λ c. pos 0 <ℤ value c.modulus) congruences → SolvesEach value congruences x
     → (t : ℤ) × IsLeastFrom from (SolvesEach value congruences) t
 next_solution_of_each_exists value congruences from x up h = let class = each_solved value congruences x up h in next_of_class from class.2

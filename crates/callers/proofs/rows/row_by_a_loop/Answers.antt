@@ -2,7 +2,9 @@ use Rattle.callers.proofs.Common.{List, [], append-nil, append_assoc, map, map-a
 use Rattle.callers.proofs.rows.row_by_a_loop.Goals as goal
 
 -- an item moves from the rest of the row to the list
-moved : {X : Type 0} (value : X → ℤ) (all : List X) (item : X) {more : List X} {old rest row : List ℤ} → more ≡ all ++ item ∷ [] → old ≡ value item ∷ rest → map value all ++ old ≡ row → map value more ++ rest ≡ row
+moved : {X : Type 0} (value : X → ℤ) (all : List X) (item : X) {more : List X} {old rest row : List ℤ}
+    → more ≡ all ++ item ∷ [] → old ≡ value item ∷ rest → map value all ++ old ≡ row
+    → map value more ++ rest ≡ row
 moved value all item pushed taken so_far = rw (pushed, map-append, append_assoc) (rw taken at so_far)
 
 pub loop-item-init : goal.loop-item-init

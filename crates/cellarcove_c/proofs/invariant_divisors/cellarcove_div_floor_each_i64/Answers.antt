@@ -33,4 +33,7 @@ pub returns : goal.returns
 returns c =
     let fit = fit_by_other c.args.numbers.now c.read_each.ensures c.ranges.divisor (λ is. c.if-divisor-eqminus1.false (ap (of_z w64) is)) in
     let floored = rw (to_z-of_z w64 c.args.divisor c.ranges.divisor) at c.write_by_other.ensures in
-    record { answer = ((λ is. c.if-divisor-eq0.false (ap (of_z w64) is), sym c.if-numbers-quotients.false, fit), floored); refusal = λ h. absurd (h refl) }
+    record {
+      answer = ((λ is. c.if-divisor-eq0.false (ap (of_z w64) is), sym c.if-numbers-quotients.false, fit), floored);
+      refusal = λ h. absurd (h refl);
+    }

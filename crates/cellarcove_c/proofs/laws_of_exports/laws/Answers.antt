@@ -4,8 +4,12 @@ use Rattle.cellarcove_c.proofs.laws_of_exports.laws.Goals as goal
 ruleset of_answers = (law.reason_is_only, law.answers_is_only, law.answers_modulo_is_only, law.class_of_both_is_only, law.next_of_several_is_only)
 
 ruleset of_numbers = (
-  law.floored_list_is_only, law.summed_list_is_only, law.fewest_pages_is_only, law.padding_is_only,
-  law.root_with_rest_is_only, law.order_number_is_only,
+  law.floored_list_is_only,
+  law.summed_list_is_only,
+  law.fewest_pages_is_only,
+  law.padding_is_only,
+  law.root_with_rest_is_only,
+  law.order_number_is_only,
 )
 
 ruleset of_fractions = (law.stands_for_is_only, law.stands_for_number_is_only, law.on_both_is_only, law.power_is_only, law.in_parts_is_only)

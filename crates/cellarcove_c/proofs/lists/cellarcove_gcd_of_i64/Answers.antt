@@ -6,4 +6,7 @@ pub returns : goal.returns
 returns c =
     let minus_one : FitsSigned w64 (negsuc 0) = omega (arith, ints) in
     let own = rw (map-id c.args.numbers.now) at c.gcd_of.ensures in
-    record { answer = rw c.of.ensures.answer (second_only _ _ _ c.gcd_of.result (in_domain _ _ minus_one c.gcd_of.result own)); refusal = c.of.ensures.refusal }
+    record {
+      answer = rw c.of.ensures.answer (second_only _ _ _ c.gcd_of.result (in_domain _ _ minus_one c.gcd_of.result own));
+      refusal = c.of.ensures.refusal;
+    }

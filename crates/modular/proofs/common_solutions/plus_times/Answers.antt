@@ -6,7 +6,8 @@ use Rattle.modular.proofs.common_solutions.plus_times.Given.{Over}
 use Rattle.modular.proofs.common_solutions.plus_times.Goals.{Then-is_negative}
 
 -- the sum and its parts fit if the number of times is negative
-parts : (g : Over) (c : Then-is_negative g) → PartsFit g.T.Number.fits (g.T.Number.value c.args.start) (g.T.Number.value c.args.m) (g.T.Number.value c.args.times)
+parts : (g : Over) (c : Then-is_negative g)
+    → PartsFit g.T.Number.fits (g.T.Number.value c.args.start) (g.T.Number.value c.args.m) (g.T.Number.value c.args.times)
 parts g c =
     let near = c.requires.not_too_low in
     parts_fit g.met.T.Integer.range_law c.requires.start_below c.requires.in_range.0 (c.is_negative.ensures.0 c.if-is_negative.true) near.1 near.2

@@ -5,7 +5,10 @@ use Rattle.modular.proofs.products.product_by_doubling.Goals as goal
 use Rattle.modular.proofs.products.product_by_doubling.Goals.{then-not-is_zero, else-not-is_zero}
 
 pub iterations-init : goal.iterations-init
-iterations-init g c = record { rest_fits = c.requires.in_range.0; kept = doubling_first c.requires.x_below c.requires.y_below c.zero-total.ensures.value }
+iterations-init g c = record {
+  rest_fits = c.requires.in_range.0;
+  kept = doubling_first c.requires.x_below c.requires.y_below c.zero-total.ensures.value;
+}
 
 pub successor-requires-clause-sum_fits : goal.successor-requires-clause-sum_fits
 successor-requires-clause-sum_fits g c =

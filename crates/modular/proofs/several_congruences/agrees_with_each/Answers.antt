@@ -17,7 +17,10 @@ pub are_congruent-requires : goal.are_congruent-requires
 are_congruent-requires g c =
     let pair = pair_at g.C.HasCongruence.residue_of g.C.HasCongruence.modulus_of g.T.Number.fits _ _ c.item-item.is c.loop-item-test.true c.requires.system in
     let is = c.congruence-other.ensures in
-    record { in_range = (c.requires.in_range.0, rw is.residue pair.0.0, c.gcd.ensures.in_range); positive = gcd_with_modulus_positive pair.1 (rw is.modulus at c.gcd.ensures.greatest) }
+    record {
+      in_range = (c.requires.in_range.0, rw is.residue pair.0.0, c.gcd.ensures.in_range);
+      positive = gcd_with_modulus_positive pair.1 (rw is.modulus at c.gcd.ensures.greatest);
+    }
 
 pub returns-then-not-are_congruent : goal.returns-then-not-are_congruent
 returns-then-not-are_congruent g c = (

@@ -7,7 +7,9 @@ invariant-candidates g l =
     record {
       next_in_range : g.T.Number.fits (value l.next);
       from_there : value l.fn.from ≤ℤ value l.next;
-      passed : (x : ℤ) → value l.fn.from ≤ℤ x → SolvesEachItem g.C.HasCongruence.residue_of g.C.HasCongruence.modulus_of l.items x → value l.next ≤ℤ x;
+      passed : (x : ℤ) → value l.fn.from ≤ℤ x
+          → SolvesEachItem g.C.HasCongruence.residue_of g.C.HasCongruence.modulus_of l.items x
+          → value l.next ≤ℤ x;
     }
 
 abbrev pub decreases-candidates : goal.decreases-candidates

@@ -2,7 +2,9 @@ use Rattle.theorems.proofs.Common.{◌≡◌, ◌-ℤ◌, ◌+ℤ◌, ℤ, pos, 
 use Rattle.calendar.specs.Years.{first_day}
 use Rattle.theorems.proofs.dates.length_of_year.Goals as goal
 
-counted : (o : Option ℤ) (P Q : Type 0) (year next days : ℤ) → Q → next ≡ year +ℤ pos 1 → days ≡ day_number next 1 1 -ℤ day_number year 1 1 → SomeIff o (FitsSigned w64 days) days → MatchOption o P (λ d. Q × (d ≡ pos (if is_leap_year year then 366 else 365)))
+counted : (o : Option ℤ) (P Q : Type 0) (year next days : ℤ) → Q → next ≡ year +ℤ pos 1
+    → days ≡ day_number next 1 1 -ℤ day_number year 1 1 → SomeIff o (FitsSigned w64 days) days
+    → MatchOption o P (λ d. Q × (d ≡ pos (if is_leap_year year then 366 else 365)))
 counted None P Q year next days below after e h = grind (arith, lengths_of_years, ints, years_follow)
 counted (Some d) P Q year next days below after e h =
     let length : days ≡ pos (days_in_year year) = omega (arith, ints, years_follow year, ap first_day after) in

@@ -5,7 +5,8 @@ spelled : (o : Option Decimal) → IfSome o (λ d. SpellsDecimal (decimal_text (
 spelled (Some d) = decimal_is_spelled d
 spelled None = tt
 
-only : (o : Option Decimal) → IfSome o (λ d. IsOnly {A = ℤ × ℕ} (λ (u, p). SpellsDecimal (decimal_text (units_of d) (places_of d)) u p) (units_of d, places_of d))
+only : (o : Option Decimal)
+    → IfSome o (λ d. IsOnly {A = ℤ × ℕ} (λ (u, p). SpellsDecimal (decimal_text (units_of d) (places_of d)) u p) (units_of d, places_of d))
 only (Some d) = spelled_decimal_is_only _ _ _ (decimal_is_spelled d)
 only None = tt
 

@@ -5,7 +5,8 @@ by_minus_one : (n d : ℤ) → d ≡ negsuc 0 → IsFloored n d (neg_ℤ n) (pos
 by_minus_one n d e = grind (arith, products, sizes)
 
 -- the quotient rounded down fits exactly if the divisor is not -1 or the negation of the number fits
-floored_fits : {fits : ℤ → Type 0} {low high n d : ℤ} → IsRange fits low high → fits n → fits d → EachFits fits (IsQuotient IsFloored n d) ↔ (d ≡ negsuc 0 → fits (neg_ℤ n))
+floored_fits : {fits : ℤ → Type 0} {low high n d : ℤ} → IsRange fits low high → fits n → fits d
+    → EachFits fits (IsQuotient IsFloored n d) ↔ (d ≡ negsuc 0 → fits (neg_ℤ n))
 floored_fits {fits} {n = n} {d = d} range n_fits d_fits = (
   λ each minus. each (neg_ℤ n) (record { remainder = pos 0; division = by_minus_one n d minus }),
   λ negation q h. elim (zero_or_not (d +ℤ pos 1)) [
