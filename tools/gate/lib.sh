@@ -121,26 +121,31 @@ sums() {
 }
 
 # line_of NAME LOG: the line of the proof of a crate, if `rt ci` says next that the crate is proved. It
-# rejects some of these lines.
+# rejects some of these lines. Of a crate whose proof it has kept, it need not print the line. This
+# fails if it calls the crate neither proved nor kept.
 line_of() {
     awk -v begin="== $1" -v proved="rt: $1 proved" -v kept="rt: $1 is kept" '
         /^== / { on = $0 == begin; line = "" }
-        /^logic=/ { line = /^logic=proved / ? $0 : "" }
-        on && ($0 == proved || index($0, kept) == 1) { print line; exit }' "$2"
+        /^logic=/ { line = on && /^logic=proved / ? $0 : "" }
+        ($0 == proved && line != "") || index($0, kept) == 1 { found = 1; print line; exit }
+        END { exit !found }' "$2"
 }
 
-# keeps_verdicts LOG SUMS: out/verdicts keeps the line by which `rt ci` says that a crate is proved,
-# by the checksum of its sources, if it is the same as before the run.
+# keeps_verdicts LOG SUMS: out/verdicts keeps the checksum of each crate that `rt ci` calls proved or
+# kept, and the line by which it says so, if it is the same as before the run.
 keeps_verdicts() {
     local name sum line
     mkdir -p out/verdicts
     while read -r name sum <&3; do
-        line=$(line_of "$name" "$1")
-        if [ -n "$line" ] && [ "$(sum_of "$name")" = "$sum" ]; then
+        if line=$(line_of "$name" "$1") && [ "$(sum_of "$name")" = "$sum" ] &&
+            { [ -n "$line" ] || ! was_proved "$name"; }; then
             echo "$sum $line" >"out/verdicts/$name"
         fi
     done 3<"$2"
 }
+
+# was_proved NAME: `rt ci` has called these sources proved or kept.
+was_proved() { grep -qs "^$(sum_of "$1") " "out/verdicts/$1"; }
 
 # verdict_of NAME: the line that is kept of these sources.
 verdict_of() { sed -n "s/^$(sum_of "$1") //p" "out/verdicts/$1" 2>/dev/null | grep .; }
@@ -162,7 +167,7 @@ was_left() {
         why='has a stamp, which `rt ci` does not write'
     elif ! is_current "$library/$1.rlib/format" "$1"; then
         why='is older than its sources'
-    elif ! verdict_of "$1" >/dev/null; then
+    elif ! was_proved "$1"; then
         why='is of sources that `rt ci` has not proved'
     fi
     [ -z "$why" ] || { echo "$library/$1.rlib $why: run .ci/run" && return 1; }

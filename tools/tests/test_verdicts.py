@@ -82,6 +82,13 @@ def test_changed(root: Path, when: str, change: str, names: list[str]) -> None:
     assert found(root, PROVED, **{when: change}) == names
 
 
+def test_kept_without_a_line(root: Path) -> None:
+    """Of a crate whose proof was kept, the line is the one that was printed when it was proved."""
+    kept = 'rt: low is kept: an earlier run on this machine proved the same files\n'
+    assert found(root, kept) == ['above']
+    assert found(root, PROVED) == found(root, kept) == ['low', 'above']
+
+
 LEFT = '''source tools/gate/lib.sh
 mkdir -p out/verdicts crates/above/out/rlib/above.rlib
 touch -d 2026-01-01 crates/*/src crates/*/src/lib.rt
@@ -93,7 +100,8 @@ was_left above
 
 
 @pytest.mark.parametrize('command, why', [
-    (':', ''), ('rm -r crates/above/out', 'is not there'),
+    (':', ''), ('echo "$(sum_of above) " >out/verdicts/above', ''),
+    ('rm -r crates/above/out', 'is not there'),
     ('touch crates/above/out/rlib/stamp', 'has a stamp'),
     ('touch crates/low/src/lib.rt', 'is older'), ('rm out/verdicts/above', 'has not proved'),
     ('echo c >crates/low/src/lib.rt; touch -d 2026-01-01 crates/low/src/lib.rt',
