@@ -26,15 +26,16 @@ export class Refused extends RangeError {
 
 // ---- what an argument is called in an error
 
-/** What a call knows of its arguments: its name, the parameter, the place in a list, and the first refusal. */
-const reading = (call) => ({call, parameter: '', place: -1, status: 0, words: ''});
+/** What a call knows of its arguments: its name, the parameter, the place in a list, the first refusal, or another reason. */
+const reading = (call) => ({call, parameter: '', place: -1, status: 0, words: '', reason: ''});
 const named = ({alias, parameter, place}) => place < 0 ? alias ?? parameter : `${parameter}[${place}]`;
 
-/** A value as an error shows it: a text in quotes. */
-function shown(x) {
+/** A value as an error shows it: a text in quotes, an object with these parts. */
+function shown(x, parts) {
   if (typeof x === 'string') return JSON.stringify(x.length > 60 ? `${x.slice(0, 60)}..` : x);
-  if (typeof x === 'object' && x !== null) return Array.isArray(x) ? `[${x.slice(0, 4).map(shown).join(', ')}${x.length > 4 ? ', ..' : ''}]` : `of type ${x.constructor?.name ?? 'object'}`;
-  return typeof x === 'function' ? 'a function' : String(x);
+  if (Array.isArray(x)) return `[${x.slice(0, 4).map((item) => shown(item, parts)).join(', ')}${x.length > 4 ? ', ..' : ''}]`;
+  if (typeof x !== 'object' || x === null) return typeof x === 'function' ? 'a function' : String(x);
+  return parts?.every(({name}) => name in x) ? `{${parts.map(({name}) => `${name}: ${shown(x[name])}`).join(', ')}}` : `of type ${x.constructor?.name ?? 'object'}`;
 }
 
 const wrong = (seen, x, words) => new TypeError(`${seen.call}: ${named(seen)} is ${shown(x)}, ${words}`);
@@ -128,7 +129,7 @@ export class PlainDate {
   #exists = true; // its parts are those of a date
 
   constructor(year, month, day, made) {
-    if (made !== MADE) ({year, month, day} = dateOf('PlainDate', [year, month, day]));
+    if (made !== MADE) ({year, month, day} = dateOf('PlainDate', [year, month, day], 'date'));
     this.year = year;
     this.month = month;
     this.day = day;
@@ -406,9 +407,12 @@ function run({raw, parameters, inMemory, hasStatus, read}, given) {
 var value;
 var turns = 0; // how often a call has written arguments
 
+/** The name of a parameter. A written list is a count. */
+const nameOf = ({name, isWritten}) => isWritten ? 'count' : name;
+
 /** The arguments of a call, as numbers, arrays of parts, and lists of these, and the numbers that choose the form. */
 function taken({forms: [, other], parameters, hasWritten}, given, seen) {
-  if (given.length !== parameters.length) throw new TypeError(`${seen.call} takes ${parameters.map((it) => it.isWritten ? 'count' : it.name).join(', ')}`);
+  if (given.length !== parameters.length) throw new TypeError(`${seen.call} takes ${parameters.map(nameOf).join(', ')}`);
   const wide = [];
   const number = (x, kind, otherKind) => {
     if (kind === otherKind) return fitting(x, kind, seen);
@@ -417,7 +421,7 @@ function taken({forms: [, other], parameters, hasWritten}, given, seen) {
     wide.push(big);
     return big;
   };
-  const struct = (value, {kind, item, leaves}, place) => parts(whole(item ?? kind, value, seen), leaves.map((leaf) => leaf.name), seen)
+  const struct = (value, {kind, item, leaves}, place) => parts(whole(item ?? kind, value, seen), leaves.map(({name}) => name), seen)
     .map((part, k) => number(part, leaves[k].kind, other?.parameters[place].leaves[k].kind ?? leaves[k].kind));
   const list = (items, itemOf) => {
     if (typeof items?.[Symbol.iterator] !== 'function' || typeof items === 'string') throw wrong(seen, items, 'which is no list');
@@ -428,7 +432,7 @@ function taken({forms: [, other], parameters, hasWritten}, given, seen) {
   };
   const found = parameters.map((parameter, place) => {
     const argument = given[place];
-    [seen.parameter, seen.place] = [parameter.isWritten ? 'count' : parameter.name, -1];
+    [seen.parameter, seen.place] = [nameOf(parameter), -1];
     if (parameter.isWritten) { // as many of the numbers below the argument before it
       const count = fitting(argument, 'u64', seen);
       if (count > integer(given[place - 1], seen)) refuse(seen, Status.OUTSIDE, '');
@@ -453,7 +457,7 @@ function statusOf(plan, given, seen) {
   if (seen.status !== 0) return seen.status;
   if (!unsigned) return run(signed, found);
   const areSigned = wide.every(isSigned), areUnsigned = wide.every(isUnsigned);
-  if (!areSigned && !areUnsigned) seen.words = 'one number is negative, and another is 2^63 or more';
+  if (!areSigned && !areUnsigned) seen.reason = 'one number is negative, and another is 2^63 or more';
   const status = areSigned ? run(signed, found) : Status.NOT_FITTING;
   return status === Status.NOT_FITTING && areUnsigned ? run(unsigned, found) : status;
 }
@@ -647,8 +651,12 @@ function resultOf(name, plan, given, alias) {
   const seen = {...reading(name), alias}, status = statusOf(plan, given, seen);
   if (status === 0) return value;
   if (plan.kinds[0] === BYTES) refuseText(seen, plan, status, given[0]);
-  throw new Refused(status, name, seen.words);
+  throw new Refused(status, name, seen.words || `${argumentsOf(seen, plan, given)}: ${seen.reason || STATUSES[status][1]}`);
 }
+
+/** The arguments by their names. A call of another name has one. */
+const argumentsOf = ({alias}, {parameters}, given) => (alias ? parameters.slice(0, 1) : parameters)
+  .map((it, place) => `${alias ?? nameOf(it)} is ${shown(given[place], it.leaves)}`).join(', ');
 
 /** The plan of a call and its arguments. Any count of numbers is a list, but for two of a call that has two. */
 function listed(row, many, given) {
@@ -730,13 +738,13 @@ function column({given, parameter}, kind, length, seen) {
 
 function ofArrays(call, {forms}, given) {
   const seen = reading(call);
-  if (given.length !== forms[0].parameters.length) throw new TypeError(`${call} takes ${forms[0].parameters.map((it) => it.name).join(', ')}`);
+  if (given.length !== forms[0].parameters.length) throw new TypeError(`${call} takes ${forms[0].parameters.map(nameOf).join(', ')}`);
   const cells = cellsOf(forms, given, seen), form = formOfArrays(forms, cells, seen), {length} = cells.find((cell) => ArrayBuffer.isView(cell.given)).given;
   const columns = cells.map((cell) => column(cell, form === forms[0] ? cell.kind : cell.otherKind, length, seen));
   if (seen.status !== 0) throw new Refused(seen.status, call, seen.words);
   const outputs = form.leaves.map(({kind}) => new ARRAYS[kind](length)), status = new Uint8Array(length);
   fill(form, columns, outputs, status);
-  const names = form.leaves.length === 1 ? ['value'] : form.leaves.map((leaf) => leaf.name);
+  const names = form.leaves.length === 1 ? ['value'] : form.leaves.map(({name}) => name);
   if (names.length === 1 && !form.hasStatus) return outputs[0];
   return Object.fromEntries([...names.map((it, k) => [it, outputs[k]]), ...(form.hasStatus ? [['status', status]] : [])]);
 }

@@ -19,13 +19,13 @@ has_types() {
         tsc --noEmit --strict --target es2022 --module es2022 --moduleResolution node "$work/types.ts"
 }
 
-# What a page loads of the package is less than 52 kB with gzip, as docs/JAVASCRIPT.md says.
+# What a page loads of the package is less than 53 kB with gzip, as docs/JAVASCRIPT.md says.
 is_small() {
     local name bytes=0
     for name in cellarcove.js file.js load.js runtime.js table.js cellarcove.wasm; do
         bytes=$((bytes + $(gzip -9 -c "$CELLARCOVE/$name" | wc -c))) || return 1
     done
-    echo "$bytes bytes with gzip" && [ "$bytes" -gt 0 ] && [ "$bytes" -lt 52000 ]
+    echo "$bytes bytes with gzip" && [ "$bytes" -gt 0 ] && [ "$bytes" -lt 53000 ]
 }
 
 # What this machine returns, for Node and for the page to compare.

@@ -132,13 +132,16 @@ line_of() {
 }
 
 # keeps_verdicts LOG SUMS: out/verdicts keeps the checksum of each crate that `rt ci` calls proved or
-# kept, and the line by which it says so, if it is the same as before the run.
+# kept, and the line by which it says so, if it is the same as before the run. The time of the file is
+# that of the run.
 keeps_verdicts() {
     local name sum line
     mkdir -p out/verdicts
     while read -r name sum <&3; do
-        if line=$(line_of "$name" "$1") && [ "$(sum_of "$name")" = "$sum" ] &&
-            { [ -n "$line" ] || ! was_proved "$name"; }; then
+        line=$(line_of "$name" "$1") && [ "$(sum_of "$name")" = "$sum" ] || continue
+        if [ -z "$line" ] && was_proved "$name"; then
+            touch "out/verdicts/$name"
+        else
             echo "$sum $line" >"out/verdicts/$name"
         fi
     done 3<"$2"
@@ -158,17 +161,21 @@ is_current() {
 }
 
 # was_left NAME: `rt ci` has proved the crate as it is here, and left its library: no other command
-# leaves one without a stamp, and no source is newer. If not, it says which does not hold.
+# leaves one without a stamp, and neither a source nor the library is newer than what the last run of
+# `rt ci` said of the crate. The library may be older than the sources, if an earlier run on this
+# machine has made it. If not, it says which does not hold.
 was_left() {
-    local library=crates/$1/out/rlib why=
+    local library=crates/$1/out/rlib said=out/verdicts/$1 why=
     if [ ! -d "$library/$1.rlib" ]; then
         why='is not there'
     elif [ -e "$library/stamp" ]; then
         why='has a stamp, which `rt ci` does not write'
-    elif ! is_current "$library/$1.rlib/format" "$1"; then
-        why='is older than its sources'
     elif ! was_proved "$1"; then
         why='is of sources that `rt ci` has not proved'
+    elif ! is_current "$said" "$1"; then
+        why='is of sources that have changed since `rt ci` ran'
+    elif [ "$library/$1.rlib/format" -nt "$said" ]; then
+        why='has changed since `rt ci` ran'
     fi
     [ -z "$why" ] || { echo "$library/$1.rlib $why: run .ci/run" && return 1; }
 }

@@ -86,7 +86,11 @@ def test_kept_without_a_line(root: Path) -> None:
     """Of a crate whose proof was kept, the line is the one that was printed when it was proved."""
     kept = 'rt: low is kept: an earlier run on this machine proved the same files\n'
     assert found(root, kept) == ['above']
-    assert found(root, PROVED) == found(root, kept) == ['low', 'above']
+    assert found(root, PROVED) == ['low', 'above']
+    file = root / 'out/verdicts/low'
+    os.utime(file, (0, 0))
+    assert found(root, kept) == ['low', 'above']
+    assert file.stat().st_mtime > 0
 
 
 LEFT = '''source tools/gate/lib.sh
@@ -94,6 +98,7 @@ mkdir -p out/verdicts crates/above/out/rlib/above.rlib
 touch -d 2026-01-01 crates/*/src crates/*/src/lib.rt
 touch -d 2026-01-02 crates/above/out/rlib/above.rlib/format
 echo "$(sum_of above) logic=proved" >out/verdicts/above
+touch -d 2026-01-03 out/verdicts/above
 {command}
 was_left above
 '''
@@ -101,9 +106,12 @@ was_left above
 
 @pytest.mark.parametrize('command, why', [
     (':', ''), ('echo "$(sum_of above) " >out/verdicts/above', ''),
+    ('touch -d 2025-01-01 crates/above/out/rlib/above.rlib/format', ''),
     ('rm -r crates/above/out', 'is not there'),
     ('touch crates/above/out/rlib/stamp', 'has a stamp'),
-    ('touch crates/low/src/lib.rt', 'is older'), ('rm out/verdicts/above', 'has not proved'),
+    ('touch crates/low/src/lib.rt', 'sources that have changed since'),
+    ('touch crates/above/out/rlib/above.rlib/format', 'has changed since'),
+    ('rm out/verdicts/above', 'has not proved'),
     ('echo c >crates/low/src/lib.rt; touch -d 2026-01-01 crates/low/src/lib.rt',
      'has not proved')])
 def test_left(root: Path, command: str, why: str) -> None:

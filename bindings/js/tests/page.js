@@ -133,10 +133,11 @@ test('the examples show the result or the reason', async () => {
     })`);
     results.push(await textOf('result'));
   }
-  const notFitting = 'no result: NOT_FITTING: the result does not fit its type, or a part of a fraction, once reduced, does not';
-  assert.deepEqual(results, ['lcm(9223372036854775807, 2) = 18446744073709551614', notFitting, notFitting, 'modFloor(-9223372036854775808, -1) = 0',
-    notFitting, 'divModFloor(-8, 3) = quotient -3, remainder 1', 'shares(-100, [1, 1, 1]) = [-34, -33, -33]', 'powerModulo(3, 200, 13) = 9',
-    'no result: NO_SOLUTION: no number solves the congruences']);
+  const notFitting = (given) => `no result: NOT_FITTING: ${given}: the result does not fit its type, or a part of a fraction, once reduced, does not`;
+  assert.deepEqual(results, ['lcm(9223372036854775807, 2) = 18446744073709551614', notFitting('x is -9223372036854775808, y is 0'),
+    notFitting('n is 68, k is 34'), 'modFloor(-9223372036854775808, -1) = 0', notFitting('a is [730087, 730000], exponent is 4'),
+    'divModFloor(-8, 3) = quotient -3, remainder 1', 'shares(-100, [1, 1, 1]) = [-34, -33, -33]', 'powerModulo(3, 200, 13) = 9',
+    'no result: NO_SOLUTION: a is 4, m is 6: no number solves the congruences']);
 });
 
 test('each call can be chosen, and has its contract in words and in symbols', async () => {

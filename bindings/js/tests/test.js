@@ -38,7 +38,7 @@ test('a call in the place of another is found', () => {
 
 test('a refusal has its status and its words, and the forms without exceptions have the same', () => {
   assert.throws(() => inverseModulo(4, 6), (error) => error instanceof Refused && error instanceof RangeError && error.name === 'Refused'
-    && error.code === 'NO_SOLUTION' && error.status === Status.NO_SOLUTION && error.message === 'inverseModulo: NO_SOLUTION: no number solves the congruences');
+    && error.code === 'NO_SOLUTION' && error.status === Status.NO_SOLUTION && error.message === 'inverseModulo: NO_SOLUTION: a is 4, m is 6: no number solves the congruences');
   assert.deepEqual(tryLcm(2n ** 63n, 3), {status: Status.NOT_FITTING, value: undefined});
   assert.deepEqual(tryLcm(4, 6), {status: Status.ANSWER, value: 12n});
   assert.deepEqual(tryFractionAdd('x/y', 1), {status: Status.OUTSIDE, value: undefined});
@@ -175,7 +175,9 @@ test('an error has the name of the call, the parameter and the value in quotes',
   for (const [made, message] of [
     [() => plusMonths('2024-02-30', 1), 'plusMonths: NO_DATE: date is "2024-02-30", which is no date such as 2024-02-29'],
     [() => daysBetween('2024-01-01', 'x'), 'daysBetween: NO_DATE: to is "x", which is no date such as 2024-02-29'],
-    [() => plusMonths([2024, 2, 30], 1), 'plusMonths: NO_DATE: there is no such date'],
+    [() => plusMonths([2024, 2, 30], 1), 'plusMonths: NO_DATE: date is [2024, 2, 30], months is 1: there is no such date'],
+    [() => plusMonths({year: 2024, month: 2, day: 30}, 1), 'plusMonths: NO_DATE: date is {year: 2024, month: 2, day: 30}, months is 1: there is no such date'],
+    [() => daysInMonth(2024, 13), 'daysInMonth: NO_DATE: year is 2024, month is 13: there is no such date'],
     [() => PlainDate.from('x'), 'PlainDate.from: NO_DATE: value is "x", which is no date such as 2024-02-29'],
     [() => PlainDate.compare('2024-02-29', 'x'), 'PlainDate.compare: NO_DATE: other is "x", which is no date such as 2024-02-29'],
     [() => PlainDate.compare('x', '2024-02-29'), 'PlainDate.compare: NO_DATE: one is "x", which is no date such as 2024-02-29'],
@@ -188,18 +190,23 @@ test('an error has the name of the call, the parameter and the value in quotes',
     [() => Fraction.from('x/y'), 'Fraction.from: OUTSIDE: value is "x/y", which is no fraction such as -3/4 or -0.75'],
     [() => gcd(new Uint8Array(1), 2), 'gcd: the items of the arrays have different types, or are no integers of 64 bits'],
     [() => plusMonths(new Uint8Array(1), 2), 'plusMonths: date is of type Uint8Array, which has not the parts year, month, day'],
-    [() => new PlainDate(2024, 13, 99), 'PlainDate: NO_DATE: there is no such date'],
+    [() => new PlainDate(2024, 13, 99), 'PlainDate: NO_DATE: date is [2024, 13, 99]: there is no such date'],
     [() => fractionAdd('1/2', 'x/y'), 'fractionAdd: OUTSIDE: b is "x/y", which is no fraction such as -3/4 or -0.75'],
     [() => fractionAdd('1/0', 1), 'fractionAdd: ZERO_DENOMINATOR: a is "1/0": the denominator of a fraction is 0, or a divisor of fractions is'],
     [() => gcd('12', 18), 'gcd: x is "12", which is neither a BigInt nor a safe integer'],
     [() => gcd(12, 1.5), 'gcd: y is 1.5, which is no safe integer'],
     [() => calls.tryGcd(12, null), 'tryGcd: y is null, which is neither a BigInt nor a safe integer'],
     [() => gcd(2n ** 64n, 1), 'gcd: NOT_FITTING: x is 18446744073709551616, which is out of range'],
-    [() => gcd(-1, 2n ** 63n), 'gcd: NOT_FITTING: one number is negative, and another is 2^63 or more'],
+    [() => gcd(-1, 2n ** 63n), 'gcd: NOT_FITTING: x is -1, y is 9223372036854775808: one number is negative, and another is 2^63 or more'],
     [() => powerModulo(2, -1, 7), 'powerModulo: OUTSIDE: exponent is -1, which is out of range'],
-    [() => lcm(-(2n ** 62n), 3), 'lcm: NOT_FITTING: the result does not fit its type, or a part of a fraction, once reduced, does not'],
+    [() => lcm(-(2n ** 62n), 3), 'lcm: NOT_FITTING: x is -4611686018427387904, y is 3: the result does not fit its type, or a part of a fraction, once reduced, does not'],
     [() => gcdOf([4, 6, '8']), 'gcdOf: numbers[2] is "8", which is neither a BigInt nor a safe integer'],
     [() => shares(100, 3), 'shares: weights is 3, which is no list'],
+    [() => shares(100, [0, 0, 0, 0, 0]), 'shares: OUTSIDE: amount is 100, weights is [0, 0, 0, 0, ..]: nothing is defined for the arguments, such as a quotient by 0'],
+    [() => calls.fractionDiv(new Fraction(1, 2), '0'), 'fractionDiv: ZERO_DENOMINATOR: a is {num: 1, den: 2}, b is "0": the denominator of a fraction is 0, or a divisor of fractions is'],
+    [() => new Fraction(1, 0), 'Fraction: ZERO_DENOMINATOR: num is 1, den is 0: the denominator of a fraction is 0, or a divisor of fractions is'],
+    [() => calls.chineseRemainder({residue: 1, modulus: 4}, {modulus: 6, residue: 2}), 'chineseRemainder: NO_SOLUTION: one is {residue: 1, modulus: 4}, other is {residue: 2, modulus: 6}: no number solves the congruences'],
+    [() => calls.nextCommonSolutionOf(10, [{residue: 1, modulus: 4}, {residue: 2, modulus: 6}]), 'nextCommonSolutionOf: NO_SOLUTION: from is 10, congruences is [{residue: 1, modulus: 4}, {residue: 2, modulus: 6}]: no number solves the congruences'],
     [() => divModFloor(1), 'divModFloor takes x, y'],
     [() => calls.nextCommonSolutionOf(10, [{residue: 1, modulus: 4}, [3]]), 'nextCommonSolutionOf: congruences[1] is [3], which has not the parts residue, modulus'],
     [() => calls.nextCommonSolutionOf(10, [[1, 4]]), 'nextCommonSolutionOf: congruences[0] is [1, 4], which has not the parts residue, modulus'],
