@@ -452,7 +452,7 @@ CELLARCOVE_CONST cellarcove_i64_pair cellarcove_reduced_i64(int64_t x, int64_t y
 /** Both numbers divided by their greatest common divisor. Those of 1920 and 1080 are 16 and 9. */
 CELLARCOVE_CONST cellarcove_u64_pair cellarcove_reduced_u64(uint64_t x, uint64_t y);
 
-/* ---- Common divisors and multiples of lists ---- */
+/* ---- Common divisors, common multiples and sums of lists ---- */
 
 /** The greatest common divisor of the numbers, which is not negative. That of -12, 18 and 8 is 2, that of -2^63, 0
  *  and 6 is 2, and that of no numbers is 0. numbers points to numbers_len aligned numbers, which do not change
@@ -474,6 +474,16 @@ CELLARCOVE_PURE cellarcove_i64_answer cellarcove_lcm_of_i64(const int64_t *numbe
  *  numbers is 1. numbers points to numbers_len aligned numbers, which do not change during the call; it may be
  *  null if numbers_len is 0. CELLARCOVE_NOT_FITTING if the multiple does not fit. */
 CELLARCOVE_PURE cellarcove_u64_answer cellarcove_lcm_of_u64(const uint64_t *numbers, size_t numbers_len);
+
+/** The sum of the numbers. The sum of the first of them need not fit. That of 9223372036854775807, 1 and -8 is
+ *  9223372036854775800, and that of no numbers is 0. numbers points to numbers_len aligned numbers, which do not
+ *  change during the call; it may be null if numbers_len is 0. CELLARCOVE_NOT_FITTING if the sum does not fit. */
+CELLARCOVE_PURE cellarcove_i64_answer cellarcove_sum_of_i64(const int64_t *numbers, size_t numbers_len);
+
+/** The sum of the numbers. That of 12, 18 and 8 is 38, and that of no numbers is 0. numbers points to numbers_len
+ *  aligned numbers, which do not change during the call; it may be null if numbers_len is 0.
+ *  CELLARCOVE_NOT_FITTING if the sum does not fit. */
+CELLARCOVE_PURE cellarcove_u64_answer cellarcove_sum_of_u64(const uint64_t *numbers, size_t numbers_len);
 
 /* ---- Averages and roots ---- */
 
@@ -1139,18 +1149,6 @@ CELLARCOVE_CONST cellarcove_i64_answer cellarcove_product_div_round_even_i64(int
  *  fit. For 5, 3 and 6 it is 2, and for 7, 3 and 6 it is 4. CELLARCOVE_OUTSIDE if d is 0. CELLARCOVE_NOT_FITTING
  *  if the quotient does not fit. */
 CELLARCOVE_CONST cellarcove_u64_answer cellarcove_product_div_round_even_u64(uint64_t a, uint64_t b, uint64_t d);
-
-/* ---- Sums of lists ---- */
-
-/** The sum of the numbers. The sum of the first of them need not fit. That of 9223372036854775807, 1 and -8 is
- *  9223372036854775800, and that of no numbers is 0. numbers points to numbers_len aligned numbers, which do not
- *  change during the call; it may be null if numbers_len is 0. CELLARCOVE_NOT_FITTING if the sum does not fit. */
-CELLARCOVE_PURE cellarcove_i64_answer cellarcove_sum_of_i64(const int64_t *numbers, size_t numbers_len);
-
-/** The sum of the numbers. That of 12, 18 and 8 is 38, and that of no numbers is 0. numbers points to numbers_len
- *  aligned numbers, which do not change during the call; it may be null if numbers_len is 0.
- *  CELLARCOVE_NOT_FITTING if the sum does not fit. */
-CELLARCOVE_PURE cellarcove_u64_answer cellarcove_sum_of_u64(const uint64_t *numbers, size_t numbers_len);
 
 #ifdef __cplusplus
 }

@@ -836,7 +836,7 @@ template <class N0, class N1> [[nodiscard]] auto reduced(N0 x, N1 y) {
     }
 }
 
-// ---- Common divisors and multiples of lists
+// ---- Common divisors, common multiples and sums of lists
 
 /// The greatest common divisor of the numbers, which is not negative. That of -12, 18 and 8 is 2, that of -2^63, 0
 /// and 6 is 2, and that of no numbers is 0. status::not_fitting if the result is 2^63, as for -2^63 and 0.
@@ -889,6 +889,33 @@ template <class Items0>
 [[nodiscard]] auto lcm_of(const Items0 &numbers) {
     static_assert(detail::has_items<decltype(numbers), std::int64_t, std::uint64_t>, "the items of numbers have to be std::int64_t or std::uint64_t");
     return lcm_of(detail::items<std::int64_t, std::uint64_t>(numbers), std::size(numbers));
+}
+
+/// The sum of the numbers. The sum of the first of them need not fit. That of 9223372036854775807, 1 and -8 is
+/// 9223372036854775800, and that of no numbers is 0. status::not_fitting if the sum does not fit.
+[[nodiscard]] inline result<std::int64_t> sum_of(const std::int64_t *numbers, detail::checked<std::size_t> numbers_length) {
+    if (auto error = detail::error_of(numbers_length); error != status::answer) {
+        return result<std::int64_t>(error);
+    }
+    auto r = cellarcove_sum_of_i64(numbers, numbers_length.value);
+    return r.status == CELLARCOVE_ANSWER ? result<std::int64_t>(r.value) : result<std::int64_t>(static_cast<status>(r.status));
+}
+
+/// The sum of the numbers. That of 12, 18 and 8 is 38, and that of no numbers is 0. status::not_fitting if the sum
+/// does not fit.
+[[nodiscard]] inline result<std::uint64_t> sum_of(const std::uint64_t *numbers, detail::checked<std::size_t> numbers_length) {
+    if (auto error = detail::error_of(numbers_length); error != status::answer) {
+        return result<std::uint64_t>(error);
+    }
+    auto r = cellarcove_sum_of_u64(numbers, numbers_length.value);
+    return r.status == CELLARCOVE_ANSWER ? result<std::uint64_t>(r.value) : result<std::uint64_t>(static_cast<status>(r.status));
+}
+
+/// The same for an array, or a container of `std::int64_t` or `std::uint64_t` in one piece.
+template <class Items0>
+[[nodiscard]] auto sum_of(const Items0 &numbers) {
+    static_assert(detail::has_items<decltype(numbers), std::int64_t, std::uint64_t>, "the items of numbers have to be std::int64_t or std::uint64_t");
+    return sum_of(detail::items<std::int64_t, std::uint64_t>(numbers), std::size(numbers));
 }
 
 // ---- Averages and roots
@@ -1988,35 +2015,6 @@ template <class N0, class N1, class N2> [[nodiscard]] auto product_div_round_eve
         auto r = cellarcove_product_div_round_even_u64(static_cast<std::uint64_t>(a), static_cast<std::uint64_t>(b), static_cast<std::uint64_t>(d));
         return r.status == CELLARCOVE_ANSWER ? result<std::uint64_t>(r.value) : result<std::uint64_t>(static_cast<status>(r.status));
     }
-}
-
-// ---- Sums of lists
-
-/// The sum of the numbers. The sum of the first of them need not fit. That of 9223372036854775807, 1 and -8 is
-/// 9223372036854775800, and that of no numbers is 0. status::not_fitting if the sum does not fit.
-[[nodiscard]] inline result<std::int64_t> sum_of(const std::int64_t *numbers, detail::checked<std::size_t> numbers_length) {
-    if (auto error = detail::error_of(numbers_length); error != status::answer) {
-        return result<std::int64_t>(error);
-    }
-    auto r = cellarcove_sum_of_i64(numbers, numbers_length.value);
-    return r.status == CELLARCOVE_ANSWER ? result<std::int64_t>(r.value) : result<std::int64_t>(static_cast<status>(r.status));
-}
-
-/// The sum of the numbers. That of 12, 18 and 8 is 38, and that of no numbers is 0. status::not_fitting if the sum
-/// does not fit.
-[[nodiscard]] inline result<std::uint64_t> sum_of(const std::uint64_t *numbers, detail::checked<std::size_t> numbers_length) {
-    if (auto error = detail::error_of(numbers_length); error != status::answer) {
-        return result<std::uint64_t>(error);
-    }
-    auto r = cellarcove_sum_of_u64(numbers, numbers_length.value);
-    return r.status == CELLARCOVE_ANSWER ? result<std::uint64_t>(r.value) : result<std::uint64_t>(static_cast<status>(r.status));
-}
-
-/// The same for an array, or a container of `std::int64_t` or `std::uint64_t` in one piece.
-template <class Items0>
-[[nodiscard]] auto sum_of(const Items0 &numbers) {
-    static_assert(detail::has_items<decltype(numbers), std::int64_t, std::uint64_t>, "the items of numbers have to be std::int64_t or std::uint64_t");
-    return sum_of(detail::items<std::int64_t, std::uint64_t>(numbers), std::size(numbers));
 }
 
 // ---- operators

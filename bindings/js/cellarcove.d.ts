@@ -244,6 +244,13 @@ export function lcmOf(...numbers: Integer[]): bigint;
 export function tryLcmOf(numbers: Iterable<Integer>): Attempt<bigint>;
 export function tryLcmOf(...numbers: Integer[]): Attempt<bigint>;
 
+/** The sum of the numbers. The sum of the first of them need not fit. That of 9223372036854775807, 1 and -8 is 9223372036854775800, and
+ *  that of no numbers is 0. `NOT_FITTING` if the sum does not fit. */
+export function sumOf(numbers: Iterable<Integer>): bigint;
+export function sumOf(...numbers: Integer[]): bigint;
+export function trySumOf(numbers: Iterable<Integer>): Attempt<bigint>;
+export function trySumOf(...numbers: Integer[]): Attempt<bigint>;
+
 /** The average rounded down. That of 3 and 10 is 6, and that of 2^63 - 1 and 2^63 - 1 is 2^63 - 1. */
 export function averageFloor(x: Integer, y: Integer): bigint;
 export function averageFloor<T extends Integers>(x: Integer | T, y: Integer | T): T;
@@ -813,10 +820,3 @@ export function tryProductDivRound(a: Integer, b: Integer, d: Integer): Attempt<
 export function productDivRoundEven(a: Integer, b: Integer, d: Integer): bigint;
 export function productDivRoundEven<T extends Integers>(a: Integer | T, b: Integer | T, d: Integer | T): {value: T; status: Uint8Array};
 export function tryProductDivRoundEven(a: Integer, b: Integer, d: Integer): Attempt<bigint>;
-
-/** The sum of the numbers. The sum of the first of them need not fit. That of 9223372036854775807, 1 and -8 is 9223372036854775800, and
- *  that of no numbers is 0. `NOT_FITTING` if the sum does not fit. */
-export function sumOf(numbers: Iterable<Integer>): bigint;
-export function sumOf(...numbers: Integer[]): bigint;
-export function trySumOf(numbers: Iterable<Integer>): Attempt<bigint>;
-export function trySumOf(...numbers: Integer[]): Attempt<bigint>;

@@ -27,6 +27,7 @@ export const isCoprime = /*#__PURE__*/ call('isCoprime', rows.isCoprime), tryIsC
 export const reduced = /*#__PURE__*/ call('reduced', rows.reduced), tryReduced = /*#__PURE__*/ attempt('tryReduced', rows.reduced);
 export const gcdOf = /*#__PURE__*/ call('gcdOf', rows.gcdOf, rows.gcdOf), tryGcdOf = /*#__PURE__*/ attempt('tryGcdOf', rows.gcdOf, rows.gcdOf);
 export const lcmOf = /*#__PURE__*/ call('lcmOf', rows.lcmOf, rows.lcmOf), tryLcmOf = /*#__PURE__*/ attempt('tryLcmOf', rows.lcmOf, rows.lcmOf);
+export const sumOf = /*#__PURE__*/ call('sumOf', rows.sumOf, rows.sumOf), trySumOf = /*#__PURE__*/ attempt('trySumOf', rows.sumOf, rows.sumOf);
 export const averageFloor = /*#__PURE__*/ call('averageFloor', rows.averageFloor), tryAverageFloor = /*#__PURE__*/ attempt('tryAverageFloor', rows.averageFloor);
 export const averageCeil = /*#__PURE__*/ call('averageCeil', rows.averageCeil), tryAverageCeil = /*#__PURE__*/ attempt('tryAverageCeil', rows.averageCeil);
 export const sqrt = /*#__PURE__*/ call('sqrt', rows.sqrt), trySqrt = /*#__PURE__*/ attempt('trySqrt', rows.sqrt);
@@ -123,4 +124,3 @@ export const fractionFromDecimal = /*#__PURE__*/ call('fractionFromDecimal', row
 export const dateFromText = /*#__PURE__*/ call('dateFromText', rows.dateFromText), tryDateFromText = /*#__PURE__*/ attempt('tryDateFromText', rows.dateFromText);
 export const productDivRound = /*#__PURE__*/ call('productDivRound', rows.productDivRound), tryProductDivRound = /*#__PURE__*/ attempt('tryProductDivRound', rows.productDivRound);
 export const productDivRoundEven = /*#__PURE__*/ call('productDivRoundEven', rows.productDivRoundEven), tryProductDivRoundEven = /*#__PURE__*/ attempt('tryProductDivRoundEven', rows.productDivRoundEven);
-export const sumOf = /*#__PURE__*/ call('sumOf', rows.sumOf, rows.sumOf), trySumOf = /*#__PURE__*/ attempt('trySumOf', rows.sumOf, rows.sumOf);

@@ -71,6 +71,7 @@ export const isCoprime = /*#__PURE__*/ both('is_coprime_i64', 'x:i64 y:i64', 'bo
 export const reduced = /*#__PURE__*/ both('reduced_i64', 'x:i64 y:i64', 'I64Pair');
 export const gcdOf = /*#__PURE__*/ both('gcd_of_i64', 'numbers:&[i64]', 'I64Answer');
 export const lcmOf = /*#__PURE__*/ both('lcm_of_i64', 'numbers:&[i64]', 'I64Answer');
+export const sumOf = /*#__PURE__*/ both('sum_of_i64', 'numbers:&[i64]', 'I64Answer');
 export const averageFloor = /*#__PURE__*/ both('average_floor_i64', 'x:i64 y:i64', 'i64');
 export const averageCeil = /*#__PURE__*/ both('average_ceil_i64', 'x:i64 y:i64', 'i64');
 export const sqrt = /*#__PURE__*/ both('sqrt_i64', 'x:i64', 'I64Answer', 'u32');
@@ -167,11 +168,10 @@ export const fractionFromDecimal = [['fraction_from_decimal', 'text:&[u8]', 'Fra
 export const dateFromText = [['date_from_text', 'text:&[u8]', 'DateAnswer']];
 export const productDivRound = /*#__PURE__*/ both('product_div_round_i64', 'a:i64 b:i64 d:i64', 'I64Answer');
 export const productDivRoundEven = /*#__PURE__*/ both('product_div_round_even_i64', 'a:i64 b:i64 d:i64', 'I64Answer');
-export const sumOf = /*#__PURE__*/ both('sum_of_i64', 'numbers:&[i64]', 'I64Answer');
 
 export const CALLS = {
   checkedSum, checkedDifference, checkedProduct, divRem, divFloor, divCeil, divRound, divRoundEven, modFloor, divModFloor,
-  productDivModFloor, nextMultipleOf, prevMultipleOf, isMultipleOf, gcd, lcm, gcdLcm, extendedGcd, isCoprime, reduced, gcdOf, lcmOf,
+  productDivModFloor, nextMultipleOf, prevMultipleOf, isMultipleOf, gcd, lcm, gcdLcm, extendedGcd, isCoprime, reduced, gcdOf, lcmOf, sumOf,
   averageFloor, averageCeil, sqrt, cbrt, nthRoot, isSquare, isPower, isPerfectPower, sqrtRem, ilog, binomial, multinomial, factorial,
   falling, rank, choiceOfRank, shares, sharesByLargestRemainder, pages, placeOf, itemAt, rangeOfPage, rangeOfPart, alignUp, padding, residue,
   negationModulo, sumModulo, differenceModulo, productModulo, powerModulo, inverseModulo, quotientModulo, solutions, chineseRemainder,
@@ -182,5 +182,5 @@ export const CALLS = {
   dateFromDay, dayFromDate, plusDays, minusDays, daysBetween, plusMonths, monthsBetween, yearsBetween, dateFromYearDay, isoWeek,
   dateFromIsoWeek, easter, weekday, weekdayOfDate, firstWeekdayOnOrAfter, lastWeekdayOnOrBefore, nthWeekdayOfMonth, lastWeekdayOfMonth,
   isLeapYear, daysInYear, weeksInYear, daysInMonth, dayOfYear, fractionFromText, fractionFromDecimal, dateFromText, productDivRound,
-  productDivRoundEven, sumOf,
+  productDivRoundEven,
 };

@@ -107,7 +107,7 @@ all_written {bound = bound} {rest = rest} {ys = ys} h =
 -- ---- the order of choices
 
 last_differs : {xs ys : List ℕ} (i : ℕ) → slice_index xs i < slice_index ys i → IsBefore (suc i) xs ys
-last_differs i lesser = record { place = i; within = omega arith; lesser = lesser; same_after = λ l h k. absurd (omega arith) }
+last_differs i lesser = grind arith
 
 still_before : {xs ys : List ℕ} {i : ℕ} → slice_index xs i ≡ slice_index ys i → IsBefore i xs ys → IsBefore (suc i) xs ys
 still_before {xs} {ys} {i} same h = grind arith
@@ -119,13 +119,11 @@ compare (suc i) xs ys = elim (cases_lt (slice_index xs i) (slice_index ys i)) [
   | inl less ↦ inr (inl (last_differs i less))
   | inr from ↦ elim (cases_lt (slice_index ys i) (slice_index xs i)) [
     | inl more ↦ inr (inr (last_differs i more))
-    | inr to ↦
-        let here : slice_index xs i ≡ slice_index ys i = omega arith in
-        elim (compare i xs ys) [
-          | inl same ↦ inl (λ j h. grind (arith, same j))
-          | inr (inl before) ↦ inr (inl (still_before here before))
-          | inr (inr after) ↦ inr (inr (still_before (sym here) after))
-        ]
+    | inr to ↦ elim (compare i xs ys) [
+      | inl same ↦ inl (λ j h. grind (arith, same j))
+      | inr (inl before) ↦ inr (inl (still_before (omega arith) before))
+      | inr (inr after) ↦ inr (inr (still_before (omega arith) after))
+    ]
   ]
 ]
 
@@ -134,10 +132,8 @@ before_first : (k : ℕ) (xs ys : List ℕ) → IsStrictlyIncreasing xs → k �
 before_first zero xs ys up in_xs in_ys h = absurd (omega (arith, h.within))
 before_first (suc i) xs ys up in_xs in_ys h = elim (cases_lt h.place i) [
   | inl after ↦
-      let rest : IsBefore i xs ys =
-      record { place = h.place; within = after; lesser = h.lesser; same_after = λ l p k. h.same_after l p (omega arith) } in
-      let here : coefficient (slice_index xs i) (suc i) ≡ coefficient (slice_index ys i) (suc i) =
-      ap (λ (t : ℕ). coefficient t (suc i)) (h.same_after i after (omega arith)) in
+      let rest : IsBefore i xs ys = grind arith in
+      let here = ap (λ (t : ℕ). coefficient t (suc i)) (h.same_after i after (omega arith)) in
       omega (arith, before_first i xs ys up (omega arith) (omega arith) rest, rank_of_more xs i (omega arith), rank_of_more ys i (omega arith))
   | inr last ↦
       -- whatever the numbers before it, a lesser number makes the rank less
@@ -157,8 +153,7 @@ before_exactly {n} {xs} {ys} x y size = (
   before_less x.increasing size refl,
   λ less. elim (compare (length ys) xs ys) [
     | inl same ↦ absurd (omega (arith, ap rank_of (ext_get_or 0 xs ys size (λ j h. same j (omega arith)))))
-    | inr (inl before) ↦ before
-    | inr (inr after) ↦ absurd (omega (arith, before_less y.increasing refl size after))
+    | inr either ↦ grind (arith, before_less y.increasing refl size)
   ],
 )
 
@@ -169,8 +164,7 @@ pub ruleset rank_steps = (rank_of_none, rank_of_all, next_rank, next_rank_at_mos
 pub choice_of_rank_is_only : ChoiceOfRankIsOnly
 choice_of_rank_is_only = λ n k r xs x ys y. elim (compare k ys xs) [
   | inl same ↦ ext_get_or 0 ys xs (y.size ∙ sym x.size) (λ j h. same j (omega (arith, y.size)))
-  | inr (inl before) ↦ absurd (omega (arith, before_less y.choice.increasing y.size x.size before, x.rank, y.rank))
-  | inr (inr after) ↦ absurd (omega (arith, before_less x.choice.increasing x.size y.size after, x.rank, y.rank))
+  | inr either ↦ absurd (grind (arith, before_less y.choice.increasing y.size x.size, before_less x.choice.increasing x.size y.size))
 ]
 
 -- ---- numbers that follow one another
@@ -226,11 +220,11 @@ raised_rank : {n i : ℕ} {xs ys : List ℕ} → IsFirstToRise n xs i → IsRais
 raised_rank first h zero above within = absurd (omega arith)
 raised_rank {n} {i} {xs} {ys} first h (suc k) above within = elim (cases_lt i k) [
   | inl later ↦
-      let same : coefficient (slice_index ys k) (suc k) ≡ coefficient (slice_index xs k) (suc k) = rw (h.after k later) refl in
+      let same = ap (λ (t : ℕ). coefficient t (suc k)) (h.after k later) in
       omega (arith, raised_rank first h k later (omega arith), rank_of_more xs k (omega arith), rank_of_more ys k (omega (arith, h.size)), same)
   | inr last ↦
       let e : k ≡ i = omega arith in
-      let here : coefficient (slice_index ys i) (suc i) ≡ coefficient (suc (slice_index xs i)) (suc i) = rw (h.here, add-one) refl in
+      let here = ap (λ (t : ℕ). coefficient t (suc i)) (h.here ∙ add-one _) in
       let run = rw (get_or_default xs i n 0 first.within) at (rank_of_run n xs i (omega (arith, first.within)) first.none_before) in
       let none = rank_from_zero ys i (omega (arith, h.size, first.within)) h.before in
       rw e (omega (arith, run, none, here, rank_of_more xs i first.within, rank_of_more ys i (omega (arith, h.size, first.within)), pascal (slice_index xs i) i))

@@ -44,6 +44,7 @@ pub meeting_of_three_at_u64 : {a b c : ℕ} (r : Option ℕ) → 0 < a → 0 < b
     → MatchOption r ((t : ℕ) → IsLeastFrom (pos 1) (λ u. All (λ x. Divides x u) (pos a ∷ pos b ∷ pos c ∷ [])) (pos t) → 2 ^ 64 ≤ t)
     (λ t. IsLeastFrom (pos 1) (λ u. All (λ x. Divides x u) (pos a ∷ pos b ∷ pos c ∷ [])) (pos t))
 meeting_of_three_at_u64 {a} {b} {c} r a_up b_up c_up h =
-    let nonzero = All-cons (λ x. x ≢ pos 0) (pos a) (pos b ∷ pos c ∷ []) (λ zero. omega ints) (All-cons (λ x. x ≢ pos 0) (pos b) (pos c ∷ []) (λ zero. omega ints)
-    (All-cons (λ x. x ≢ pos 0) (pos c) [] (λ zero. omega ints) (All-nil (λ x. x ≢ pos 0)))) in
+    let P : ℤ → Type 0 = λ x. x ≢ pos 0 in
+    let nonzero = All-cons P (pos a) (pos b ∷ pos c ∷ []) (λ zero. omega ints) (All-cons P (pos b) (pos c ∷ []) (λ zero. omega ints)
+    (All-cons P (pos c) [] (λ zero. omega ints) (All-nil P))) in
     first_natural_multiple_of 64 (pos a ∷ pos b ∷ pos c ∷ []) r nonzero h

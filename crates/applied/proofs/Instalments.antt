@@ -21,9 +21,6 @@ next_is_first (pos (suc n)) next other up some =
     rw fewer (ap (λ (xs : List ℤ). next ∷ xs) (others_are_left n other))
 next_is_first (negsuc n) next other up some = absurd (omega ints)
 
-pub none_is_left : (left next other : ℤ) → left ≡ pos 0 → instalments_left (unsigned_abs left) next other ≡ []
-none_is_left left next other none = rw none refl
-
 -- what holds of the next one and of another holds of all
 pub each_left : (P : ℤ → Type 0) (n : ℕ) (next other : ℤ) → P next → P other → All P (instalments_left n next other)
 each_left P zero next other first rest = All-nil P
@@ -46,16 +43,16 @@ module _ {amount count other rest : ℤ} (up : pos 0 <ℤ count) (h : IsTruncate
   of_positive : pos 0 ≤ℤ amount → (pos 0 ≤ℤ other) × (pos 0 ≤ℤ rest) × ((other +ℤ rest) ≤ℤ amount)
   of_positive from =
       let rest_up : pos 0 ≤ℤ rest = omega (sizes, h.sign) in
-      let other_up : pos 0 ≤ℤ other = by_lt_z other (pos 0) (λ below. absurd (omega (products, sizes, h.division.equation, h.division.small, multiples_apart other (pos 0) count up below))) (λ fine. fine) in
+      let other_up : pos 0 ≤ℤ other = grind (products, sizes, h.division, multiples_apart other (pos 0) count up) in
       let more = simp expand at (product_from_zero other (count -ℤ pos 1) other_up (omega linear)) in
-      (other_up, rest_up, omega (products, h.division.equation, more))
+      (other_up, rest_up, omega (products, h.division))
 
   of_negative : amount ≤ℤ pos 0 → (other ≤ℤ pos 0) × (rest ≤ℤ pos 0) × (amount ≤ℤ (other +ℤ rest))
   of_negative to =
       let rest_down : rest ≤ℤ pos 0 = omega (sizes, h.sign) in
-      let other_down : other ≤ℤ pos 0 = by_lt_z (pos 0) other (λ above. absurd (omega (products, sizes, h.division.equation, h.division.small, multiples_apart (pos 0) other count up above))) (λ fine. fine) in
+      let other_down : other ≤ℤ pos 0 = grind (products, sizes, h.division, multiples_apart (pos 0) other count up) in
       let more = simp expand at (product_from_zero (pos 0 -ℤ other) (count -ℤ pos 1) (omega linear) (omega linear)) in
-      (other_down, rest_down, omega (products, h.division.equation, more))
+      (other_down, rest_down, omega (products, h.division))
 
   -- the first fits as the amount does
   pub first_fits : {fits : ℤ → Type 0} {low high : ℤ} → IsRange fits low high → fits amount → fits (other +ℤ rest)
@@ -94,14 +91,11 @@ quotient_of {amount} {count} {xs} up h =
     by_lt_z amount (pos 0)
     (λ below. let of = h.of_negative (omega linear) in record {
       division = record { equation = omega (products, whole, sum, each); small = omega sizes };
-      sign = elim (zero_or_not (h.first -ℤ h.other)) [ inl none ↦ inl none | inr some ↦ inr (inr (omega (linear, some), below)) ];
+      sign = grind (linear, zero_or_not (h.first -ℤ h.other));
     })
     (λ above. let of = h.of_positive above in record {
       division = record { equation = omega (products, whole, sum, each); small = omega sizes };
-      sign = elim (zero_or_not (h.first -ℤ h.other)) [
-        | inl none ↦ inl none
-        | inr some ↦ inr (inl (omega (linear, some), by_lt_z (pos 0) amount (λ fine. fine) (λ zero. absurd (some (omega (linear, h.of_negative zero))))))
-      ];
+      sign = elim (zero_or_not (h.first -ℤ h.other)) [ inl none ↦ inl none | inr some ↦ inr (inl (omega (linear, some), grind linear)) ];
     })
 
 pub instalments_are_only : {amount count : ℤ} {xs : List ℤ} → pos 0 <ℤ count → AreInstalments amount count xs
@@ -122,10 +116,7 @@ naturals : (xs ys : List ℕ) → map (λ k. pos k) xs ≡ map (λ k. pos k) ys 
 naturals [] [] e = refl
 naturals [] (y ∷ ys) e = absurd cc
 naturals (x ∷ xs) [] e = absurd cc
-naturals (x ∷ xs) (y ∷ ys) e =
-    let rest : xs ≡ ys = naturals xs ys cc in
-    let first : x ≡ y = cc in
-    rw (first, rest) refl
+naturals (x ∷ xs) (y ∷ ys) e = let rest : xs ≡ ys = naturals xs ys cc in cc
 
 -- The instalments of a natural number, by `/` and `%`.
 pub instalments_are_natural : {amount count : ℕ} (xs : List ℕ) → 0 < count → AreInstalments (pos amount) (pos count) (map (λ k. pos k) xs)

@@ -50,7 +50,7 @@ pub none_after : {page size items full rest : ℤ} → pos 0 <ℤ size → pos 0
 none_after {page} {size} {full = full} up from_zero division after =
     let below = floored_range up division in
     let over = multiples_apart full page size up after in
-    page_range_is from_zero (omega linear) (omega linear) (λ item h k. absurd (omega linear)) (λ item h k l m. absurd (omega linear)) (λ _. refl)
+    grind linear
 
 -- any other page begins within the items
 pub begins_in : {page size items full rest : ℤ} → pos 0 <ℤ size → IsFloored items size full rest → pos 0 ≤ℤ page → page ≤ℤ full
@@ -80,9 +80,7 @@ lies_within {first = first} {end = end} h k some = grind linear
 pub only_page_range : {page size items first end : ℤ} → IsRangeOfPage page size items first end
     → IsOnly (λ (f, e). IsRangeOfPage page size items f e) (first, end)
 only_page_range {first = first} {end = end} h = λ (f, e) k.
-    let same : (f ≡ first) × (e ≡ end) = by_lt_z first end
-    (λ some. let out = lies_within h k some in grind (linear, lies_within k h))
-    (λ none. let here = h.empty none in grind (linear, lies_within k h, k.empty, h.ordered, k.ordered, h.to_items, k.to_items)) in
+    let same : (f ≡ first) × (e ≡ end) = grind (linear, lies_within h k, lies_within k h) in
     rw (same.0, same.1) refl
 
 -- ---- where the parts begin
@@ -123,7 +121,7 @@ pub start_fits : {fits : ℤ → Type 0} {low high parts items size longer part 
     → IsFloored items parts size longer → pos 0 ≤ℤ part → part <ℤ parts → pos 0 ≤ℤ at → at ≤ℤ parts → fits (at *ℤ size) × fits (cut_at size longer at)
 start_fits range items_fit from_zero division part_up below at_up within =
     let start = cut_within (parts_positive part_up below) from_zero division at_up within in
-    (fits_below range items_fit start.0 (omega (linear, start.1, start.2)), fits_below range items_fit (omega (linear, start.0, start.1)) start.2)
+    (fits_below range items_fit start.0 (omega linear), fits_below range items_fit (omega linear) start.2)
 
 pub part_range : {parts items size longer part : ℤ} → pos 0 ≤ℤ items → IsFloored items parts size longer → pos 0 ≤ℤ part → part <ℤ parts
     → IsRangeOfPart part parts items (cut_at size longer part) (cut_at size longer (part +ℤ pos 1))

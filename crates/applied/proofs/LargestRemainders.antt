@@ -1,5 +1,5 @@
 -- An amount divided in proportion to weights by largest remainders.
-use Rattle.applied.proofs.Common.{◌≡◌, ◌⊎◌, ◌+◌, ◌*◌, ◌-◌, ◌<◌, ◌≤◌, ◌≤ℤ◌, ◌∷◌, ℕ, ℤ, pos, List, [], EachIndex, length, slice_index, slice_set, sum, sum_by, take, suc, inl, inr, refl, ◌∙◌, ap, arith, mul-le-mul_left, le_of_mul-le-mul_right, cond, leb, count_by, cases_lt, le-leb, lt-leb, get_or-set_other, get_or-set_same, length-set, take_all, take_more_set, count_by_more_no, count_by_more_yes, sum_by-cons, sum_by_more, sum_by_push, AreSharesByRemainder, AreSignedSharesByRemainder, IsNearShare, IsOnly, RoundsShare, count_from, remainder_of, rounded_down, signed_sum, SharesByRemainderAreOnly, length-map, map, map-set, set, unsigned_abs}
+use Rattle.applied.proofs.Common.{◌≡◌, ◌⊎◌, ◌+◌, ◌*◌, ◌-◌, ◌<◌, ◌≤◌, ◌∷◌, ℕ, List, [], EachIndex, length, slice_index, slice_set, sum, sum_by, take, suc, inl, inr, refl, ◌∙◌, ap, arith, mul-le-mul_left, le_of_mul-le-mul_right, cond, leb, count_by, cases_lt, le-leb, lt-leb, get_or-set_other, get_or-set_same, length-set, take_all, take_more_set, count_by_more_no, count_by_more_yes, sum_by-cons, sum_by_more, sum_by_push, AreSharesByRemainder, IsNearShare, RoundsShare, count_from, remainder_of, rounded_down, SharesByRemainderAreOnly}
 
 -- ---- exact shares
 
@@ -33,10 +33,7 @@ reached R bar weights = count_by (λ weight. leb bar (R weight)) weights
 pub reached_more : (R : ℕ → ℕ) (bar : ℕ) (weights : List ℕ) (i : ℕ) → i < length weights
     → (bar ≤ R (slice_index weights i) → reached R bar (take (i + 1) weights) ≡ reached R bar (take i weights) + 1)
     × (R (slice_index weights i) < bar → reached R bar (take (i + 1) weights) ≡ reached R bar (take i weights))
-reached_more R bar weights i within = (
-  λ reaches. count_by_more_yes (λ weight. leb bar (R weight)) weights i 0 within (le-leb bar (R (slice_index weights i)) reaches),
-  λ below. count_by_more_no (λ weight. leb bar (R weight)) weights i 0 within (lt-leb bar (R (slice_index weights i)) below),
-)
+reached_more R bar weights i within = grind (arith, le-leb, lt-leb, count_by_more_yes (λ weight. leb bar (R weight)) weights i 0, count_by_more_no (λ weight. leb bar (R weight)) weights i 0)
 
 -- one weight before
 reached-cons : (R : ℕ → ℕ) (bar w : ℕ) (ws : List ℕ)
@@ -151,8 +148,8 @@ less_somewhere (x ∷ xs) (y ∷ ys) size within =
     let all_ys = sum_by-cons (λ (n : ℕ). n) y ys in
     elim (cases_lt y x) [
       | inl less ↦ inr (0, omega arith, less)
-      | inr not_less ↦ elim (less_somewhere xs ys (omega arith) (omega (arith, all_xs, all_ys))) [
-        | inl same ↦ let own : y ≡ x = omega (arith, all_xs, all_ys, ap sum same) in inl (rw (own, same) refl)
+      | inr not_less ↦ elim (less_somewhere xs ys (omega arith) (omega arith)) [
+        | inl same ↦ let own : y ≡ x = omega (arith, ap sum same) in inl (rw (own, same) refl)
         | inr (i, upto, less) ↦ inr (suc i, omega arith, less)
       ]
     ]

@@ -1,24 +1,31 @@
 -- Greatest common divisors and least common multiples of lists.
 use Rattle.num_integer.proofs.ForCallers.{Divides_refl, Divides_zero, gcd_divisor, gcd_fits_is, lcm_positive, no_minus_one, one_divides, only_lcm, zero_fits}
-use Rattle.applied.proofs.Common.{◌≡◌, ◌<◌, ◌+◌, ◌≤ℤ◌, ◌<ℤ◌, ◌∷◌, ◌++◌, ◌≢◌, append-nil, append_assoc, GcdOfFitsExactly, ℕ, ℤ, pos, negsuc, neg_ℤ, unsigned_abs, List, [], length, get_or, map, take, Option, Some, All, arith, inl, inr, refl, subst, sym, ints, map_more, All-head, All-nil, All-pop, All-push, All-tail, All-weaker, AnswersWhere, Divides, IsGreatestCommonDivisor, IsRange, Divides_antisym, Divides_trans, answers_as, linear, sizes, within_fits, zero_or_not, gcd_exists, GcdOfFits, IsGreatestCommonDivisorOf, take-map, HoldsAt, ◌∙◌, get_or-map, length-map, take_at, All-map, All-take, IsLeastCommonMultiple, EachFits, answer_only, divisor_at_most, fits_below, zero_divides, lcm_exists, IsLeastCommonMultipleOf, gcd_swap}
+use Rattle.applied.proofs.Common.{◌≡◌, ◌<◌, ◌+◌, ◌≤ℤ◌, ◌<ℤ◌, ◌∷◌, ◌++◌, ◌≢◌, append-nil, append_assoc, GcdOfFitsExactly, ℕ, ℤ, pos, negsuc, neg_ℤ, unsigned_abs, List, [], length, get_or, map, take, Option, Some, All, arith, inl, inr, refl, subst, sym, ints, map_more, All-head, All-pop, All-push, All-tail, All-weaker, AnswersWhere, Divides, IsGreatestCommonDivisor, IsRange, Divides_antisym, Divides_trans, answers_as, linear, sizes, within_fits, zero_or_not, gcd_exists, GcdOfFits, IsGreatestCommonDivisorOf, take-map, HoldsAt, ◌∙◌, get_or-map, length-map, take_at, All-map, All-take, IsLeastCommonMultiple, EachFits, answer_only, divisor_at_most, fits_below, lcm_exists, IsLeastCommonMultipleOf, gcd_swap}
 use Rattle.applied.proofs.ReducedPairs.{gcd_with_magnitude}
+
+-- ---- one number more
+
+-- what follows from a property of each number, and holds of one more at the end, is a property of each number of the longer list
+each_and_one : (P Q : ℤ → Type 0) (numbers : List ℤ) {x : ℤ} → ((y : ℤ) → P y → Q y) → All P numbers → Q x → All Q (numbers ++ x ∷ [])
+each_and_one P Q numbers {x} weaker each last = All-push Q numbers x (All-weaker P Q weaker numbers each) last
+
+-- a property of each number of the longer list is one of the numbers before the last, and of the last
+before_and_last : (P : ℤ → Type 0) (numbers : List ℤ) {x : ℤ} → All P (numbers ++ x ∷ []) → All P numbers × P x
+before_and_last P numbers {x} each = All-pop P (numbers ++ x ∷ []) numbers (Some x) refl each
 
 -- ---- the gcd of one number more
 
 -- the greatest common divisor of no numbers is 0
 pub gcd_of_none : IsGreatestCommonDivisorOf [] (pos 0)
-gcd_of_none = record { from_zero = omega ints; divides_each = All-nil (λ x. Divides (pos 0) x); greatest = λ d _. Divides_zero d }
+gcd_of_none = grind (ints, Divides_zero)
 
 -- the gcd of a list with one number more at its end is the gcd of the list's gcd and this number
 pub gcd_of_more : {numbers : List ℤ} {g x h : ℤ} → IsGreatestCommonDivisorOf numbers g → IsGreatestCommonDivisor g x h
     → IsGreatestCommonDivisorOf (numbers ++ x ∷ []) h
 gcd_of_more {numbers} {g} {x} {h} before both = record {
   from_zero = both.from_zero;
-  divides_each = All-push (λ y. Divides h y) numbers x
-      (All-weaker (λ y. Divides g y) (λ y. Divides h y) (λ y divides. Divides_trans both.divides_left divides) numbers before.divides_each)
-      both.divides_right;
-  greatest = λ d each.
-      let split = All-pop (λ y. Divides d y) (numbers ++ x ∷ []) numbers (Some x) refl each in both.greatest d (before.greatest d split.0) split.1;
+  divides_each = each_and_one _ (Divides h) numbers (λ y divides. Divides_trans both.divides_left divides) before.divides_each both.divides_right;
+  greatest = λ d each. let split = before_and_last (Divides d) numbers each in both.greatest d (before.greatest d split.0) split.1;
 }
 
 -- ---- each list has a gcd
@@ -108,17 +115,16 @@ pub lcm_of_more : {numbers : List ℤ} {l x m : ℤ} → IsLeastCommonMultipleOf
     → IsLeastCommonMultipleOf (numbers ++ x ∷ []) m
 lcm_of_more {numbers} {l} {x} {m} before both = record {
   from_zero = both.from_zero;
-  each_divides = All-push (λ y. Divides y m) numbers x
-      (All-weaker (λ y. Divides y l) (λ y. Divides y m) (λ y divides. Divides_trans divides both.left_divides) numbers before.each_divides)
+  each_divides = each_and_one _ (λ y. Divides y m) numbers (λ y divides. Divides_trans divides both.left_divides) before.each_divides
       both.right_divides;
-  least = λ n each.
-      let split = All-pop (λ y. Divides y n) (numbers ++ x ∷ []) numbers (Some x) refl each in both.least n (before.least n split.0) split.1;
+  least = λ n each. let split = before_and_last (λ y. Divides y n) numbers each in both.least n (before.least n split.0) split.1;
 }
 
 -- the lcm of the first numbers of a list divides that of the list
 pub prefix_divides : {first : List ℤ} (rest : List ℤ) {m l : ℤ} → IsLeastCommonMultipleOf first m → IsLeastCommonMultipleOf (first ++ rest) l
     → Divides m l
-prefix_divides {first} rest {m} {l} h k = h.least l (subst (All (λ x. Divides x l)) (take_at first rest (length first) refl) (All-take (λ x. Divides x l) (length first) (first ++ rest) k.each_divides))
+prefix_divides {first} rest {m} {l} h k =
+    h.least l (rw (take_at first rest (length first) refl) at (All-take (λ x. Divides x l) (length first) (first ++ rest) k.each_divides))
 
 -- ---- each list has an lcm
 
@@ -143,9 +149,7 @@ pub lcm_of_zero : {numbers : List ℤ} (k : ℕ) → k < length numbers → Hold
 lcm_of_zero {numbers} k within zero = record {
   from_zero = omega ints;
   each_divides = λ i d inside. Divides_zero _;
-  least = λ m each.
-      let none : m ≡ pos 0 = zero_divides (rw (zero (pos 0)) at (each k (pos 0) within)) in
-      rw none (Divides_zero (pos 0));
+  least = λ m each. rw (zero (pos 0)) at (each k (pos 0) within);
 }
 
 pub lcm_of_with_zero : {X : Type 0} (value : X → ℤ) (numbers : List X) (k : ℕ) → k < length numbers → HoldsAt (λ x. value x ≡ pos 0) numbers k

@@ -16,12 +16,7 @@ pub meeting_of_solution : {X : Type 0} (value : X → ℤ) (fits : ℤ → Type 
     → IsLeastFrom a (λ z. b ≤ℤ z) start → IsLeastFrom now (λ z. start ≤ℤ z) from
     → IsLeastTime value fits from (SolvesBothCongruences a p b q) m → IsLeastTime value fits now (IsMeeting a p b q) m
 meeting_of_solution value fits {a = a} {b = b} p q m start from = result_is {Solves = SolvesBothCongruences a p b q} {Meets = IsMeeting a p b q} from
-    (λ t after solves. record {
-      of_first = record { from_first = omega (linear, start.from_there, from.holds); congruent = solves.first };
-      of_second = record { from_first = omega (linear, start.holds, from.holds); congruent = solves.second };
-    })
-    (λ t h. (start.least t h.of_first.from_first h.of_second.from_first, record { first = h.of_first.congruent; second = h.of_second.congruent }))
-    value fits m
+    (λ t after solves. grind linear) (λ t h. grind arith) value fits m
 
 pub meeting_of_each : {X : Type 0} (value : X → ℤ) (fits : ℤ → Type 0) (schedules : List (Schedule X)) {now from : ℤ} (m : CommonSolution X)
     → IsLeastFrom now (HaveBegun value schedules) from
@@ -46,24 +41,16 @@ begun_more value schedules k schedule within is later own begun i d upto = grind
 -- from the time on at which the schedule has begun, its times are the congruent numbers, and no time is before that
 times_from : {from first start : ℤ} (period to : ℤ) → IsLeastFrom from (λ z. first ≤ℤ z) start → (items : List ℤ)
     → AreAllFrom start (IsCongruentUpTo to first period) items → AreAllFrom from (IsTimeTo first period to) items
-times_from period to start [] none =
-    λ u above h. none u (start.least u above h.time.from_first) record { to_there = h.to_there; congruent = h.time.congruent }
+times_from period to start [] none = grind arith
 times_from {from = from} {first = first} {start = start'} period to start (t ∷ items) (next, rest) = (
-  record {
-    from_there = omega (linear, start.from_there, next.from_there);
-    holds = record {
-      time = record { from_first = omega (linear, start.holds, next.from_there); congruent = next.holds.congruent };
-      to_there = next.holds.to_there;
-    };
-    least = λ u above h. next.least u (start.least u above h.time.from_first) record { to_there = h.to_there; congruent = h.time.congruent };
-  },
+  grind linear,
   times_from {from = t +ℤ pos 1} {first = first} {start = t +ℤ pos 1} period to
       (record { from_there = omega linear; holds = omega (linear, start.holds, next.from_there); least = λ u up _. up }) items rest,
 )
 
 count_of_times : {from first period to start n : ℤ} → IsLeastFrom from (λ z. first ≤ℤ z) start → IsCountOfCongruent start to first period n
     → IsCountOfTimes from to first period n
-count_of_times {from} {first} {period} {to} start h = record { items = h.items; all = times_from period to start h.items h.all; counted = h.counted }
+count_of_times {from} {first} {period} {to} start h = grind (arith, times_from)
 
 pub times_by_congruent : {X : Type 0} (value : X → ℤ) (fits : ℤ → Type 0) {from start : ℤ} (to first period : ℤ) (r : Option X)
     → IsLeastFrom from (λ z. first ≤ℤ z) start

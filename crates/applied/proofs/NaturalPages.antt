@@ -1,5 +1,5 @@
 -- Pages that have items, in natural numbers.
-use Rattle.applied.proofs.Common.{◌∙◌, ◌≡◌, ◌↔◌, ◌⊎◌, ◌<◌, ◌≤◌, ◌+◌, ◌-◌, ◌*◌, ℕ, pos, suc, arith, cases_lt, inl, inr, refl, IsRangeOfPage}
+use Rattle.applied.proofs.Common.{◌∙◌, ◌≡◌, ◌↔◌, ◌⊎◌, ◌<◌, ◌≤◌, ◌+◌, ◌-◌, ◌*◌, ℕ, pos, suc, arith, refl, IsRangeOfPage}
 use Rattle.applied.proofs.NaturalWords.{end_of_page_is_natural, first_of_page_is_natural}
 use Rattle.std.proofs.Math.Nat.{lt_of_mul-lt-mul_right, mul-le-mul_right}
 use Rattle.std.proofs.lemmas.Grind.{div_ceil_times}
@@ -9,19 +9,14 @@ use Rattle.std.specs.Prelude.{max, min}
 -- A page, counted from 0, has an item exactly if it is one of the fewest pages that hold all items.
 pub page_has_items : {items size : ℕ} (page : ℕ) → 0 < size → (page * size < items) ↔ (page < div_ceil items size)
 page_has_items {items} {size} page up =
-    let ceil = div_ceil_times items size up in (
-      λ some. lt_of_mul-lt-mul_right size (omega (arith, ceil.0)),
-      λ within. let next : suc page * size ≤ div_ceil items size * size = mul-le-mul_right size (omega arith) in omega (arith, ceil.1, next),
-    )
+    let ceil = div_ceil_times items size up in
+    (λ some. lt_of_mul-lt-mul_right size (omega arith), λ within. omega (arith, mul-le-mul_right {m = suc page} {n = div_ceil items size} size (omega arith)))
 
 -- Counted from 1, a page is the first or has an item exactly if it is not beyond the last one.
 pub numbered_page_has_items : {items size last : ℕ} (page : ℕ) → 0 < size → last ≡ max (div_ceil items size) 1 → 1 ≤ page
     → ((page ≡ 1) ⊎ ((page - 1) * size < items)) ↔ (page ≤ last)
 numbered_page_has_items {items} page up is from =
-    let has = page_has_items {items = items} (page - 1) up in (
-      λ some. elim some [ inl first ↦ omega arith | inr items ↦ omega (arith, has.0 items) ],
-      λ within. elim (cases_lt 1 page) [ inl later ↦ inr (has.1 (omega arith)) | inr first ↦ inl (omega arith) ],
-    )
+    grind (arith, page_has_items {items = items} (page - 1) up)
 
 -- The pages up to the last one, which is the first if there are no items, hold all items.
 pub pages_hold : {items size last : ℕ} → 0 < size → last ≡ max (div_ceil items size) 1 → items ≤ last * size

@@ -29,9 +29,8 @@ pub pages_is_natural : {items size count : ℕ} → 0 < size → pos items ≤�
     → ((n : ℤ) → pos items ≤ℤ (n *ℤ pos size) → pos count ≤ℤ n) → count ≡ div_ceil items size
 pages_is_natural {items} {size} {count} up enough fewest =
     let ceil = div_ceil_times items size up in
-    let most : pos count ≤ℤ pos (div_ceil items size) = fewest (pos (div_ceil items size)) (omega (ints, ceil.0)) in
     let least : div_ceil items size < suc count = lt_of_mul-lt-mul_right size (omega (ints, ceil.1)) in
-    omega ints
+    omega (ints, fewest (pos (div_ceil items size)) (omega (ints, ceil.0)))
 
 -- The page and the place of an item are its quotient and its remainder by the page size.
 pub place_is_natural : {item size page place : ℕ} → IsPlace (pos item) (pos size) (pos page) (pos place)
@@ -126,7 +125,7 @@ pub aligned_is_whole : (offset alignment : ℕ) (r : Option ℕ) → 0 < alignme
 aligned_is_whole offset alignment None up none = λ n enough.
     let own = next_multiple_is_aligned offset alignment up in
     let least : pos (next_multiple_of offset alignment) ≤ℤ pos (n * alignment) = own.least _ (omega ints) (whole_alignments n alignment) in
-    elim (cases_lt (n * alignment) (2 ^ 64)) [ inl below ↦ absurd (none _ own (omega (ints, least))) | inr above ↦ above ]
+    grind (ints, none _ own)
 aligned_is_whole offset alignment (Some aligned) up h =
     let multiple : aligned % alignment ≡ 0 = (divides_is_natural up).0 h.1.multiple in (
       (aligned / alignment, omega (arith, multiple)),
@@ -152,7 +151,7 @@ pub next_run_is_natural : (from phase period : ℕ) (r : Option ℕ) → 0 < per
     → MatchOption r ((u : ℕ) → from ≤ u → u % period ≡ phase % period → 2 ^ 64 ≤ u) (λ t. (from ≤ t) × (t < from + period) × (t % period ≡ phase % period))
 next_run_is_natural from phase period None up (t, next, outside) = λ u later same.
     let least = next.least (pos u) (omega ints) ((congruent_is_natural up).1 same) in
-    elim (cases_lt u (2 ^ 64)) [ inl below ↦ absurd (outside (no_larger u t below next.from_there least)) | inr above ↦ above ]
+    grind (arith, no_larger u t)
 next_run_is_natural from phase period (Some t) up (fits, next) =
     (omega (ints, next.from_there), omega (ints, next_congruent_below {t = pos t} (omega ints) next), (congruent_is_natural up).0 next.holds)
 
@@ -160,7 +159,7 @@ next_run_is_natural from phase period (Some t) up (fits, next) =
 pub meeting_is_natural : {a p b q t : ℕ} → 0 < p → 0 < q → IsMeeting (pos a) (pos p) (pos b) (pos q) (pos t)
     → (a ≤ t) × (b ≤ t) × (t % p ≡ a % p) × (t % q ≡ b % q)
 meeting_is_natural up other_up h =
-    (omega (ints, h.of_first.from_first), omega (ints, h.of_second.from_first), (congruent_is_natural up).0 h.of_first.congruent, (congruent_is_natural other_up).0 h.of_second.congruent)
+    (omega ints, omega ints, (congruent_is_natural up).0 h.of_first.congruent, (congruent_is_natural other_up).0 h.of_second.congruent)
 
 -- ---- nearest quotients
 
@@ -168,13 +167,7 @@ meeting_is_natural up other_up h =
 pub nearest_is_natural : {n d q : ℕ} {r : ℤ} → 0 < d → IsNearest (pos n) (pos d) (pos q) r → q ≡ (2 * n + d) / (2 * d)
 nearest_is_natural {n} {d} {q} up h =
     let equation = h.division.equation in
-    let range : (2 * (q * d) ≤ 2 * n + d) × (2 * n < 2 * (q * d) + d) = (
-      omega (ints, sizes, equation, h.nearest),
-      elim (cases_lt (2 * n) (2 * (q * d) + d)) [
-        | inl below ↦ below
-        | inr over ↦ absurd (omega (ints, sizes, equation, h.nearest, h.tie (omega (ints, sizes, equation, h.nearest))))
-      ],
-    ) in
+    let range : (2 * (q * d) ≤ 2 * n + d) × (2 * n < 2 * (q * d) + d) = grind (ints, sizes) in
     (division_is_natural {n = 2 * n + d} {d = 2 * d} {q = q} {r = 2 * n + d - 2 * (q * d)} (omega arith) (floored_by_range (omega (ints, range.0)) (omega ints) (omega (ints, range.1)))).0
 
 -- a nearest quotient of natural numbers is a natural number
@@ -199,7 +192,7 @@ pub binomial_is_natural : (n k : ℕ) (r : Option ℕ)
     → AnswersWhere ((pos 0 ≤ℤ pos n) × (pos 0 ≤ℤ pos k) × FitsUnsignedBits 64 (coefficient_of (pos n) (pos k))) (λ c. FitsUnsignedBits 64 (pos c) × (pos c ≡ coefficient_of (pos n) (pos k))) r
     → MatchOption r (2 ^ 64 ≤ coefficient n k) (λ c. (c ≡ coefficient n k) × (k ≤ n → c * (factorial k * factorial (n - k)) ≡ factorial n))
 binomial_is_natural n k None none =
-    elim (cases_lt (coefficient n k) (2 ^ 64)) [ inl below ↦ absurd (none (omega ints, omega ints, below)) | inr above ↦ above ]
+    grind ints
 binomial_is_natural n k (Some c) h =
     let is : c ≡ coefficient n k = ap unsigned_abs h.1.1 in
     (is, λ within. rw is (omega (arith, factorial_formula n k within)))

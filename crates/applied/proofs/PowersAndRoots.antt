@@ -102,11 +102,11 @@ not_below {base = pos b} {k = k} {j = j} up h other less = grind (arith, pow-le-
 not_below {base = negsuc b} up h other less = omega ints
 
 pub logarithm_is_only : LogarithmIsOnly
-logarithm_is_only = λ base n k up h j other. let least = not_below up h other in let most = not_below up other h in grind arith
+logarithm_is_only = λ base n k up h j other. grind (arith, not_below up h other, not_below up other h)
 
 -- ---- what is left of a square root
 
 pub square_rest : {x r : ℤ} → pos 0 ≤ℤ x → IsRoot x 2 r → (pos 0 ≤ℤ (r *ℤ r)) × ((r *ℤ r) ≤ℤ x) × (x ≤ℤ (r *ℤ r +ℤ (r +ℤ r)))
-square_rest {x = pos a} {r = pos b} up h = let squares = root_by_squares h in (omega ints, omega (ints, squares.0), omega (ints, squares.1))
+square_rest {x = pos a} {r = pos b} up h = let squares = root_by_squares h in (omega ints, omega ints, omega ints)
 square_rest {x = pos a} {r = negsuc b} up h = absurd (omega (ints, (h.from_zero up).from_zero))
 square_rest {x = negsuc a} {r = r} up h = absurd (omega ints)

@@ -37,9 +37,9 @@ module _ {fits : ℤ → Type 0} {low high a b : ℤ} (range : IsRange fits low 
 
 -- each part of a number fits
 part_fits : {fits : ℤ → Type 0} {low high n g part : ℤ} → IsRange fits low high → fits n → pos 0 <ℤ g → n ≡ g *ℤ part → fits part
-part_fits {g = g} {part = part} range n_fits up is = by_lt_z part (pos 0)
-    (λ down. let more = simp expand at (product_from_zero (g -ℤ pos 1) (pos 0 -ℤ part) (omega linear) (omega linear)) in within_fits range n_fits (inr (omega products, omega linear)))
-    (λ fine. let more = simp expand at (product_from_zero (g -ℤ pos 1) part (omega linear) fine) in within_fits range n_fits (inl (fine, omega products)))
+part_fits {g = g} {part = part} range n_fits up is = within_fits range n_fits (by_lt_z part (pos 0)
+    (λ down. let more = simp expand at (product_from_zero (g -ℤ pos 1) (pos 0 -ℤ part) (omega linear) (omega linear)) in inr (omega products, omega linear))
+    (λ fine. let more = simp expand at (product_from_zero (g -ℤ pos 1) part (omega linear) fine) in inl (fine, omega products)))
 
 module _ {n d : ℤ} (nonzero : d ≢ pos 0) (divides : Divides (pos (unsigned_abs d)) n) where
   -- the quotient is exact
@@ -102,9 +102,7 @@ same_of_sign {a} {x} {u} h k there back =
     let on = Divides_trans (magnitude_divides x) (Divides_trans there (divides_magnitude u)) in
     let off = Divides_trans (magnitude_divides u) (Divides_trans back (divides_magnitude x)) in
     let size = Divides_antisym (omega linear) (omega linear) on off in
-    by_lt_z (pos 0) x
-    (λ up. omega (sizes, k.positive.1 (h.positive.0 up)))
-    (λ not_up. by_lt_z x (pos 0) (λ down. omega (sizes, k.negative.1 (h.negative.0 down))) (λ not_down. omega sizes))
+    grind (sizes, h.positive, h.negative, k.positive, k.negative)
 
 first_is_only : {a b x y u v : ℤ} → IsReducedPair a b x y → IsReducedPair a b u v → u ≡ x
 first_is_only {a} {b} {x} {y} {u} {v} h k = elim (zero_or_not a) [

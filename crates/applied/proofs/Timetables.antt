@@ -1,5 +1,5 @@
 -- Timetables: the next run, and how many runs there are before a time.
-use Rattle.applied.proofs.Common.{[], ◌≡◌, ◌↔◌, ◌≤ℤ◌, ◌<ℤ◌, ◌+ℤ◌, ◌-ℤ◌, ◌∷◌, ℤ, pos, List, Option, Some, None, MatchOption, FitsSigned, by_lt_z, ints, linear, products, expand, w64, AreAllFrom, AreCongruent, Divides, FitsWith, IsCongruentUpTo, IsCountOfCongruent, IsLeastFrom}
+use Rattle.applied.proofs.Common.{arith, [], ◌≡◌, ◌↔◌, ◌≤ℤ◌, ◌<ℤ◌, ◌+ℤ◌, ◌-ℤ◌, ◌∷◌, ℤ, pos, List, Option, Some, None, MatchOption, FitsSigned, ints, linear, products, expand, w64, AreAllFrom, AreCongruent, Divides, FitsWith, IsCongruentUpTo, IsCountOfCongruent, IsLeastFrom}
 use Rattle.modular.specs.Congruences.{IsNextCongruent}
 use Rattle.modular.specs.Counts.{IsCountFrom}
 
@@ -8,7 +8,7 @@ use Rattle.modular.specs.Counts.{IsCountFrom}
 module _ {P Q : ℤ → Type 0} (same : (u : ℤ) → P u ↔ Q u) where
   -- They have the same least number.
   pub least_as : {from t : ℤ} → IsLeastFrom from P t → IsLeastFrom from Q t
-  least_as {t = t} h = record { from_there = h.from_there; holds = (same t).0 h.holds; least = λ u later has. h.least u later ((same u).1 has) }
+  least_as {t = t} h = grind arith
 
   all_as : (from : ℤ) (items : List ℤ) → AreAllFrom from P items → AreAllFrom from Q items
   all_as from [] none = λ u later has. none u later ((same u).1 has)
@@ -16,7 +16,7 @@ module _ {P Q : ℤ → Type 0} (same : (u : ℤ) → P u ↔ Q u) where
 
   -- They have the same count.
   pub count_as : {from n : ℤ} → IsCountFrom from P n → IsCountFrom from Q n
-  count_as {from = from} h = record { items = h.items; all = all_as from h.items h.all; counted = h.counted }
+  count_as {from = from} h = grind (arith, all_as)
 
 -- ---- the next run
 
@@ -28,7 +28,7 @@ step_before {period} {t} h =
 -- The next congruent number is less than a step after the first one that it can be.
 pub next_congruent_below : {from phase period t : ℤ} → pos 0 <ℤ period → IsNextCongruent from phase period t → t <ℤ (from +ℤ period)
 next_congruent_below {from} {phase} {period} {t} up h =
-    by_lt_z t (from +ℤ period) (λ below. below) (λ above. absurd (omega (linear, h.least (t -ℤ period) (omega linear) (step_before h.holds))))
+    grind (linear, h.least (t -ℤ period), step_before h.holds)
 
 -- The next run at `i64`, by divisibility. There is none if no run that is not before `from` fits.
 pub next_run_by_divisors : (from phase period : ℤ) (r : Option ℤ) → pos 0 <ℤ period → FitsSigned w64 from
@@ -43,10 +43,7 @@ next_run_by_divisors from phase period (Some t) up from_fits h = (h.1.from_there
 -- a congruent number at most the one before `end` is one before `end`
 congruent_before : {end before : ℤ} (phase period : ℤ) → before ≡ end -ℤ pos 1 → (u : ℤ)
     → IsCongruentUpTo before phase period u ↔ ((u <ℤ end) × Divides period (u -ℤ phase))
-congruent_before phase period is u = (
-  λ h. (omega (linear, h.to_there), h.congruent.divides),
-  λ h. record { to_there = omega (linear, h.0); congruent = record { divides = h.1 } },
-)
+congruent_before {end} phase period is u = grind linear
 
 -- How many runs are before `end`, if the call counts to the number before it.
 pub count_before : (from end before phase period : ℤ) (r : Option ℤ) → before ≡ end -ℤ pos 1

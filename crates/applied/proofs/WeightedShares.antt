@@ -1,5 +1,5 @@
 -- An amount divided in proportion to weights.
-use Rattle.applied.proofs.Common.{◌≡◌, ◌+◌, ◌*◌, ◌<◌, ◌≤◌, ◌<ℤ◌, ◌≤ℤ◌, ◌-ℤ◌, ◌∷◌, ℕ, List, EachIndex, length, slice_index, slice_set, sum, take, ◌∙◌, ap, arith, le_refl, sym, ext_get_or, length-set, take-set-le, take_all, take_more_set, sum_by_more, sum_by_push, mul-le, IsOnly, AreShares, IsNearShare, suc, ℤ, neg_ℤ, pos, [], All, map, unsigned_abs, get_or, refl, set, by_lt_z, ints, get_or-map, get_or-set_other, get_or-set_same, length-map, map-set, sum_by-cons, AreSignedShares, signed_sum}
+use Rattle.applied.proofs.Common.{◌≡◌, ◌+◌, ◌*◌, ◌<◌, ◌≤◌, ◌<ℤ◌, ◌≤ℤ◌, ◌-ℤ◌, ◌∷◌, ℕ, List, EachIndex, length, slice_index, slice_set, sum, take, ◌∙◌, ap, arith, le_refl, sym, ext_get_or, length-set, take-set-le, take_all, take_more_set, sum_by_more, sum_by_push, mul-le, IsOnly, AreShares, IsNearShare, suc, ℤ, neg_ℤ, pos, [], All, map, unsigned_abs, get_or, refl, set, ints, get_or-map, get_or-set_other, get_or-set_same, length-map, map-set, sum_by-cons, signed_sum}
 
 -- ---- the shares so far
 
@@ -83,10 +83,7 @@ pub one_more_signed : {P Q : List ℕ → Type 0} {amount share : ℤ} {m i : �
     → (P (map unsigned_abs shares) → Q (set (map unsigned_abs shares) i m)) → AreSignedTo P amount i shares
     → AreSignedTo Q amount (i + 1) (set shares i share)
 one_more_signed {amount = amount} {share} {m} {i} {shares} from_zero below_zero within room more h =
-    let of_sign : (unsigned_abs share ≡ m) × (pos 0 ≤ℤ amount → pos 0 ≤ℤ share) × (amount ≤ℤ pos 0 → share ≤ℤ pos 0) =
-    by_lt_z amount (pos 0)
-    (λ below. let is = below_zero below in (omega (ints, is), λ up. omega (ints, is), λ down. omega (ints, is)))
-    (λ rest. let is = from_zero rest in (omega (ints, is), λ up. omega (ints, is), λ down. omega (ints, is, within))) in
+    let of_sign : (unsigned_abs share ≡ m) × (pos 0 ≤ℤ amount → pos 0 ≤ℤ share) × (amount ≤ℤ pos 0 → share ≤ℤ pos 0) = grind ints in
     let inside : i < length shares = omega (arith, length-map shares unsigned_abs) in
     record {
       magnitudes = rw (map-set unsigned_abs shares i share, of_sign.0) (more h.magnitudes);
@@ -111,14 +108,13 @@ HaveSignOf amount numbers = (pos 0 ≤ℤ amount → All (λ x. pos 0 ≤ℤ x) 
 
 pub all_signed : {P : List ℕ → Type 0} {amount : ℤ} {i : ℕ} {shares : List ℤ} → length shares ≤ i → AreSignedTo P amount i shares
     → HaveSignOf amount shares
-all_signed end h = (λ sign k d within. (h.signs k d (omega arith)).0 sign, λ sign k d within. (h.signs k d (omega arith)).1 sign)
+all_signed end h = grind arith
 
 -- Numbers of the sign of the amount are together the amount, if their magnitudes are its magnitude.
 pub whole_of_sign : {amount : ℤ} (shares : List ℤ) → HaveSignOf amount shares → sum (map unsigned_abs shares) ≡ unsigned_abs amount
     → signed_sum shares ≡ amount
 whole_of_sign {amount} shares h whole =
-    by_lt_z amount (pos 0) (λ less. omega (ints, (sum_of_sign shares).1 (h.1 (omega ints))))
-    (λ rest. omega (ints, (sum_of_sign shares).0 (h.0 rest)))
+    grind (ints, sum_of_sign shares)
 
 -- Numbers of the sign of the amount are the same, if their magnitudes are.
 pub same_of_sign : {amount : ℤ} {shares other : List ℤ} → HaveSignOf amount shares → HaveSignOf amount other
@@ -128,5 +124,4 @@ same_of_sign {amount} {shares} {other} h k same =
     ext_get_or (pos 0) other shares size (λ i within.
     let magnitude : unsigned_abs (get_or other i (pos 0)) ≡ unsigned_abs (get_or shares i (pos 0)) =
     sym (get_or-map unsigned_abs other i (pos 0) 0 within) ∙ ap (λ (xs : List ℕ). get_or xs i 0) same ∙ get_or-map unsigned_abs shares i (pos 0) 0 (omega arith) in
-    by_lt_z amount (pos 0) (λ less. omega (ints, magnitude, k.1 (omega ints) i (pos 0) within, h.1 (omega ints) i (pos 0) (omega arith)))
-    (λ rest. omega (ints, magnitude, k.0 rest i (pos 0) within, h.0 rest i (pos 0) (omega arith))))
+    grind ints)

@@ -1,6 +1,6 @@
 -- Dates in their order, and their days.
 use Rattle.std.proofs.lemmas.List.Sums.{sum_by-take-le, sum_by_more}
-use Rattle.calendar.proofs.Common.{◌≡◌, ◌⊎◌, ◌+◌, ◌-◌, ◌<◌, ◌≤◌, ◌<ℤ◌, ◌+ℤ◌, ℕ, ℤ, pos, List, length, take, sum, slice_index, ◌∙◌, ap, arith, inl, inr, sym, ints, to_z-of_z, take-take, linear, props, is_prop→PathP, Date, HasParts, IsEarlier, IsLastOfMonth, number_of, IsDate, days_before_month, days_in_month, months_of, day_number, first_day}
+use Rattle.calendar.proofs.Common.{◌≡◌, ◌⊎◌, ◌+◌, ◌-◌, ◌<◌, ◌≤◌, ◌<ℤ◌, ◌+ℤ◌, ℕ, ℤ, pos, List, length, take, sum, slice_index, ap, arith, inl, inr, sym, ints, to_z-of_z, take-take, linear, props, is_prop→PathP, Date, HasParts, IsEarlier, IsLastOfMonth, number_of, IsDate, days_before_month, days_in_month, months_of, day_number, first_day}
 use Rattle.calendar.specs.Years.{days_in_year}
 use Rattle.calendar.proofs.YearLengths.{later_year, next_first_day}
 use Rattle.calendar.specs.Laws as law
@@ -45,8 +45,7 @@ earlier_is_less : (a b : Date) → IsEarlier a b → number_of a <ℤ number_of 
 earlier_is_less a b (inl years) =
     omega (ints, year_day_range a.valid, year_day_range b.valid, next_first_day a.year, later_year a.year b.year years)
 earlier_is_less a b (inr (same, inl months)) =
-    let end = month_end (months_of a.year) (a.month - 1) (b.month - 1) (omega (arith, a.valid.month_from_one)) (omega (arith, b.valid.month_to_twelve)) in
-    rw (sym same) (omega (ints, a.valid.day_to_last, b.valid.day_from_one))
+    rw (sym same) (grind (ints, a.valid, b.valid, month_end (months_of a.year) (a.month - 1) (b.month - 1)))
 earlier_is_less a b (inr (same, inr (month, days))) = rw (same, month) (omega ints)
 
 -- dates of the same parts are the same
@@ -63,7 +62,7 @@ compared : (a b : Date) → IsEarlier a b ⊎ IsEarlier b a ⊎ (a ≡ b)
 compared a b = grind (linear, of_parts a b)
 
 pub only_of_parts : law.DateOfPartsIsOnly
-only_of_parts year month day a b h k = of_parts a b (h.year_is ∙ sym k.year_is) (h.month_is ∙ sym k.month_is) (h.day_is ∙ sym k.day_is)
+only_of_parts year month day a b h k = grind (arith, of_parts a b)
 
 -- and so are dates of one number
 pub only_date : law.DateIsOnly
@@ -83,11 +82,9 @@ pub last_of_month : {year : ℤ} {month : ℕ} (date : Date) → HasParts date y
 last_of_month date h = record {
   year_is = h.year_is;
   month_is = h.month_is;
-  last = λ other years months.
-      let to = rw (years, months) at other.valid.day_to_last in
-      rw (years, months, h.year_is, h.month_is, h.day_is) (omega (ints, to));
+  last = λ other years months. grind (ints, other.valid);
 }
 
 -- of which there is only one
 pub only_last_of_month : law.LastOfMonthIsOnly
-only_last_of_month year month a b h k = only_date a b (omega (ints, h.last b k.year_is k.month_is, k.last a h.year_is h.month_is))
+only_last_of_month year month a b h k = only_date a b (grind (ints, h.last b, k.last a))

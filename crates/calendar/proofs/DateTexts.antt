@@ -35,19 +35,12 @@ number_boundary text front n h =
 -- a text ends in one number only
 pub only_number : (text a b : List ℕ) (m n : ℕ) → m < 100 → n < 100 → text ≡ with_number a m → text ≡ with_number b n → (a ≡ b) × (m ≡ n)
 only_number text a b m n m_small n_small e f =
-    let g = number_told text a m m_small e in
-    let h = number_told text b n n_small f in
-    let same = sym g.last_is ∙ h.last_is in
-    let tens = ap (λ (x : List ℕ). get_or x 1 0) same in
-    let ones = ap (λ (x : List ℕ). get_or x 2 0) same in
-    (sym g.front_is ∙ h.front_is, omega arith)
+    grind (arith, number_told text a m m_small e, number_told text b n n_small f)
 
 pub number_text : (text : List ℕ) (k tens ones : ℕ) → (48 ≤ tens) × (tens ≤ 57) → (48 ≤ ones) × (ones ≤ 57) → drop k text ≡ 45 ∷ tens ∷ ones ∷ []
     → text ≡ with_number (take k text) (10 * (tens - 48) + (ones - 48))
 number_text text k tens ones t o e =
-    let first : 48 + (10 * (tens - 48) + (ones - 48)) / 10 ≡ tens = omega arith in
-    let second : 48 + (10 * (tens - 48) + (ones - 48)) % 10 ≡ ones = omega arith in
-    sym (take-append-drop k text) ∙ rw (two_places (10 * (tens - 48) + (ones - 48)) (omega arith), first, second, append_assoc) (rw e refl)
+    sym (take-append-drop k text) ∙ grind (arith, two_places, append_assoc)
 
 -- ---- months and days are of two digits
 
@@ -79,7 +72,7 @@ made_date (Some x) date h year month day = ap (λ (d : Date). Some d) (of_parts 
 
 -- no date, if the text is that of none
 pub no_date : {o : Option Date} {date : Date} {text : List ℕ} → o ≡ None → text ≢ text_of date → (o ≡ Some date) ↔ (text ≡ text_of date)
-no_date none other = (λ e. absurd cc, λ e. absurd (other e))
+no_date none other = grind arith
 
 -- ---- printing
 

@@ -1,10 +1,10 @@
 -- Each day has a date, and is in a year and in a week.
-use Rattle.calendar.proofs.Common.{◌≡◌, ◌+◌, ◌*◌, ◌/◌, ◌≤◌, ◌+ℤ◌, ◌-ℤ◌, ◌*ℤ◌, ℕ, zero, suc, ℤ, pos, negsuc, unsigned_abs, FitsSigned, MatchOption, Option, Some, None, w64, ◌∙◌, ap, arith, inl, inr, le_refl, refl, subst, sym, cases_lt, ints, IfSome, IsSome, Date, Thursday, number_of, days_in_month, HasDay, IsDayOfIsoWeek, IsWeeksAfter, day_number, first_day}
+use Rattle.calendar.proofs.Common.{◌≡◌, ◌+◌, ◌*◌, ◌/◌, ◌≤◌, ◌+ℤ◌, ◌-ℤ◌, ◌*ℤ◌, ℕ, zero, suc, ℤ, pos, negsuc, unsigned_abs, FitsSigned, MatchOption, Option, Some, None, w64, ◌∙◌, arith, inl, inr, le_refl, refl, subst, sym, cases_lt, ints, IfSome, IsSome, Date, Thursday, number_of, days_in_month, HasDay, IsDayOfIsoWeek, IsWeeksAfter, day_number, first_day}
 use Rattle.calendar.proofs.DateOrder.{last_of_year, next_month, next_year, year_day_range}
 use Rattle.calendar.proofs.LaterEras.{later, number_later}
 use Rattle.calendar.proofs.MonthLengths.{date_of, month_length_range}
-use Rattle.calendar.proofs.IsoWeeks.{later_week, one_year}
-use Rattle.calendar.proofs.WeekdayPlaces.{same_day, weekday_within, weeks_apart}
+use Rattle.calendar.proofs.IsoWeeks.{later_week, one_year, own_thursday}
+use Rattle.calendar.proofs.WeekdayPlaces.{weekday_within, weeks_apart}
 use Rattle.calendar.proofs.YearLengths.{next_first_day}
 use Rattle.calendar.specs.Laws as law
 
@@ -26,8 +26,7 @@ next_date date = elim (cases_lt date.day_of_month (days_in_month date.year date.
         (next, omega (ints, is, end, next_month date.year date.month date.valid.month_from_one early))
     | inr late ↦
         let (next, is) = month_begins (date.year +ℤ pos 1) 1 (omega arith) (omega arith) in
-        let (december, day) = last_of_year date.valid late last in
-        (next, is ∙ rw (december, day) (next_year date.year))
+        (next, grind (arith, last_of_year date.valid late last, next_year date.year))
   ]
 ]
 
@@ -64,16 +63,13 @@ some_date (Some date) same own fits = refl
 
 pub this_date : (o : Option Date) (date : Date) {day other : ℤ} → day ≡ other → IsDateOfDay o other
     → ((date : Date) → number_of date ≡ day → FitsSigned w64 date.year) → IfSome o (λ found. found ≡ date) → number_of date ≡ day
-this_date None date same beyond fits is = let none = some_date None same beyond fits in absurd (cc)
-this_date (Some found) date same own fits is = ap number_of (sym is) ∙ own ∙ sym same
+this_date o date same own fits is = grind (arith, some_date o same own fits)
 
 -- ---- its year
 
 -- A date is in its year.
 pub in_its_year : (date : Date) → HasDay date.year (number_of date)
-in_its_year date =
-    let range = year_day_range date.valid in
-    record { from = omega ints; before = omega (ints, next_first_day date.year) }
+in_its_year date = grind (ints, year_day_range date.valid, next_first_day date.year)
 
 pub year_of_day_exists : law.YearOfDayExists
 year_of_day_exists day =
@@ -115,6 +111,6 @@ pub weeks_beyond : {thursday year day : ℤ} {week : ℕ} (weeks : ℤ) → IsDa
 weeks_beyond {day = day} weeks h place beyond y w k fits =
     let (date, is) = date_exists day in
     let own = later_week h.in_week k in
-    let thursday : own.thursday ≡ day = same_day Thursday own.of_week.has_weekday (weeks_apart weeks place h.has_weekday) (omega (ints, own.of_week.from, own.of_week.to)) (omega (ints, own.of_week.from, own.of_week.to)) in
+    let thursday = own_thursday own (weeks_apart weeks refl h.has_weekday) ∙ sym place in
     let year : date.year ≡ y = one_year day _ _ (subst (HasDay date.year) is (in_its_year date)) (subst (HasDay y) thursday own.of_year) in
     beyond date is (rw year fits)

@@ -1,5 +1,5 @@
 -- The days from one date to another: the first of them and the others, and how many they are.
-use Rattle.calendar.proofs.Common.{not, Bool, IsTrue, true, false, ◌↔◌, from_not_less, ◌≡◌, ◌≤◌, ◌++◌, ◌<ℤ◌, ◌≤ℤ◌, ◌+ℤ◌, ◌-ℤ◌, ℕ, zero, suc, ℤ, pos, List, [], ◌∷◌, length, unsigned_abs, int_max, ap, arith, refl, by_lt_z, clamps, ints, linear, sizes, Date, number_of}
+use Rattle.calendar.proofs.Common.{not, Bool, IsTrue, ◌↔◌, from_not_less, ◌≡◌, ◌≤◌, ◌++◌, ◌<ℤ◌, ◌≤ℤ◌, ◌+ℤ◌, ◌-ℤ◌, ℕ, zero, suc, ℤ, pos, List, [], ◌∷◌, length, unsigned_abs, int_max, ap, arith, refl, clamps, ints, linear, sizes, Date, number_of}
 use Rattle.calendar.specs.Dates.{numbers_from, day_numbers}
 use Rattle.calendar.proofs.DateOrder.{order}
 use Rattle.calendar.proofs.MonthLengths.{month_length_range}
@@ -18,16 +18,13 @@ next_left first end before =
 -- A list of days that begins with a day begins with the first, which is before the end, and goes on with the days from the next one on. No list of days is empty before the end.
 pub first_of_days : {first end day : ℤ} {others : List ℤ} → day_numbers first end ≡ day ∷ others
     → (first <ℤ end) × (day ≡ first) × (others ≡ day_numbers (first +ℤ pos 1) end)
-first_of_days {first} {end} is = by_lt_z first end
-    (λ before. let own = next_left first end before in (before, cc, cc))
-    (λ past. let none = none_left first end past in absurd cc)
+first_of_days {first} {end} is = grind (linear, next_left first end, none_left first end)
 
 pub no_days : {first end : ℤ} → day_numbers first end ≡ [] → end ≤ℤ first
-no_days {first} {end} is = by_lt_z first end (λ before. let own = next_left first end before in absurd cc) (λ past. past)
+no_days {first} {end} is = grind (linear, next_left first end)
 
 pub is_none : (earlier : Bool) (first end : ℤ) → IsTrue earlier ↔ (first <ℤ end) → IsTrue (not earlier) ↔ (day_numbers first end ≡ [])
-is_none true first end h = (λ t. absurd (cc), λ none. let past : end ≤ℤ first = no_days none in absurd (omega (linear, h.0 refl)))
-is_none false first end h = (λ t. none_left first end (from_not_less (λ less. let wrong = h.1 less in absurd (cc))), λ none. refl)
+is_none earlier first end h = grind (linear, no_days, none_left first end, from_not_less)
 
 -- The list ends with the last of the numbers.
 numbers_end : (count : ℕ) (first : ℤ) → numbers_from (suc count) first ≡ numbers_from count first ++ (first +ℤ pos count) ∷ []

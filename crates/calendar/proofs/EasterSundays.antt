@@ -15,7 +15,7 @@ pub is_epact : {century given solar lunar sum rest : ℤ} {epact : ℕ} (golden 
     → IsRemainder IsFloored sum (pos 30) rest → epact ≡ unsigned_abs rest → IsEpact century golden epact
 is_epact {solar = solar} {lunar = lunar} {rest = rest} {epact = epact} golden same solar_is lunar_is sum_is h rest_is =
     let place : rest ≡ pos epact = omega (ints, floored_remainder_range (omega ints) h) in
-    record { solar = solar; lunar = lunar; solar_is = rw same at solar_is; lunar_is = rw same at lunar_is; epact_is = rw place at (rw sum_is at h) }
+    rw (← same) (grind arith)
 
 -- the quotient of the sum is the lunar correction
 pub is_lunar : (century : ℤ) {sum quotient lunar : ℤ} → sum ≡ pos 8 *ℤ century +ℤ pos 13 → lunar ≡ quotient
@@ -78,7 +78,7 @@ small_epact h = omega (ints, floored_remainder_range (omega ints) h.epact_is)
 -- the epacts of a century, by their golden numbers
 epacts_apart : {century : ℤ} {g h e f : ℕ} (a : IsEpact century g e) (b : IsEpact century h f)
     → pos (11 * g + f) ≡ pos (11 * h + e) +ℤ pos 30 *ℤ (a.epact_is.quotient -ℤ b.epact_is.quotient)
-epacts_apart a b = omega (ints, a.epact_is.division.division.equation, b.epact_is.division.division.equation, only_solar a.solar_is b.solar_is, only_quotient a.lunar_is b.lunar_is)
+epacts_apart a b = omega (ints, a.epact_is.division, b.epact_is.division, only_solar a.solar_is b.solar_is, only_quotient a.lunar_is b.lunar_is)
 
 pub different_moons : law.FullMoonsDiffer
 different_moons century golden other epact other_epact below other_below h k =
@@ -91,13 +91,10 @@ different_moons century golden other epact other_epact below other_below h k =
 -- the epact of another golden number of the century
 another_epact : {century : ℤ} {golden other epact found : ℕ} (q : ℤ) → IsEpact century golden epact → found < 30
     → pos (11 * golden + found) ≡ pos (11 * other + epact) +ℤ pos 30 *ℤ q → IsEpact century other found
-another_epact {found = found} q h below apart = record {
-  solar = h.solar;
-  lunar = h.lunar;
-  solar_is = h.solar_is;
-  lunar_is = h.lunar_is;
-  epact_is = record { quotient = h.epact_is.quotient -ℤ q; division = floored 30 found (omega (ints, h.epact_is.division.division.equation)) below };
-}
+another_epact {century} {golden} {other} {epact} {found} q h below apart =
+    let epact_is : IsRemainder IsFloored (pos 11 *ℤ pos other +ℤ pos 8 -ℤ h.solar +ℤ h.lunar) (pos 30) (pos found) =
+    record { quotient = h.epact_is.quotient -ℤ q; division = floored 30 found (omega (ints, h.epact_is.division)) below } in
+    grind arith
 
 -- the epact 25 is that of the golden number 11 above that of 24
 pub earlier_moons : law.EarlierFullMoons
@@ -124,9 +121,9 @@ next_solar century days h =
     let is = h.days_is in (
       λ leap.
           let product = leap.product in
-          record { leap_centuries = leap.factor; leap_centuries_is = record { remainder = pos 0; division = floored 4 0 (omega ints) (omega arith) }; days_is = omega ints },
+          record { leap_centuries = leap.factor; leap_centuries_is = record { remainder = pos 0; division = grind ints }; days_is = omega ints },
       λ common. by_lt_z (century +ℤ pos 1) (h.leap_centuries *ℤ pos 4 +ℤ pos 4)
-          (λ less. record { leap_centuries = h.leap_centuries; leap_centuries_is = record { remainder = h.leap_centuries_is.remainder +ℤ pos 1; division = floored_by_range (omega ints) (omega ints) (omega ints) }; days_is = omega ints })
+          (λ less. record { leap_centuries = h.leap_centuries; leap_centuries_is = record { remainder = h.leap_centuries_is.remainder +ℤ pos 1; division = grind ints }; days_is = omega ints })
           (λ more. absurd (common (record { factor = h.leap_centuries +ℤ pos 1; product = omega ints }))),
     )
 
@@ -148,9 +145,9 @@ first_epact =
     early century leap rest moon place small twelve gain moon_small = record {
       solar = pos 12;
       lunar = pos 5;
-      solar_is = record { leap_centuries = leap; leap_centuries_is = record { remainder = pos rest; division = floored 4 rest place small }; days_is = twelve };
-      lunar_is = record { remainder = pos moon; division = floored 25 moon gain moon_small };
-      epact_is = record { quotient = pos 0; division = floored 30 1 refl (omega arith) };
+      solar_is = record { leap_centuries = leap; leap_centuries_is = record { remainder = pos rest; division = grind ints }; days_is = twelve };
+      lunar_is = record { remainder = pos moon; division = grind ints };
+      epact_is = record { quotient = pos 0; division = grind ints };
     }
 
 -- what the goals about Easter and its full moon need

@@ -1,6 +1,6 @@
 -- The weeks of ISO 8601.
 use Rattle.std.proofs.Math.Logic.{∥∥₁_elim, ∥∥₁_prop}
-use Rattle.calendar.proofs.Common.{◌≡◌, ◌+◌, ◌-◌, ◌*◌, ◌/◌, ◌%◌, ◌<◌, ◌≤◌, ◌≤ℤ◌, ◌<ℤ◌, ◌+ℤ◌, ◌-ℤ◌, ◌*ℤ◌, ℕ, ℤ, pos, FitsSigned, MatchOption, Option, Some, None, w64, ap, arith, inl, inr, refl, subst, sym, cases_lt, ints, floored_by_range, floored_quotient_range, linear, IsFloored, IsQuotient, IsRemainder, props, is_prop→PathP, Date, number_of, HasIsoWeek, HasIsoWeeks, IsDayOfIsoWeek, IsInIsoWeek, IsThursdayOfWeek, IsWeeksAfter, IsoWeek, HasDay, days_in_year, first_day, weekday_number, HasWeekday, Weekday, Monday, Thursday}
+use Rattle.calendar.proofs.Common.{◌≡◌, ◌+◌, ◌-◌, ◌*◌, ◌/◌, ◌%◌, ◌<◌, ◌≤◌, ◌≤ℤ◌, ◌<ℤ◌, ◌+ℤ◌, ◌-ℤ◌, ◌*ℤ◌, ℕ, ℤ, pos, FitsSigned, MatchOption, Option, Some, None, w64, ap, arith, refl, sym, ints, floored_by_range, floored_quotient_range, linear, IsFloored, IsQuotient, IsRemainder, props, is_prop→PathP, Date, number_of, HasIsoWeek, HasIsoWeeks, IsDayOfIsoWeek, IsInIsoWeek, IsThursdayOfWeek, IsWeeksAfter, IsoWeek, HasDay, days_in_year, first_day, weekday_number, HasWeekday, Weekday, Monday, Thursday}
 use Rattle.calendar.proofs.DateOrder.{year_day_range}
 use Rattle.calendar.proofs.WeekdayPlaces.{below_seven, days_earlier, days_later, on_weekday, same_day, weekday_within, weeks_apart}
 use Rattle.calendar.proofs.YearLengths.{later_year, length_range, next_first_day}
@@ -9,7 +9,7 @@ use Rattle.calendar.specs.Laws as law
 -- ---- Thursdays
 
 pub same_thursday : {day a b : ℤ} → IsThursdayOfWeek day a → IsThursdayOfWeek day b → a ≡ b
-same_thursday h k = same_day Thursday h.has_weekday k.has_weekday (omega (linear, h.to, k.from)) (omega (linear, h.from, k.to))
+same_thursday h k = grind (linear, same_day Thursday h.has_weekday k.has_weekday)
 
 -- the days from 1 January to the Thursday of the week, by the days of an era
 pub days_to_thursday : (date : Date) (era days : ℤ) (n january : ℕ) → number_of date ≡ pos 146097 *ℤ era +ℤ pos n -ℤ pos 865566
@@ -17,14 +17,11 @@ pub days_to_thursday : (date : Date) (era days : ℤ) (n january : ℕ) → numb
     → days ≡ pos (n + 2 - (n + 1) % 7) -ℤ pos january
     → IsThursdayOfWeek (number_of date) (first_day date.year +ℤ days) × (pos 0 ≤ℤ (days +ℤ pos 6)) × (days <ℤ pos 372)
 days_to_thursday date era days n january place first is =
-    let (from, to) = year_day_range date.valid in
+    let range = year_day_range date.valid in
     let length = length_range date.year in
     let weeks : ℤ = pos 20871 *ℤ era -ℤ pos 123652 +ℤ pos ((n + 1) / 7) in
-    let thursday : HasWeekday (first_day date.year +ℤ days) Thursday = on_weekday Thursday weeks (omega (ints, first, is)) in (
-      record { has_weekday = thursday; from = omega (ints, place, first, is); to = omega (ints, place, first, is) },
-      omega (ints, place, first, is, from),
-      omega (ints, place, first, is, to, length.1),
-    )
+    let thursday : HasWeekday (first_day date.year +ℤ days) Thursday = on_weekday Thursday weeks (omega ints) in
+    (record { has_weekday = thursday; from = omega ints; to = omega ints }, omega ints, omega ints)
 
 pub to_thursday : {first : ℤ} (era : ℤ) (n : ℕ) → first ≡ pos 146097 *ℤ era +ℤ pos n -ℤ pos 865565
     → IsRemainder IsFloored (pos 0 -ℤ first) (pos 7) (pos (6 - (n + 5) % 7))
@@ -64,8 +61,7 @@ one_week day y z v w h k =
 
 -- a week is one of 53
 pub week_range : law.WeeksOfAYear
-week_range day year week h =
-    (omega (ints, h.of_year.from, h.from, h.before), omega (ints, h.of_year.before, h.from, length_range year, next_first_day year))
+week_range day year week h = grind (ints, length_range year, next_first_day year)
 
 pub number_range : {year : ℤ} {week : ℕ} → ∥ HasIsoWeek year week ∥₁ → (1 ≤ week) × (week ≤ 53)
 number_range {year} {week} h = ∥∥₁_elim h (hlevel props) (λ k. week_range k.day year week k.in_week)
@@ -81,25 +77,16 @@ of_numbers a b years weeks = λ i. record {
 -- the days of an earlier week are before those of a later one
 pub ordered_weeks : law.OrderOfIsoWeeks
 ordered_weeks a b y z v w h k less =
-    let thursdays : h.thursday <ℤ k.thursday = elim less [
-      | inl years ↦ omega (linear, h.of_year.before, k.of_year.from, later_year y z years)
-      | inr weeks ↦ omega (ints, h.before, k.from, ap first_day weeks.0, weeks.1)
-    ] in
+    let thursdays : h.thursday <ℤ k.thursday = grind (ints, later_year y z, ap first_day) in
     grind (linear, h.of_week.from, k.of_week.to, same_day Thursday h.of_week.has_weekday k.of_week.has_weekday)
 
 -- each day of the week of another day
 pub day_of_week : {day year : ℤ} {week : ℕ} (weekday : Weekday) (h : IsInIsoWeek day year week)
     → IsDayOfIsoWeek (h.thursday -ℤ pos 3 +ℤ pos ((weekday_number weekday + 6) % 7)) year week weekday
-day_of_week weekday h = record {
-  in_week = record {
-    thursday = h.thursday;
-    of_week = record { has_weekday = h.of_week.has_weekday; from = omega ints; to = omega ints };
-    of_year = h.of_year;
-    from = h.from;
-    before = h.before;
-  };
-  has_weekday = days_later ((weekday_number weekday + 6) % 7) refl (days_earlier {b = Monday} 3 refl h.of_week.has_weekday refl) (omega (arith, below_seven weekday));
-}
+day_of_week weekday h =
+    let monday : HasWeekday (h.thursday -ℤ pos 3) Monday = days_earlier 3 refl h.of_week.has_weekday refl in
+    let own = days_later {b = weekday} ((weekday_number weekday + 6) % 7) refl monday (omega (arith, below_seven weekday)) in
+    grind ints
 
 pub iso_day_exists : law.IsoDayExists
 iso_day_exists year week weekday h = (_, day_of_week weekday h.in_week)
@@ -111,12 +98,15 @@ one_day a b year week weekday h k =
     let second = k.in_week.of_week in
     same_day weekday h.has_weekday k.has_weekday (omega (ints, first.to, second.from)) (omega (ints, first.from, second.to))
 
+-- a Thursday is that of its week
+pub own_thursday : {day year : ℤ} {week : ℕ} (h : IsInIsoWeek day year week) → HasWeekday day Thursday → h.thursday ≡ day
+own_thursday h thursday = grind (ints, same_day Thursday h.of_week.has_weekday thursday)
+
 -- a day of the week by the days to the Thursday, and its date
 by_thursday : {year day : ℤ} {week : ℕ} (place : ℕ) (weekday : Weekday) → IsDayOfIsoWeek (first_day year +ℤ pos place) year week Thursday
     → day ≡ first_day year +ℤ pos place -ℤ pos 3 +ℤ pos ((weekday_number weekday + 6) % 7) → IsDayOfIsoWeek day year week weekday
 by_thursday {day = day} place weekday h is =
-    let thursday = same_day Thursday h.in_week.of_week.has_weekday h.has_weekday (omega (ints, h.in_week.of_week.to)) (omega (ints, h.in_week.of_week.from)) in
-    let same : h.in_week.thursday -ℤ pos 3 +ℤ pos ((weekday_number weekday + 6) % 7) ≡ day = omega (ints, thursday) in
+    let same : h.in_week.thursday -ℤ pos 3 +ℤ pos ((weekday_number weekday + 6) % 7) ≡ day = omega (ints, own_thursday h.in_week h.has_weekday) in
     rw same at (day_of_week weekday h.in_week)
 
 pub day_or_none : (o : Option Date) {year given day : ℤ} {week : ℕ} (place : ℕ) (weekday : Weekday) → given ≡ year
@@ -125,31 +115,27 @@ pub day_or_none : (o : Option Date) {year given day : ℤ} {week : ℕ} (place :
     → MatchOption o ((y : ℤ) → HasDay y day → ¬ (FitsSigned w64 y)) (λ date. number_of date ≡ day)
     → MatchOption o ((d y : ℤ) → IsDayOfIsoWeek d year week weekday → HasDay y d → ¬ (FitsSigned w64 y)) (λ date. IsDayOfIsoWeek (number_of date) year week weekday)
 day_or_none None place weekday same h is beyond =
-    rw (sym same) (λ d y k l fits. beyond y (subst (HasDay y) (one_day _ _ _ _ weekday k (by_thursday place weekday h is)) l) fits)
+    rw (sym same) (λ d y k l fits. beyond y (rw (one_day _ _ _ _ weekday k (by_thursday place weekday h is)) at l) fits)
 day_or_none (Some date) place weekday same h is near = rw (sym same, near) (by_thursday place weekday h is)
 
--- the Thursdays of a year, from the first on
-pub later_thursday : (year : ℤ) {first : ℕ} (weeks : ℕ) → IsRemainder IsFloored (pos 0 -ℤ first_day year) (pos 7) (pos first)
-    → HasWeekday (first_day year +ℤ pos (first + 7 * weeks)) Thursday
-later_thursday year weeks h = on_weekday Thursday (pos weeks -ℤ h.quotient) (omega (ints, h.division.division.equation))
+-- the Thursday of a week, by the days to the first Thursday of the year
+module _ {year : ℤ} {week first : ℕ} (place : ℕ) (h : IsRemainder IsFloored (pos 0 -ℤ first_day year) (pos 7) (pos first)) (small : first < 7)
+    (is : place + 7 ≡ first + 7 * week) where
+  -- if it is in the year
+  pub thursday_in_year : place < days_in_year year → IsDayOfIsoWeek (first_day year +ℤ pos place) year week Thursday
+  thursday_in_year inside =
+      let own = on_weekday {day = first_day year +ℤ pos place} Thursday (pos week -ℤ pos 1 -ℤ h.quotient) (omega (ints, h.division)) in
+      grind (ints, next_first_day)
 
--- the Thursday of a week, if it is in the year
-pub thursday_in_year : {year : ℤ} {week : ℕ} (place : ℕ) → HasWeekday (first_day year +ℤ pos place) Thursday → 7 * week ≤ place + 7 → place < 7 * week
-    → place < days_in_year year → IsDayOfIsoWeek (first_day year +ℤ pos place) year week Thursday
-thursday_in_year {year} place h from before inside = grind (ints, next_first_day)
+  -- and if some day is in the week, it is
+  pub within_year : {day : ℤ} → IsInIsoWeek day year week → place < days_in_year year
+  within_year k = omega (ints, next_first_day year)
 
--- and if some day is in the week, it is
-pub within_year : {day year : ℤ} {week : ℕ} (place : ℕ) → HasWeekday (first_day year +ℤ pos place) Thursday → 7 * week ≤ place + 7 → place < 7 * week
-    → IsInIsoWeek day year week → place < days_in_year year
-within_year {year = year} place own from before h = omega (ints, next_first_day year)
-
--- of a week that the year has
-pub thursday_of_week : {year : ℤ} {week : ℕ} (place : ℕ) → ∥ HasIsoWeek year week ∥₁ → HasWeekday (first_day year +ℤ pos place) Thursday
-    → 7 * week ≤ place + 7 → place < 7 * week
-    → (place < days_in_year year) × IsDayOfIsoWeek (first_day year +ℤ pos place) year week Thursday
-thursday_of_week {year} {week} place h own from before =
-    let inside : place < days_in_year year = ∥∥₁_elim h (hlevel props) (λ k. within_year place own from before k.in_week) in
-    (inside, thursday_in_year place own from before inside)
+  -- of a week that the year has
+  pub thursday_of_week : ∥ HasIsoWeek year week ∥₁ → (place < days_in_year year) × IsDayOfIsoWeek (first_day year +ℤ pos place) year week Thursday
+  thursday_of_week k =
+      let inside : place < days_in_year year = ∥∥₁_elim k (hlevel props) (λ own. within_year own.in_week) in
+      (inside, thursday_in_year inside)
 
 -- ---- the number of weeks of a year
 
@@ -157,23 +143,23 @@ thursday_of_week {year} {week} place h own from before =
 pub has_53_weeks : {year : ℤ} → HasIsoWeek year 53 → HasIsoWeeks year 53
 has_53_weeks {year} h = record { day = h.day; in_last = h.in_week; no_later = λ other week k. (week_range other year week k).1 }
 
+at_most_52 : {year : ℤ} → ¬ (HasIsoWeek year 53) → (other : ℤ) (week : ℕ) → IsInIsoWeek other year week → week ≤ 52
+at_most_52 {year} none other week k = grind (arith, week_range other year week k)
+
 pub has_52_weeks : {year : ℤ} → ¬ (HasIsoWeek year 53) → HasIsoWeeks year 52
 has_52_weeks {year} none =
     let (days, small, h) = weekday_within (first_day year +ℤ pos 357) Thursday in
-    let place : first_day year +ℤ pos 357 +ℤ pos days ≡ first_day year +ℤ pos (357 + days) = omega ints in
+    let day : ℤ = first_day year +ℤ pos 357 +ℤ pos days in
+    let thursday : IsThursdayOfWeek day day = record { has_weekday = h; from = omega ints; to = omega ints } in
     record {
-      day = _;
-      in_last = (thursday_in_year {week = 52} (357 + days) (rw place at h) (omega arith) (omega arith) (omega (arith, length_range year))).in_week;
-      no_later = λ other week k. elim (cases_lt week 53) [
-        | inl small ↦ omega arith
-        | inr last ↦
-            absurd (none (record { day = other; in_week = subst (IsInIsoWeek other year) (omega (arith, week_range other year week k)) k }))
-      ];
+      day = day;
+      in_last = week_of {days = 357 + days} thursday (omega (arith, length_range year)) (omega ints) (omega arith);
+      no_later = at_most_52 none;
     }
 
 -- of which there is only one
 pub one_number : law.IsoWeeksAreOnly
-one_number year m n h k = omega (arith, h.no_later k.day n k.in_last, k.no_later h.day m h.in_last)
+one_number year m n h k = grind (arith, h.no_later k.day n, k.no_later h.day m)
 
 -- ---- weeks some weeks apart
 
@@ -183,22 +169,12 @@ one_thursday h k = same_day Thursday h.of_week.has_weekday k.of_week.has_weekday
 
 -- the Thursdays of two weeks are as many weeks apart
 thursdays_apart : {day year other : ℤ} {week number : ℕ} (weeks : ℤ) (h : IsInIsoWeek day year week) (k : IsInIsoWeek (day +ℤ pos 7 *ℤ weeks) other number) → k.thursday ≡ h.thursday +ℤ pos 7 *ℤ weeks
-thursdays_apart weeks h k = same_day Thursday k.of_week.has_weekday (weeks_apart weeks refl h.of_week.has_weekday)
-    (omega (ints, h.of_week.from, h.of_week.to, k.of_week.from, k.of_week.to)) (omega (ints, h.of_week.from, h.of_week.to, k.of_week.from, k.of_week.to))
+thursdays_apart weeks h k = grind (ints, same_day Thursday k.of_week.has_weekday (weeks_apart weeks refl h.of_week.has_weekday))
 
 -- and so are any two of their days that have one day of the week
 pub later_week : {day year weeks y : ℤ} {week w : ℕ} → IsInIsoWeek day year week → IsWeeksAfter year week weeks y w
     → IsInIsoWeek (day +ℤ pos 7 *ℤ weeks) y w
-later_week {weeks = weeks} h k =
-    let apart = thursdays_apart weeks k.in_week k.in_later in
-    let same = one_thursday h k.in_week in
-    record {
-      thursday = k.in_later.thursday;
-      of_week = record { has_weekday = k.in_later.of_week.has_weekday; from = omega (ints, apart, same, h.of_week.from); to = omega (ints, apart, same, h.of_week.to) };
-      of_year = k.in_later.of_year;
-      from = k.in_later.from;
-      before = k.in_later.before;
-    }
+later_week {weeks = weeks} h k = grind (ints, thursdays_apart weeks k.in_week k.in_later, one_thursday h k.in_week)
 
 -- one week is so many weeks later
 pub only_weeks_after : law.WeeksAfterIsOnly
@@ -213,16 +189,14 @@ only_weeks_between year week a b y w h k =
 pub week_or_none : (o : Option IsoWeek) {day later year : ℤ} {week : ℕ} (weeks : ℤ) → IsInIsoWeek day year week → later ≡ day +ℤ pos 7 *ℤ weeks
     → MatchOption o ((y : ℤ) (w : ℕ) → IsInIsoWeek later y w → ¬ (FitsSigned w64 y)) (λ found. IsInIsoWeek later found.year found.week)
     → MatchOption o ((y : ℤ) (w : ℕ) → IsWeeksAfter year week weeks y w → ¬ (FitsSigned w64 y)) (λ found. IsWeeksAfter year week weeks found.year found.week)
-week_or_none None weeks h place beyond = λ y w k. beyond y w (subst (λ (d : ℤ). IsInIsoWeek d y w) (sym place) (later_week h k))
-week_or_none (Some found) weeks h place near =
-    record { day = _; in_week = h; in_later = subst (λ (d : ℤ). IsInIsoWeek d found.year found.week) place near }
+week_or_none None weeks h place beyond = λ y w k. beyond y w (rw place (later_week h k))
+week_or_none (Some found) weeks h place near = record { day = _; in_week = h; in_later = rw place at near }
 
 -- as many weeks as there are between the Thursdays
 pub weeks_of_days : {a b year y days given weeks quotient : ℤ} {week w : ℕ} → IsDayOfIsoWeek a year week Thursday → IsDayOfIsoWeek b y w Thursday
     → days ≡ b -ℤ a → given ≡ days → weeks ≡ quotient
     → IsQuotient IsFloored given (pos 7) quotient → IsWeeksAfter year week weeks y w
-weeks_of_days {a} {b} {weeks = weeks} {w = w} h k apart same whole quotient =
-    let (low, high) = floored_quotient_range quotient in
-    let place : b ≡ a +ℤ pos 7 *ℤ weeks =
-    omega (ints, low, high, h.has_weekday.remainder.division.division.equation, k.has_weekday.remainder.division.division.equation) in
+weeks_of_days {a} {b} {weeks = weeks} h k apart same whole quotient =
+    let range = floored_quotient_range quotient in
+    let place : b ≡ a +ℤ pos 7 *ℤ weeks = omega (ints, h.has_weekday.remainder, k.has_weekday.remainder) in
     record { day = a; in_week = h.in_week; in_later = rw place at k.in_week }

@@ -1,5 +1,5 @@
 -- Eras of 400 years, after which the calendar repeats.
-use Rattle.calendar.proofs.Common.{◌↔◌, refl, ◌≡◌, ◌+◌, ◌-◌, ◌/◌, ◌%◌, ◌+ℤ◌, ◌-ℤ◌, ◌*ℤ◌, ℕ, ℤ, pos, negsuc, unsigned_abs, FitsSigned, MatchOption, Option, Some, None, w64, ◌∙◌, arith, subst, sym, nat_tests, ints, HasParts, number_of, IsDate, first_day, Date}
+use Rattle.calendar.proofs.Common.{◌↔◌, refl, ◌≡◌, ◌+◌, ◌-◌, ◌/◌, ◌%◌, ◌+ℤ◌, ◌-ℤ◌, ◌*ℤ◌, ℕ, ℤ, pos, negsuc, unsigned_abs, FitsSigned, MatchOption, Option, Some, None, w64, ◌∙◌, arith, sym, nat_tests, ints, HasParts, number_of, IsDate, first_day, Date}
 use Rattle.calendar.specs.LeapYears.{is_leap_year, is_multiple}
 use Rattle.calendar.proofs.DateOrder.{only_date}
 use Rattle.calendar.proofs.YearLengths.{in_era}
@@ -41,7 +41,5 @@ pub later_or_none : (o : Option Date) (near : Date) (eras : ℤ) {day far : ℤ}
     → far ≡ near.year +ℤ pos 400 *ℤ eras
     → MatchOption o (¬ (FitsSigned w64 far)) (λ date. HasParts date far near.month near.day_of_month)
     → MatchOption o ((date : Date) → number_of date ≡ day → ¬ (FitsSigned w64 date.year)) (λ date. number_of date ≡ day)
-later_or_none None near eras place year beyond = λ date same fits.
-    let own = only_date date (later near eras) (same ∙ (place ∙ sym (number_later near eras))) in
-    beyond (rw year (subst (λ (d : Date). FitsSigned w64 d.year) own fits))
+later_or_none None near eras place year beyond = λ date same fits. grind (arith, only_date date (later near eras), number_later near eras)
 later_or_none (Some date) near eras place year parts = rw (parts.year_is, year, parts.month_is, parts.day_is) (number_later near eras ∙ sym place)

@@ -12,9 +12,7 @@ same_month a b same = omega ints
 
 -- A date of a later month is later.
 pub later_month : (a b : Date) → month_number a.year a.month <ℤ month_number b.year b.month → number_of a <ℤ number_of b
-later_month a b less = (order a b).0 (by_lt_z a.year b.year
-    (λ years. inl years)
-    (λ rest. inr (omega (ints, a.valid.month_from_one, b.valid.month_to_twelve), inl (omega (ints, a.valid.month_from_one, b.valid.month_to_twelve)))))
+later_month a b less = (order a b).0 (by_lt_z a.year b.year (λ years. inl years) (λ rest. inr (omega ints, inl (omega ints))))
 
 -- the quotient of a number by 12 is its year, and the remainder tells the month
 module _ {number year rest : ℤ} (h : IsFloored number (pos 12) year rest) where
@@ -22,10 +20,10 @@ module _ {number year rest : ℤ} (h : IsFloored number (pos 12) year rest) wher
   rest_range = grind arith
 
   pub month_found : (1 ≤ unsigned_abs rest + 1) × (unsigned_abs rest + 1 ≤ 12) × (month_number year (unsigned_abs rest + 1) ≡ number)
-  month_found = (omega arith, omega (ints, rest_range), omega (ints, rest_range, h.division.equation))
+  month_found = (omega arith, omega (ints, rest_range), omega (ints, rest_range, h.division))
 
   pub only_year : {other : ℤ} {month : ℕ} → 1 ≤ month → month ≤ 12 → month_number other month ≡ number → other ≡ year
-  only_year from to is = omega (ints, rest_range, h.division.equation)
+  only_year from to is = omega (ints, rest_range, h.division)
 
 -- ---- the date some months after another
 
@@ -96,9 +94,7 @@ months_between_exist from to = elim (cases_lt to.day_of_month (min from.day_of_m
 pub next_month_is_later : {from to date : Date} {months : ℤ} → IsMonthsBetween from to months → IsMonthsAfter from (months +ℤ pos 1) date
     → number_of to <ℤ number_of date
 next_month_is_later {from} {to} {date} {months} h k =
-    let sooner : number_of date ≤ℤ number_of to → ⊥ =
-    λ rest. omega (ints, h.greatest (months +ℤ pos 1) (record { date = date; is_after = k; not_later = rest })) in
-    grind linear
+    grind (linear, λ (rest : number_of date ≤ℤ number_of to). h.greatest (months +ℤ pos 1) (record { date = date; is_after = k; not_later = rest }))
 
 -- whole years are a twelfth of the whole months, rounded down
 pub whole_years : {from to : Date} {months years given quotient : ℤ} → given ≡ months → years ≡ quotient → IsMonthsBetween from to months
@@ -107,7 +103,7 @@ whole_years {from} {to} {months} {years} same whole h quotient =
     let (low, high) = floored_quotient_range quotient in
     let (date, is_after) = months_after_exists from (pos 12 *ℤ years) in
     record {
-      holds = record { date = date; is_after = is_after; not_later = omega (linear, months_in_order {m = pos 12 *ℤ years} (omega ints) is_after h.holds.is_after, h.holds.not_later) };
+      holds = record { date = date; is_after = is_after; not_later = grind (ints, λ (less : (pos 12 *ℤ years) ≤ℤ months). months_in_order less is_after h.holds.is_after) };
       greatest = λ more k. omega (ints, h.greatest (pos 12 *ℤ more) k);
     }
 

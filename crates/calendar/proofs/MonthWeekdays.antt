@@ -1,5 +1,5 @@
 -- The days of a month that have a given day of the week.
-use Rattle.calendar.proofs.Common.{by_lt_z, ◌≡◌, ◌↔◌, ◌+◌, ◌-◌, ◌*◌, ◌<◌, ◌≤◌, ◌+ℤ◌, ◌-ℤ◌, ◌*ℤ◌, ℕ, ℤ, pos, negsuc, MatchOption, Option, Some, None, arith, refl, ints, IsSome, Date, Weekday, HasFifthWeekday, HasParts, IsLastWeekdayOfMonth, IsNthWeekday, number_of, LastWeekdayOfMonthIsOnly, NthWeekdayIsOnly, IsDate, days_in_month, HasWeekday, day_number}
+use Rattle.calendar.proofs.Common.{◌≡◌, ◌↔◌, ◌+◌, ◌-◌, ◌*◌, ◌<◌, ◌≤◌, ◌+ℤ◌, ◌-ℤ◌, ◌*ℤ◌, ℕ, ℤ, pos, negsuc, MatchOption, Option, Some, None, arith, refl, ints, IsSome, Date, Weekday, HasFifthWeekday, HasParts, IsLastWeekdayOfMonth, IsNthWeekday, number_of, LastWeekdayOfMonthIsOnly, NthWeekdayIsOnly, IsDate, days_in_month, HasWeekday, day_number}
 use Rattle.calendar.proofs.DateOrder.{only_date}
 use Rattle.calendar.proofs.FoundOrBeyond.{is_found}
 use Rattle.calendar.proofs.MonthLengths.{date_of, month_length_range}
@@ -21,13 +21,12 @@ nth_weekday None {weekday = weekday} {n = n} {day = day} first parts h small fro
     none (rw (k.year_is, k.month_is, same) at date.valid)
 nth_weekday (Some date) {n = n} first parts h small from place found =
     let apart = in_month date first (found.year_is, found.month_is) (parts.year_is, parts.month_is) in
-    record { year_is = found.year_is; month_is = found.month_is; has_weekday = weeks_apart (pos (n - 1)) (omega ints) h; after_weeks = omega arith; within_weeks = omega arith }
+    let own = weeks_apart {other = number_of date} (pos (n - 1)) (omega ints) h in
+    grind arith
 
 -- there is at most one
 pub only_nth_weekday : NthWeekdayIsOnly
-only_nth_weekday year month weekday n a b h k =
-    let apart = in_month a b (h.year_is, h.month_is) (k.year_is, k.month_is) in
-    only_date a b (same_day weekday h.has_weekday k.has_weekday (omega (ints, h.within_weeks, k.after_weeks)) (omega (ints, k.within_weeks, h.after_weeks)))
+only_nth_weekday year month weekday n a b h k = grind (ints, in_month a b, only_date a b, same_day weekday h.has_weekday k.has_weekday)
 
 -- each month has a first day
 pub first_of_month : (year : ℤ) (month : ℕ) → 1 ≤ month → month ≤ 12 → IsDate year month 1
@@ -40,7 +39,8 @@ nth_weekday_exists year month weekday n from to n_from n_to =
     let (length, most) = month_length_range year month from to in
     let (days, small, has_weekday) = weekday_within (day_number year month 1) weekday in
     let date : Date = date_of year month (7 * (n - 1) + days + 1) from to (omega arith) (omega arith) in
-    (date, record { year_is = refl; month_is = refl; has_weekday = weeks_apart (pos (n - 1)) (omega ints) has_weekday; after_weeks = omega arith; within_weeks = omega arith })
+    let own = weeks_apart {other = number_of date} (pos (n - 1)) (omega ints) has_weekday in
+    (date, grind arith)
 
 -- a fifth is 28 days after such a day
 fifth_weekday : {year : ℤ} {month : ℕ} {weekday : Weekday} → 1 ≤ month → month ≤ 12 → HasFifthWeekday year month weekday
@@ -48,13 +48,15 @@ fifth_weekday : {year : ℤ} {month : ℕ} {weekday : Weekday} → 1 ≤ month �
 fifth_weekday {year} {month} from to h =
     let (least, most) = month_length_range year month from to in
     let date : Date = date_of year month (h.day + 28) from to (omega arith) h.before_four_weeks in
-    (date, record { year_is = refl; month_is = refl; has_weekday = weeks_apart (pos 4) (omega ints) h.has_weekday; after_weeks = omega (arith, h.from_one); within_weeks = omega (arith, most, h.before_four_weeks) })
+    let own = weeks_apart {other = number_of date} (pos 4) (omega ints) h.has_weekday in
+    (date, grind arith)
 
 has_fifth : (date : Date) {year : ℤ} {month : ℕ} {weekday : Weekday} → IsNthWeekday year month weekday 5 date → HasFifthWeekday year month weekday
 has_fifth date {year} {month} k =
     let before : day_number year month (date.day_of_month - 28) ≡ number_of date +ℤ pos 7 *ℤ negsuc 3 =
     rw (k.year_is, k.month_is) (omega (ints, k.after_weeks)) in
-    record { day = date.day_of_month - 28; from_one = omega (arith, k.after_weeks); before_four_weeks = omega (arith, k.after_weeks, rw (k.year_is, k.month_is) at date.valid.day_to_last); has_weekday = weeks_apart (negsuc 3) before k.has_weekday }
+    let own = weeks_apart (negsuc 3) before k.has_weekday in
+    grind arith
 
 pub fifth_is_found : (year : ℤ) (month : ℕ) (weekday : Weekday) (o : Option Date)
     → MatchOption o ((date : Date) → ¬ (IsNthWeekday year month weekday 5 date)) (λ date. IsNthWeekday year month weekday 5 date)
@@ -78,9 +80,7 @@ in_last_week {year} {month} {weekday} date length n parts is h small =
       last = λ other k.
           let apart = in_month other date (k.year_is, k.month_is) (parts.year_is, parts.month_is) in
           let to = rw (k.year_is, k.month_is) at other.valid.day_to_last in
-          by_lt_z (number_of date) (number_of other)
-          (λ more. absurd (omega (ints, same_day weekday has_weekday k.has_weekday (omega ints) (omega ints))))
-          (λ fine. fine);
+          grind (ints, same_day weekday has_weekday k.has_weekday);
     }
 
 -- Each month has a last of each day of the week.

@@ -1,5 +1,5 @@
 -- The dates that are the last of a day of the week in their months, one after the other.
-use Rattle.calendar.proofs.Common.{ap, inl, ◌∙◌, refl, cases_lt, ◌≡◌, ◌<◌, ◌≤◌, ◌≤ℤ◌, ◌+ℤ◌, ℕ, ℤ, pos, FitsSigned, w64, arith, inr, subst, sym, by_lt_z, ints, linear, IsLastWeekdayOfMonth, IsMonthsAfter, IsNextLastWeekday, number_of, NextLastWeekdayExists, NextLastWeekdayIsOnly, month_number, Date, Weekday}
+use Rattle.calendar.proofs.Common.{ap, inl, ◌∙◌, refl, cases_lt, ◌≡◌, ◌<◌, ◌≤◌, ◌≤ℤ◌, ◌+ℤ◌, ℕ, ℤ, pos, FitsSigned, w64, arith, inr, subst, sym, ints, linear, IsLastWeekdayOfMonth, IsMonthsAfter, IsNextLastWeekday, number_of, NextLastWeekdayExists, NextLastWeekdayIsOnly, month_number, Date, Weekday}
 use Rattle.calendar.proofs.DateOrder.{only_date, order}
 use Rattle.calendar.proofs.MonthSteps.{later_month, months_after_exists, same_month}
 use Rattle.calendar.proofs.MonthWeekdays.{last_in_month}
@@ -10,9 +10,7 @@ use Rattle.calendar.proofs.MonthWeekdays.{last_in_month}
 pub last_weekdays_in_order : {a b : Date} {weekday : Weekday} → IsLastWeekdayOfMonth a.year a.month weekday a
     → IsLastWeekdayOfMonth b.year b.month weekday b
     → month_number a.year a.month ≤ℤ month_number b.year b.month → number_of a ≤ℤ number_of b
-last_weekdays_in_order {a} {b} h k months = by_lt_z (month_number a.year a.month) (month_number b.year b.month)
-    (λ earlier. omega (linear, later_month a b earlier))
-    (λ rest. let same = same_month a b (omega linear) in k.last a (record { year_is = same.0; month_is = same.1; has_weekday = h.of_month.has_weekday }))
+last_weekdays_in_order {a} {b} h k months = grind (linear, later_month a b, same_month a b, k.last a)
 
 -- the last of its month is the last of its own month
 own_month : {year : ℤ} {month : ℕ} {weekday : Weekday} {date : Date} → IsLastWeekdayOfMonth year month weekday date
@@ -29,9 +27,7 @@ module _ (after this : Date) {year : ℤ} {weekday : Weekday} (same : year ≡ a
     later = (order after this).0 (inr (sym (h.of_month.year_is ∙ same), inr (sym h.of_month.month_is, later)));
     last = own_month h;
     first =
-        λ other beyond k. last_weekdays_in_order (own_month h) k (by_lt_z (month_number other.year other.month) (month_number this.year this.month)
-        (λ sooner. absurd (omega (linear, later_month other after (omega (ints, h.of_month)))))
-        (λ fine. fine));
+        λ other beyond k. last_weekdays_in_order (own_month h) k (grind (ints, h.of_month, later_month other after));
   }
 
   -- and else that of the next month is
@@ -42,9 +38,7 @@ module _ (after this : Date) {year : ℤ} {weekday : Weekday} (same : year ≡ a
       record {
         later = later_month after next (omega (ints, k.of_month));
         last = own_month k;
-        first = λ other beyond l. last_weekdays_in_order (own_month k) l (by_lt_z (month_number after.year after.month) (month_number other.year other.month)
-            (λ fine. omega (ints, k.of_month))
-            (λ rest. absurd (omega (linear, last_weekdays_in_order l (own_month h) (omega (ints, h.of_month))))));
+        first = λ other beyond l. last_weekdays_in_order (own_month k) l (grind (ints, h.of_month, k.of_month, last_weekdays_in_order l (own_month h)));
       }
 
 -- After each date comes a date that is the last of a day of the week in its month.

@@ -3,7 +3,7 @@ use Rattle.std.specs.Char.{digit_value}
 use Rattle.std.proofs.lemmas.Str.Parse.{IsNumeralModel, digit_at, digit_from_value, digits_value_short, numerals_by_value, parse_gives, tells_digits}
 use Rattle.std.proofs.lemmas.Str.{digit_value_digit}
 use Rattle.std.proofs.lemmas.Fmt.{decimal-digits_value, decimal_digit, decimal_is_IsNumeral, decimal_step, first_decimal, length-decimal-le, length-decimal-le_succ}
-use Rattle.calendar.proofs.Common.{◌≡◌, ◌≢◌, ◌↔◌, ◌≤◌, ◌+◌, ◌-◌, ◌*◌, ◌/◌, ◌%◌, ◌^◌, ◌<◌, ◌++◌, ℕ, zero, suc, List, [], ◌∷◌, length, replicate, get_or, Option, Some, None, Result, Ok, arith, ap, inl, inr, refl, subst, sym, ◌∙◌, cases_lt, length-append, length-replicate, decimal, AllDigits, ParsesUnsigned, digits_value, digits_value_after, IsShortest, padded}
+use Rattle.calendar.proofs.Common.{◌≡◌, ◌≢◌, ◌↔◌, ◌≤◌, ◌+◌, ◌-◌, ◌*◌, ◌/◌, ◌%◌, ◌^◌, ◌<◌, ◌++◌, ℕ, zero, suc, List, [], ◌∷◌, length, replicate, get_or, Option, Some, None, Result, Ok, arith, ap, inl, inr, refl, sym, ◌∙◌, cases_lt, length-append, length-replicate, decimal, AllDigits, ParsesUnsigned, digits_value, digits_value_after, IsShortest, padded}
 
 pub decimal_numerals : IsNumeralModel (AllDigits 10) (digits_value 10)
 decimal_numerals = numerals_by_value (AllDigits 10) tells_digits
@@ -41,8 +41,7 @@ same_digits : (a b : ℕ) (ds es : List ℕ) → AllDigits 10 ds → AllDigits 1
 same_digits a b [] [] d f l e = (e, refl)
 same_digits a b (x ∷ xs) (y ∷ ys) d f l e =
     let rest = same_digits (a * 10 + digit_value x) (b * 10 + digit_value y) xs ys d.1 f.1 (omega arith) e in
-    let first : x ≡ y = omega (arith, digit_value_digit x (digit_from_value x d.0), digit_value_digit y (digit_from_value y f.0)) in
-    (omega arith, rw (first, rest.1) refl)
+    grind (arith, digit_value_digit, digit_from_value)
 same_digits a b ds es d f l e = absurd (omega arith)
 
 padded_is : (ds : List ℕ) → AllDigits 10 ds → IsShortest ds → digits_value 10 ds < 2 ^ 64 → ds ≡ padded 4 (digits_value 10 ds)
@@ -57,10 +56,7 @@ padded_is ds h so small =
 
 -- what is written so is parsed as the number
 pub number_read : {E : Type 0} (n : ℕ) (ds : List ℕ) (r : Result ℕ E) → n < 2 ^ 64 → ds ≡ padded 4 n → ParsesUnsigned 64 10 ds r → r ≡ Ok n
-number_read n ds r small e h =
-    let so = padded_shortest n small in
-    let value = padded_value 4 n small in
-    rw value at (parse_gives decimal_numerals 64 (padded 4 n) r (rw e at h) (padded_digits 4 n small) (omega (arith, so.0)) (rw value small))
+number_read n ds r small e h = grind (arith, parse_gives decimal_numerals, padded_shortest n, padded_value 4 n, padded_digits 4 n)
 
 -- ---- what is read of a string: no number, or the one from the least to the most that is written so
 
@@ -68,11 +64,11 @@ abbrev pub Reads : Option ℕ → ℕ → ℕ → List ℕ → Type 0
 Reads o least most ds = (n : ℕ) → (o ≡ Some n) ↔ ((least ≤ n) × (n ≤ most) × (ds ≡ padded 4 n))
 
 pub unpadded_read : {least most : ℕ} {ds : List ℕ} → most < 2 ^ 64 → ¬ (IsShortest ds) → Reads None least most ds
-unpadded_read small unpadded n = (λ e. absurd cc, λ h. absurd (unpadded (subst IsShortest (sym h.2) (padded_shortest n (omega arith)))))
+unpadded_read small unpadded n = grind (arith, padded_shortest n)
 
 pub no_number_read : {E : Type 0} {least most : ℕ} {ds : List ℕ} (r : Result ℕ E) → most < 2 ^ 64 → ParsesUnsigned 64 10 ds r → ((n : ℕ) → r ≢ Ok n)
     → Reads None least most ds
-no_number_read {ds = ds} r small h none n = (λ e. absurd cc, λ k. absurd (none n (number_read n ds r (omega arith) k.2 h)))
+no_number_read {ds = ds} r small h none n = grind (arith, number_read n ds r)
 
 pub outside_read : {E : Type 0} {least most : ℕ} {ds : List ℕ} (m : ℕ) (r : Result ℕ E) → most < 2 ^ 64 → ParsesUnsigned 64 10 ds r → r ≡ Ok m
     → ¬ ((least ≤ m) × (m ≤ most)) → Reads None least most ds
@@ -80,7 +76,4 @@ outside_read {least = least} {most = most} {ds = ds} m r small h is outside n = 
 
 pub number_inside_read : {E : Type 0} {least most : ℕ} {ds : List ℕ} (m : ℕ) (r : Result ℕ E) → most < 2 ^ 64 → ParsesUnsigned 64 10 ds r → r ≡ Ok m
     → IsShortest ds → (least ≤ m) × (m ≤ most) → Reads (Some m) least most ds
-number_inside_read {least = least} {most = most} {ds = ds} m r small h is so within n = (
-  λ e. let same : m ≡ n = cc in subst (λ (t : ℕ). (least ≤ t) × (t ≤ most) × (ds ≡ padded 4 t)) same (within.0, within.1, grind (arith, padded_is)),
-  λ k. let read = number_read n ds r (omega arith) k.2 h in cc,
-)
+number_inside_read {least = least} {most = most} {ds = ds} m r small h is so within n = grind (arith, padded_is, number_read n ds r)

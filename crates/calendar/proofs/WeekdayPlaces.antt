@@ -20,7 +20,7 @@ on_weekday weekday weeks equation =
 -- Days some weeks apart have the same day of the week.
 pub weeks_apart : {day other : ℤ} {weekday : Weekday} (weeks : ℤ) → other ≡ day +ℤ pos 7 *ℤ weeks → HasWeekday day weekday → HasWeekday other weekday
 weeks_apart {weekday = weekday} weeks apart h =
-    on_weekday weekday (h.remainder.quotient +ℤ weeks) (omega (ints, h.remainder.division.division.equation))
+    on_weekday weekday (h.remainder.quotient +ℤ weeks) (omega (ints, h.remainder))
 
 -- A week later the day of the week is the same.
 pub week_later : {day : ℤ} {weekday : Weekday} → HasWeekday day weekday → HasWeekday (day +ℤ pos 7) weekday
@@ -29,11 +29,11 @@ week_later h = weeks_apart (pos 1) refl h
 -- the day of the week some days later, and some days before
 pub days_later : {day later : ℤ} {a b : Weekday} (n : ℕ) → later ≡ day +ℤ pos n → HasWeekday day a → weekday_number b ≡ (weekday_number a + n) % 7
     → HasWeekday later b
-days_later {a = a} {b = b} n place h turned = on_weekday b (h.remainder.quotient +ℤ pos ((weekday_number a + n) / 7)) (omega (ints, h.remainder.division.division.equation))
+days_later {a = a} {b = b} n place h turned = on_weekday b (h.remainder.quotient +ℤ pos ((weekday_number a + n) / 7)) (omega (ints, h.remainder))
 
 pub days_earlier : {day sooner : ℤ} {a b : Weekday} (n : ℕ) → sooner ≡ day -ℤ pos n → HasWeekday day a → weekday_number a ≡ (weekday_number b + n) % 7
     → HasWeekday sooner b
-days_earlier {b = b} n place h turned = on_weekday b (h.remainder.quotient -ℤ pos ((weekday_number b + n) / 7)) (omega (ints, h.remainder.division.division.equation))
+days_earlier {b = b} n place h turned = on_weekday b (h.remainder.quotient -ℤ pos ((weekday_number b + n) / 7)) (omega (ints, h.remainder))
 
 -- eras are whole weeks
 pub weekday_in_era : {day : ℤ} (era : ℤ) (n : ℕ) (weekday : Weekday) → day ≡ pos 146097 *ℤ era +ℤ pos n -ℤ pos 865566
@@ -42,7 +42,7 @@ weekday_in_era era n weekday place is = on_weekday weekday (pos 20871 *ℤ era -
 
 -- Days of one day of the week are less than a week apart only if they are the same.
 pub same_day : {a b : ℤ} (weekday : Weekday) → HasWeekday a weekday → HasWeekday b weekday → a <ℤ (b +ℤ pos 7) → b <ℤ (a +ℤ pos 7) → a ≡ b
-same_day {a} {b} weekday h k after before = omega (ints, h.remainder.division.division.equation, k.remainder.division.division.equation)
+same_day {a} {b} weekday h k after before = omega (ints, h.remainder, k.remainder)
 
 -- ---- the first and the last of them
 
@@ -82,7 +82,7 @@ weekday_within day weekday =
     let (weeks, rest, h) = floored_exists (day +ℤ pos 4) (pos 7) (omega ints) in
     let range = floored_remainder_range (omega ints) (record { quotient = weeks; division = h }) in
     let place = weekday_number weekday + 7 - unsigned_abs rest in
-    (place % 7, omega arith, on_weekday weekday (weeks +ℤ pos 1 -ℤ pos (place / 7)) (omega (ints, h.division.equation)))
+    (place % 7, omega arith, on_weekday weekday (weeks +ℤ pos 1 -ℤ pos (place / 7)) (omega (ints, h.division)))
 
 -- so there is a first and a last
 pub first_exists : law.FirstWeekdayExists
@@ -107,7 +107,7 @@ only_iso_number a b same = only_number (omega (arith, below_seven a, below_seven
 pub next_weekdays : law.WeekdaysFollow
 next_weekdays = (
   on_weekday Thursday (pos 0) (omega ints),
-  λ day a b h k. omega (ints, h.remainder.division.division.equation, k.remainder.division.division.equation, below_seven a, below_seven b),
+  λ day a b h k. omega (ints, h.remainder, k.remainder, below_seven a, below_seven b),
 )
 
 -- that of a number of days later
@@ -115,7 +115,7 @@ pub weekday_after : {from weekday : Weekday} {days rest : ℤ} → IsRemainder I
     → weekday_number weekday ≡ (weekday_number from + unsigned_abs rest) % 7 → IsWeekdayAfter from days weekday
 weekday_after {from} {weekday} {rest = rest} h turned =
     let range = floored_remainder_range (omega ints) h in
-    record { holds = λ day k. on_weekday weekday (k.remainder.quotient +ℤ h.quotient +ℤ pos ((weekday_number from + unsigned_abs rest) / 7)) (omega (ints, range, turned, k.remainder.division.division.equation, h.division.division.equation)) }
+    record { holds = λ day k. days_later (unsigned_abs rest) (omega (ints, range, h.division)) (weeks_apart h.quotient refl k) turned }
 
 pub only_weekday_after : law.WeekdayAfterIsOnly
 only_weekday_after from days a b h k =

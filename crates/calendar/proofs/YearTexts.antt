@@ -1,5 +1,5 @@
 -- Years as they are written.
-use Rattle.calendar.proofs.Common.{◌≡◌, ◌≢◌, ◌↔◌, ◌⊎◌, ◌-◌, ◌^◌, ◌<◌, ◌≤◌, ◌<ℤ◌, ◌≤ℤ◌, ℕ, ℤ, pos, negsuc, neg_ℤ, unsigned_abs, List, ◌∷◌, get_or, FitsSigned, Option, Some, None, w64, arith, ap, inr, refl, sym, ◌∙◌, nat_tests, ints, digits_value, padded}
+use Rattle.calendar.proofs.Common.{◌≡◌, ◌≢◌, ◌↔◌, ◌⊎◌, ◌-◌, ◌^◌, ◌<◌, ◌≤◌, ◌<ℤ◌, ◌≤ℤ◌, ℕ, ℤ, pos, negsuc, neg_ℤ, unsigned_abs, List, ◌∷◌, get_or, FitsSigned, Option, Some, None, w64, arith, ap, inr, refl, nat_tests, ints, padded}
 use Rattle.calendar.specs.Text.{year_text}
 use Rattle.calendar.proofs.PaddedNumbers.{Reads, padded_shortest, padded_value}
 
@@ -37,22 +37,17 @@ plus_form {ds} starts = record {
 
 pub plain_form : {text : List ℕ} → ((rest : List ℕ) → text ≢ 45 ∷ rest) → ((rest : List ℕ) → text ≢ 43 ∷ rest) → HasForm pos 0 9999 text text
 plain_form no_minus no_plus = record {
-  tells = λ year fits e. let digits = padded 4 (unsigned_abs year) in grind (ints, year_texts year, no_minus digits, no_plus digits);
+  tells = λ year fits e. grind (ints, year_texts year, no_minus, no_plus);
   writes = λ n low small e. grind (ints, year_texts (pos n));
 }
 
 -- ---- two years of one text are the same
 
 same_number : (m n : ℕ) → m < 2 ^ 64 → n < 2 ^ 64 → padded 4 m ≡ padded 4 n → m ≡ n
-same_number m n m_small n_small e = sym (padded_value 4 m m_small) ∙ ap (digits_value 10) e ∙ padded_value 4 n n_small
+same_number m n m_small n_small e = grind (arith, padded_value 4 m, padded_value 4 n)
 
 pub only_year : (x y : ℤ) → FitsSigned w64 x → FitsSigned w64 y → year_text x ≡ year_text y → x ≡ y
-only_year x y x_fits y_fits e =
-    let m = unsigned_abs x in
-    let n = unsigned_abs y in
-    let own = λ (c : ℕ). no_sign m c (padded 4 n) in
-    let other = λ (c : ℕ). no_sign n c (padded 4 m) in
-    grind (ints, year_texts x, year_texts y, same_number m n, own 43, own 45, other 43, other 45)
+only_year x y x_fits y_fits e = grind (ints, year_texts x, year_texts y, same_number (unsigned_abs x) (unsigned_abs y), no_sign)
 
 -- what is read of a text of the form: no year, or the one that has the text
 pub no_year_read : {value : ℕ → ℤ} {least most : ℕ} {ds text : List ℕ} {o : Option ℤ} → HasForm value least most ds text → Reads None least most ds

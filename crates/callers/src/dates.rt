@@ -286,15 +286,6 @@ pub fn is_at_weekend(day: i64) -> bool
     }
 }
 
-/// Returns the date of Thanksgiving, the fourth Thursday of November, or `None` if no date is that Thursday.
-pub fn thanksgiving(year: i64) -> Option<Date>
-    ensures { MatchOption result
-        ((date : Date) → ¬ (IsNthWeekday year 11 Weekday.Thursday 4 date))
-        (λ date. IsNthWeekday year 11 Weekday.Thursday 4 date) }
-{
-    nth_weekday_of_month(year, 11, Weekday::Thursday, 4)
-}
-
 /// Returns the last day of the month after that of the date, or `None` if the year of that month does not fit.
 pub fn end_of_next_month(date: &Date) -> Option<Date>
     ensures { MatchOption result
@@ -376,17 +367,8 @@ pub fn pay_day_of_month(year: i64, month: u8) -> Date
     last_weekday_of_month(year, month, Weekday::Friday).unwrap()
 }
 
-/// Returns the first pay day after the date, or `None` if its year does not fit. Pay day is the last Friday of each
-/// month.
-pub fn next_pay_day(date: &Date) -> Option<Date>
-    ensures { MatchOption result
-        ((next : Date) → IsNextLastWeekday date.now Friday next → ¬ (FitsSigned w64 next.year))
-        (λ next. IsNextLastWeekday date.now Friday next) }
-{
-    next_last_weekday(date, Weekday::Friday)
-}
-
-/// Returns the first pay day after the date, or the date itself if the year of that pay day does not fit.
+/// Returns the first pay day after the date, or the date itself if the year of that pay day does not fit. Pay day is the
+/// last Friday of each month.
 pub fn pay_day_or_same(date: &Date) -> Date
     ensures { IsNextLastWeekday date.now Friday result
         ⊎ ((result ≡ date.now)
@@ -396,15 +378,6 @@ pub fn pay_day_or_same(date: &Date) -> Date
         Some(next) => next,
         None => *date,
     }
-}
-
-/// Returns the second Friday of a month. Each month has one.
-pub fn second_friday_of_month(year: i64, month: u8) -> Date
-    requires from_one { 1 ≤ month }
-    requires to_twelve { month ≤ 12 }
-    ensures { IsNthWeekday year month Friday 2 result }
-{
-    nth_weekday_of_month(year, month, Weekday::Friday, 2).unwrap()
 }
 
 /// Returns the n-th day of the week in two months of a year: the second Tuesdays, say. Each month has the first four. As this

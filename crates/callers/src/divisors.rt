@@ -99,16 +99,6 @@ pub fn divisor_after_three_calls(a: i64, b: i64) -> Option<i64>
     if product == a { None } else { Some(divisor) }
 }
 
-/// Returns the side of the largest tile that fills a room, which is at most 100 as each side of the room is.
-pub fn tile(width: u64, length: u64) -> u64
-    requires width { width ≤ 100 }
-    requires length { length ≤ 100 }
-    ensures greatest { IsGreatestCommonDivisor (pos width) (pos length) (pos result) }
-    ensures small { result ≤ 100 }
-{
-    width.gcd(&length)
-}
-
 /// Returns the greatest common divisor of a number and a positive number. It always fits.
 pub fn divisor_with_positive(a: i64, b: i64) -> i64
     requires { pos 0 <ℤ b }

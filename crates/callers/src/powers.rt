@@ -1,18 +1,8 @@
-//! Powers modulo a number, as natural numbers and as integers, and sums of exponents.
+//! Powers modulo a number, as natural numbers, and sums of exponents.
 
-ghost use Rattle.std.specs.Prelude.{◌≡◌, ◌<◌, ◌^◌, ◌%◌, pos, IsTrue};
-ghost use Rattle.std.specs.Int.{int_pow};
-ghost use Rattle.modular.specs.Congruences.{IsResidue};
+ghost use Rattle.std.specs.Prelude.{◌≡◌, ◌<◌, ◌^◌, ◌%◌, IsTrue};
 
 use modular::{power_modulo, product_modulo};
-
-/// Returns `m` to the power `e` modulo `n`: the number whose word `modular` has.
-pub fn rsa_round_trip(m: u64, e: u64, n: u64) -> u64
-    requires { 0 < n }
-    ensures { IsResidue (pos n) (int_pow (pos m) e) (pos result) }
-{
-    power_modulo(m, u128::from(e), n)
-}
 
 /// Returns `m` to the power `e` modulo `n`.
 pub fn power_remainder(m: u64, e: u128, n: u64) -> u64

@@ -1,6 +1,6 @@
 //! Quotients and remainders: by a positive number, by a divisor that may be 0, and in words of the caller.
 
-ghost use Rattle.std.specs.Prelude.{◌≡◌, ◌≢◌, ◌<◌, ◌%◌, ◌≤ℤ◌, ◌<ℤ◌, ◌+◌, ◌-◌, ◌*◌, ◌/◌, ◌≤◌, MatchOption, pos, ◌+ℤ◌, ◌*ℤ◌, FitsSigned};
+ghost use Rattle.std.specs.Prelude.{◌≡◌, ◌≢◌, ◌<◌, ◌%◌, ◌≤ℤ◌, ◌<ℤ◌, ◌+◌, ◌*◌, ◌/◌, ◌≤◌, MatchOption, pos, ◌+ℤ◌, ◌*ℤ◌, FitsSigned};
 ghost use Rattle.std.specs.Int.{FitsUnsignedBits, w64};
 ghost use Rattle.num_integer.specs.Division.{IsCeiled, IsFloored, IsQuotient, IsRemainder, IsTruncated};
 ghost use Rattle.num_integer.specs.Range.{EachFits};
@@ -195,21 +195,4 @@ pub fn share_with_tip(bill: u64, tip_percent: u64, people: u64) -> u64
     ensures not_more { result * (100 * people) < bill * (100 + tip_percent) + 100 * people }
 {
     div_ceil(bill * (100 + tip_percent), 100 * people)
-}
-
-/// Returns how many installments pay off a loan.
-pub fn installments(loan: u64, installment: u64) -> u64
-    requires { (0 < loan) × (0 < installment) }
-    ensures enough { loan ≤ result * installment }
-    ensures needed { (result - 1) * installment < loan }
-{
-    div_ceil(loan, installment)
-}
-
-/// Returns the hours and minutes of a number of minutes.
-pub fn hours_and_minutes(minutes: u64) -> (u64, u64)
-    ensures whole { result.0 * 60 + result.1 ≡ minutes }
-    ensures below { result.1 < 60 }
-{
-    minutes.div_mod_floor(&60)
 }

@@ -19,22 +19,8 @@ use ratio64::{Ratio, RatioError};
 
 // ---- pages of items
 
-/// `indices_on_page(2, 4, 10)` is `Some((8, 10))`. Returns the index of the first item of the page and the index
-/// after its last one. Exactly the items of the page are in this range. Pages and items are
-/// counted from 0. Returns `None` if the size of a page is 0.
-pub fn indices_on_page(page: usize, size: usize, items: usize) -> Option<(usize, usize)>
-    ensures { MatchOption result (size ≡ 0) (λ r. (r.0 ≤ r.1) × (r.1 ≤ items)
-        × ((item : ℕ) → item < items → ((r.0 ≤ item) × (item < r.1)) ↔ (item / size ≡ page))) }
-{
-    if size == 0 {
-        return None;
-    }
-    let first = page.saturating_mul(size).min(items);
-    let end = first.saturating_add(size).min(items);
-    Some((first, end))
-}
-
-/// Returns the same range by a call of `range_of_page`. The contract uses the definition of `applied`.
+/// `items_on_page(2, 4, 10)` is `Some((8, 10))`. Returns the index of the first item of the page and the index
+/// after its last one. Pages and items are counted from 0. Returns `None` if the size of a page is 0.
 pub fn items_on_page(page: usize, size: usize, items: usize) -> Option<(usize, usize)>
     ensures { MatchOption result (size ≡ 0)
         (λ r. IsRangeOfPage (pos page) (pos size) (pos items) (pos r.0) (pos r.1)) }

@@ -8,7 +8,7 @@ use Rattle.std.proofs.lemmas.Bool.{cases_lt, false≢true}
 use Rattle.std.proofs.lemmas.Bool.Decides.{Decides-int_eq}
 use Rattle.std.specs.List.{All, IsAnyAnswer}
 use Rattle.std.specs.Prelude.{Bool, Decides, false, true, suc, zero, ◌≢◌, ◌↔◌, ◌^◌, ◌≤ℤ◌, ◌<ℤ◌, ◌+ℤ◌, ◌-ℤ◌, ◌*ℤ◌, neg_ℤ, unsigned_abs}
-use Rattle.num_integer.proofs.ForCallers.{floored_by_range, linear, mul_neg, other_quotient_fits, products, sizes}
+use Rattle.num_integer.proofs.ForCallers.{floored_by_range, from_not_less, linear, mul_neg, other_quotient_fits, products, sizes}
 use Rattle.num_integer.specs.Division.{IsFloored, IsQuotient}
 use Rattle.num_integer.specs.Range.{EachFits, IsRange}
 use Rattle.cellarcove_c.proofs.Complements.{complement_of_bits}
@@ -70,9 +70,6 @@ complement_quotient (negsuc a) m r q d up fits q_is _ m_down _ r_down =
 
 -- ---- by minus d, of the negation of a number
 
-from_not_below : {a b : ℤ} → ¬ (a <ℤ b) → b ≤ℤ a
-from_not_below h = grind (arith, linear)
-
 -- the number less 1, modulo 2^64
 abbrev before : ℤ → ℤ
 before x = to_z w64 ((of_z w64 x + (2 ^ 64 - 1)) % 2 ^ 64)
@@ -109,7 +106,7 @@ negation_quotient (pos zero) s m r n q d up x_fits r_fits small sign _ m_down n_
     let none : n ≡ 0 = n_is ∙ ap (of_z w64) (m_down below) in
     rw (kept r q 0 d r_fits small (q_is ∙ ap (λ (v : ℕ). v / d) none) (r_down below)) (quotient_to_zero 0 d up)
 negation_quotient (pos (suc k)) s m r n q d up x_fits r_fits small sign m_up _ n_is q_is r_up _ =
-    let from_zero : pos 0 ≤ℤ s = from_not_below (λ below. omega (arith, ints, sign.0 below)) in
+    let from_zero : pos 0 ≤ℤ s = from_not_less (λ below. omega (arith, ints, sign.0 below)) in
     let bits : (suc k + (2 ^ 64 - 1)) % 2 ^ 64 ≡ k = omega (arith, x_fits.sfits) in
     let m_is : m ≡ pos k = rw (bits, to_z_pos w64 k (omega (arith, x_fits.sfits))) at (m_up from_zero) in
     let q_is : q ≡ k / d = q_is ∙ ap (λ (v : ℕ). v / d) (n_is ∙ ap (of_z w64) m_is) in

@@ -80,15 +80,6 @@ impl I64Answer {
         I64Answer { status, value }
     }
 
-    /// Returns the result of a call of `modular` that solves several congruences.
-    pub(crate) fn of_common(found: CommonSolution<i64>) -> I64Answer
-        ensures answer { common_solution_of result.status result.value ≡ found }
-        ensures refusal { Refuses (StatusIsOneOf not_fitting no_solution) (pos 0) result.status result.value }
-    {
-        let (status, value) = common_with_status(found, 0);
-        I64Answer { status, value }
-    }
-
     /// Returns a result.
     pub(crate) fn some(value: i64) -> I64Answer
         ensures { result ≡ record { status = 0; value = value } }
@@ -115,15 +106,6 @@ impl U64Answer {
         ensures refusal { Refuses (StatusIs reason) 0 result.status result.value }
     {
         let (status, value) = with_status(option, 0, reason);
-        U64Answer { status, value }
-    }
-
-    /// Returns the result of a call of `modular` that solves several congruences.
-    pub(crate) fn of_common(found: CommonSolution<u64>) -> U64Answer
-        ensures answer { common_solution_of result.status result.value ≡ found }
-        ensures refusal { Refuses (StatusIsOneOf not_fitting no_solution) 0 result.status result.value }
-    {
-        let (status, value) = common_with_status(found, 0);
         U64Answer { status, value }
     }
 

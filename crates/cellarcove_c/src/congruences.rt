@@ -11,7 +11,9 @@ ghost use Rattle.cellarcove_c.specs.Answers.{Refuses};
 ghost use Rattle.cellarcove_c.specs.Congruences.{AnswersModulo, I64Congruent, IsBeyond, IsClassOfBoth, IsNever, IsReasonOfCongruences, U64Congruent};
 ghost use Rattle.cellarcove_c.specs.Statuses.{StatusIsOneOf, answer_of, bad_modulus, common_solution_of, no_solution, not_fitting};
 
-use crate::answers::{BAD_MODULUS, I64Answer, NO_SOLUTION, NOT_FITTING, U64Answer, with_status};
+use crate::answers::{
+    BAD_MODULUS, I64Answer, NO_SOLUTION, NOT_FITTING, U64Answer, common_with_status, with_status,
+};
 use crate::modulo::reason_for_modulus;
 use modular::{
     CommonSolution, Congruence, Modular, checked, chinese_remainder, next_common_solution,
@@ -287,17 +289,9 @@ pub extern "C" fn cellarcove_next_common_solution_i64(
     if m <= 0 || n <= 0 {
         return I64Answer::none(BAD_MODULUS);
     }
-    I64Answer::of_common(next_common_solution(
-        from,
-        Congruence {
-            residue: a,
-            modulus: m,
-        },
-        Congruence {
-            residue: b,
-            modulus: n,
-        },
-    ))
+    let found = next_common_solution(from, (a, m).into(), (b, n).into());
+    let (status, value) = common_with_status(found, 0);
+    I64Answer { status, value }
 }
 
 /// Returns the smallest number from `from` on that is `a` modulo `m` and `b` modulo `n`. The least
@@ -326,17 +320,9 @@ pub extern "C" fn cellarcove_next_common_solution_u64(
     if m == 0 || n == 0 {
         return U64Answer::none(BAD_MODULUS);
     }
-    U64Answer::of_common(next_common_solution(
-        from,
-        Congruence {
-            residue: a,
-            modulus: m,
-        },
-        Congruence {
-            residue: b,
-            modulus: n,
-        },
-    ))
+    let found = next_common_solution(from, (a, m).into(), (b, n).into());
+    let (status, value) = common_with_status(found, 0);
+    U64Answer { status, value }
 }
 
 /// Returns the status of the numbers that solve both congruences, and the numbers as a congruence. If there is no result,

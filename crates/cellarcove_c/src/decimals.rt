@@ -4,12 +4,12 @@ ghost use Rattle.std.specs.Prelude.{◌≡◌, ◌↔◌, ◌<◌, ◌≤◌, �
 ghost use Rattle.ratio64.specs.Decimal.{places_of, units_of};
 ghost use Rattle.ratio64.specs.Rounding.{IsRoundedEven};
 ghost use Rattle.cellarcove_c.specs.Decimals.{AnswersDecimal};
-ghost use Rattle.cellarcove_c.specs.Fractions.{AnswersOfOne, AnswersRoundedTimes, IsInParts, OnOne};
+ghost use Rattle.cellarcove_c.specs.Fractions.{AnswersOfOne, AnswersRoundedTimes, IsInParts};
 ghost use Rattle.cellarcove_c.specs.Statuses.{outside};
 
 use crate::answers::{ANSWER, I64Answer, NOT_FITTING, OUTSIDE};
 use crate::fractions::{Fraction, FractionAnswer};
-use ratio64::{Decimal, Ratio, RatioError};
+use ratio64::Decimal;
 
 /// A status, and a decimal number: its sign, its integer part, and the number that its digits after the
 /// point write. Those of -2.05 are `true`, 2 and 5: a text of it needs a zero before the 5.
@@ -51,7 +51,7 @@ pub extern "C" fn cellarcove_fraction_round_even_to(a: Fraction, parts: i64) -> 
     if parts <= 0 {
         return FractionAnswer::none(OUTSIDE);
     }
-    FractionAnswer::of(round_even_to(a.reduced(), parts))
+    FractionAnswer::of(a.reduced().and_then(|x| x.round_even_to(parts)))
 }
 
 /// Returns the nearest decimal number with so many digits after the point, and of two that are equally
@@ -72,14 +72,6 @@ pub extern "C" fn cellarcove_fraction_to_decimal(a: Fraction, places: u32) -> De
         },
         Err(error) => DecimalAnswer::none(error.number()),
     }
-}
-
-/// Returns a fraction rounded to the nearest multiple of `1 / parts`, half to even, or its error.
-fn round_even_to(a: Result<Ratio, RatioError>, parts: i64) -> Result<Ratio, RatioError>
-    requires { pos 0 <ℤ parts }
-    ensures { OnOne (IsInParts IsRoundedEven parts) a result }
-{
-    a?.round_even_to(parts)
 }
 
 impl DecimalAnswer {

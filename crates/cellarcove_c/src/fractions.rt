@@ -103,7 +103,7 @@ pub extern "C" fn cellarcove_fraction_div(a: Fraction, b: Fraction) -> FractionA
 pub extern "C" fn cellarcove_fraction_recip(a: Fraction) -> FractionAnswer
     ensures { AnswersOfOne IsReciprocal a result }
 {
-    FractionAnswer::of(reciprocal(a.reduced()))
+    FractionAnswer::of(a.reduced().and_then(|x| x.checked_recip()))
 }
 
 /// Returns the negation. That of -3/2 is 3/2.
@@ -114,7 +114,7 @@ pub extern "C" fn cellarcove_fraction_recip(a: Fraction) -> FractionAnswer
 pub extern "C" fn cellarcove_fraction_neg(a: Fraction) -> FractionAnswer
     ensures { AnswersOfOne IsNegation a result }
 {
-    FractionAnswer::of(negation(a.reduced()))
+    FractionAnswer::of(a.reduced().and_then(|x| x.checked_neg()))
 }
 
 /// Returns the magnitude. That of -3/2 is 3/2.
@@ -125,7 +125,7 @@ pub extern "C" fn cellarcove_fraction_neg(a: Fraction) -> FractionAnswer
 pub extern "C" fn cellarcove_fraction_abs(a: Fraction) -> FractionAnswer
     ensures { AnswersOfOne IsMagnitude a result }
 {
-    FractionAnswer::of(magnitude(a.reduced()))
+    FractionAnswer::of(a.reduced().and_then(|x| x.checked_abs()))
 }
 
 /// Returns the power, which for a negative exponent is that of the reciprocal. That of 2/3 and -2 is 9/4.
@@ -147,7 +147,7 @@ pub extern "C" fn cellarcove_fraction_pow(a: Fraction, exponent: i32) -> Fractio
 pub extern "C" fn cellarcove_fraction_times(a: Fraction, n: i64, d: i64) -> FractionAnswer
     ensures { AnswersOfOne (IsTimes n d) a result }
 {
-    FractionAnswer::of(times(a.reduced(), n, d))
+    FractionAnswer::of(a.reduced().and_then(|x| x.checked_times(n, d)))
 }
 
 /// Returns -1, 0 or 1 if `a` is less than, equal to or greater than `b`. For 1/2 and 1/3 it is 1.
@@ -194,10 +194,7 @@ pub extern "C" fn cellarcove_fraction_limit_denominator(a: Fraction, max: i64) -
     if max <= 0 {
         return FractionAnswer::none(OUTSIDE);
     }
-    match a.reduced() {
-        Ok(x) => FractionAnswer::some(&x.limit_denominator(max)),
-        Err(error) => FractionAnswer::none(error.number()),
-    }
+    FractionAnswer::of(a.reduced().map(|x| x.limit_denominator(max)))
 }
 
 impl Fraction {
@@ -290,39 +287,11 @@ fn quotient(a: Result<Ratio, RatioError>, b: Result<Ratio, RatioError>) -> Resul
     a?.checked_div(&b?)
 }
 
-/// Returns the reciprocal of a fraction, or its error.
-fn reciprocal(a: Result<Ratio, RatioError>) -> Result<Ratio, RatioError>
-    ensures { OnOne IsReciprocal a result }
-{
-    a?.checked_recip()
-}
-
-/// Returns the negation of a fraction, or its error.
-fn negation(a: Result<Ratio, RatioError>) -> Result<Ratio, RatioError>
-    ensures { OnOne IsNegation a result }
-{
-    a?.checked_neg()
-}
-
-/// Returns the magnitude of a fraction, or its error.
-fn magnitude(a: Result<Ratio, RatioError>) -> Result<Ratio, RatioError>
-    ensures { OnOne IsMagnitude a result }
-{
-    a?.checked_abs()
-}
-
 /// Returns the power of a fraction, or its error.
 fn power(a: Result<Ratio, RatioError>, exponent: i32) -> Result<Ratio, RatioError>
     ensures { OnOne (IsPower exponent) a result }
 {
     a?.checked_pow(exponent)
-}
-
-/// Returns a fraction times `n / d`, or its error.
-fn times(a: Result<Ratio, RatioError>, n: i64, d: i64) -> Result<Ratio, RatioError>
-    ensures { OnOne (IsTimes n d) a result }
-{
-    a?.checked_times(n, d)
 }
 
 /// Returns the order of two fractions, or the first error.

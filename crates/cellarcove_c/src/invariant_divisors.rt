@@ -173,6 +173,7 @@ impl MagnitudeDivisor {
 }
 
 /// Writes the quotients of the numbers by -1, and returns the status. If it is not 0, `quotients` stays as it is.
+#[tactic(auto, using(crate::proofs::FlooredQuotients::fit_without_least))]
 fn write_by_minus_one(numbers: &[i64], quotients: &mut [i64]) -> u32
     requires each { All (FitsSigned w64) numbers.now }
     requires same { length quotients.old ≡ length numbers.now }
@@ -249,6 +250,7 @@ fn write_unsigned(divisor: &InvariantDivisor, numbers: &[u64], quotients: &mut [
 }
 
 /// Returns the logarithm of the divisor to the base 2, rounded up.
+#[tactic(auto, using(crate::proofs::QuotientsByMultiplier::ceil_log2_is))]
 fn ceil_log2(divisor: u64) -> u32
     requires { 0 < divisor }
     ensures most { result ≤ 64 }
@@ -268,6 +270,7 @@ fn first_shift_of(log2: u32) -> u32
 }
 
 /// Returns the multiplier of a divisor with this logarithm.
+#[tactic(auto, using(crate::proofs::QuotientsByMultiplier::multiplier_is))]
 fn multiplier_for(divisor: u64, log2: u32) -> u64
     requires most { log2 ≤ 64 }
     requires above { divisor ≤ 2 ^ log2 }
@@ -279,6 +282,7 @@ fn multiplier_for(divisor: u64, log2: u32) -> u64
 }
 
 /// Returns the number, or, if `sign` is negative, its complement, which has the other bits. It has no branch.
+#[tactic(auto, using(crate::proofs::Complements::complement_is))]
 fn complement_if_negative(number: i64, sign: i64) -> i64
     ensures from_zero { pos 0 ≤ℤ sign → result ≡ number }
     ensures below { sign <ℤ pos 0 → result ≡ pos 0 -ℤ number -ℤ pos 1 }
@@ -298,6 +302,7 @@ fn magnitude_multiplier(divisor: u64, shift: u32) -> u64
 }
 
 /// Returns a negative number, or, if `x` is positive, one that is not negative. It has no branch.
+#[tactic(auto, using(crate::proofs::Complements::negative_unless_positive_is))]
 fn negative_unless_positive(x: i64) -> i64
     ensures { (result <ℤ pos 0) ↔ (x ≤ℤ pos 0) }
 {

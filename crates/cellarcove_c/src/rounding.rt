@@ -3,12 +3,11 @@
 ghost use Rattle.std.specs.Prelude.{◌≡◌, ◌<ℤ◌, ◌≤ℤ◌, pos};
 ghost use Rattle.num_integer.specs.Division.{IsCeiled, IsFloored, IsQuotient, IsTruncated};
 ghost use Rattle.ratio64.specs.Rounding.{IsRounded};
-ghost use Rattle.cellarcove_c.specs.Fractions.{AnswersFract, AnswersOfOne, AnswersRounded, AnswersRoundedTimes, IsInParts, OnOne};
+ghost use Rattle.cellarcove_c.specs.Fractions.{AnswersFract, AnswersOfOne, AnswersRounded, AnswersRoundedTimes, IsInParts};
 ghost use Rattle.cellarcove_c.specs.Statuses.{outside};
 
 use crate::answers::{I64Answer, NOT_FITTING, OUTSIDE};
 use crate::fractions::{Fraction, FractionAnswer};
-use ratio64::{Ratio, RatioError};
 
 /// Returns the fraction rounded down. That of -3/2 is -2.
 ///
@@ -60,10 +59,7 @@ pub extern "C" fn cellarcove_fraction_trunc(a: Fraction) -> I64Answer
 pub extern "C" fn cellarcove_fraction_fract(a: Fraction) -> FractionAnswer
     ensures { AnswersFract a result }
 {
-    match a.reduced() {
-        Ok(x) => FractionAnswer::some(&x.fract()),
-        Err(error) => FractionAnswer::none(error.number()),
-    }
+    FractionAnswer::of(a.reduced().map(|x| x.fract()))
 }
 
 /// Returns the nearest integer, and of two that are equally near the one farther from 0. That of -3/2
@@ -137,7 +133,7 @@ pub extern "C" fn cellarcove_fraction_floor_to(a: Fraction, parts: i64) -> Fract
     if parts <= 0 {
         return FractionAnswer::none(OUTSIDE);
     }
-    FractionAnswer::of(floor_to(a.reduced(), parts))
+    FractionAnswer::of(a.reduced().and_then(|x| x.floor_to(parts)))
 }
 
 /// Returns the smallest multiple of `1 / parts` that is at least the fraction. That of 5/3 and 4 is 7/4.
@@ -153,7 +149,7 @@ pub extern "C" fn cellarcove_fraction_ceil_to(a: Fraction, parts: i64) -> Fracti
     if parts <= 0 {
         return FractionAnswer::none(OUTSIDE);
     }
-    FractionAnswer::of(ceil_to(a.reduced(), parts))
+    FractionAnswer::of(a.reduced().and_then(|x| x.ceil_to(parts)))
 }
 
 /// Returns the nearest multiple of `1 / parts`, and of two that are equally near the one farther from 0.
@@ -170,29 +166,5 @@ pub extern "C" fn cellarcove_fraction_round_to(a: Fraction, parts: i64) -> Fract
     if parts <= 0 {
         return FractionAnswer::none(OUTSIDE);
     }
-    FractionAnswer::of(round_to(a.reduced(), parts))
-}
-
-/// Returns a fraction rounded down to a multiple of `1 / parts`, or its error.
-fn floor_to(a: Result<Ratio, RatioError>, parts: i64) -> Result<Ratio, RatioError>
-    requires { pos 0 <ℤ parts }
-    ensures { OnOne (IsInParts (IsQuotient IsFloored) parts) a result }
-{
-    a?.floor_to(parts)
-}
-
-/// Returns a fraction rounded up to a multiple of `1 / parts`, or its error.
-fn ceil_to(a: Result<Ratio, RatioError>, parts: i64) -> Result<Ratio, RatioError>
-    requires { pos 0 <ℤ parts }
-    ensures { OnOne (IsInParts (IsQuotient IsCeiled) parts) a result }
-{
-    a?.ceil_to(parts)
-}
-
-/// Returns a fraction rounded to the nearest multiple of `1 / parts`, or its error.
-fn round_to(a: Result<Ratio, RatioError>, parts: i64) -> Result<Ratio, RatioError>
-    requires { pos 0 <ℤ parts }
-    ensures { OnOne (IsInParts IsRounded parts) a result }
-{
-    a?.round_to(parts)
+    FractionAnswer::of(a.reduced().and_then(|x| x.round_to(parts)))
 }

@@ -9,7 +9,7 @@ ghost use Rattle.cellarcove_c.specs.Answers.{Refuses};
 ghost use Rattle.cellarcove_c.specs.Congruences.{I64Congruent, IsBeyond, IsNever, IsReasonOfCongruences, U64Congruent};
 ghost use Rattle.cellarcove_c.specs.Statuses.{bad_modulus, common_solution_of};
 
-use crate::answers::{BAD_MODULUS, I64Answer, NOT_FITTING, U64Answer};
+use crate::answers::{BAD_MODULUS, I64Answer, NOT_FITTING, U64Answer, common_with_status};
 use applied::schedules::{Schedule, count, next_meeting};
 
 /// Returns the first time, not before `now`, that is in two schedules. One has the times `a`, `a + p`,
@@ -32,17 +32,9 @@ pub extern "C" fn cellarcove_next_meeting_i64(now: i64, a: i64, p: i64, b: i64, 
     if p <= 0 || q <= 0 {
         return I64Answer::none(BAD_MODULUS);
     }
-    I64Answer::of_common(next_meeting(
-        now,
-        Schedule {
-            first: a,
-            period: p,
-        },
-        Schedule {
-            first: b,
-            period: q,
-        },
-    ))
+    let found = next_meeting(now, (a, p).into(), (b, q).into());
+    let (status, value) = common_with_status(found, 0);
+    I64Answer { status, value }
 }
 
 /// Returns the first time, not before `now`, that is in two schedules. One has the times `a`, `a + p`,
@@ -65,17 +57,9 @@ pub extern "C" fn cellarcove_next_meeting_u64(now: u64, a: u64, p: u64, b: u64, 
     if p == 0 || q == 0 {
         return U64Answer::none(BAD_MODULUS);
     }
-    U64Answer::of_common(next_meeting(
-        now,
-        Schedule {
-            first: a,
-            period: p,
-        },
-        Schedule {
-            first: b,
-            period: q,
-        },
-    ))
+    let found = next_meeting(now, (a, p).into(), (b, q).into());
+    let (status, value) = common_with_status(found, 0);
+    U64Answer { status, value }
 }
 
 /// Returns how many times of a schedule are in the range of numbers between `from` and `to`, and at them.

@@ -44,10 +44,7 @@ pub extern "C" fn cellarcove_next_common_solution_of_i64(
     ensures { IsNextOfSeveral (λ x. x) (FitsSigned w64) from (i64_congruences congruences.now) (pos 0)
         result.status result.value }
 {
-    let mut room = [Congruence {
-        residue: 0,
-        modulus: 1,
-    }; MOST];
+    let mut room = [Congruence::from((0, 1)); MOST];
     let (status, value) = next_of_several(from, congruences, &mut room, 0);
     I64Answer { status, value }
 }
@@ -65,10 +62,7 @@ pub extern "C" fn cellarcove_next_common_solution_of_u64(
     ensures { IsNextOfSeveral (λ x. pos x) (FitsUnsignedBits 64) (pos from)
         (u64_congruences congruences.now) 0 result.status result.value }
 {
-    let mut room = [Congruence {
-        residue: 0,
-        modulus: 1,
-    }; MOST];
+    let mut room = [Congruence::from((0, 1)); MOST];
     let (status, value) = next_of_several(from, congruences, &mut room, 0);
     U64Answer { status, value }
 }
@@ -87,10 +81,7 @@ impl ForeignCongruence<i64> for I64Congruence {
     ghost congruence_of = { λ c. record { residue = c.residue; modulus = c.modulus } };
 
     fn congruence(self) -> Congruence<i64> {
-        Congruence {
-            residue: self.residue,
-            modulus: self.modulus,
-        }
+        (self.residue, self.modulus).into()
     }
 }
 
@@ -98,10 +89,7 @@ impl ForeignCongruence<u64> for U64Congruence {
     ghost congruence_of = { λ c. record { residue = c.residue; modulus = c.modulus } };
 
     fn congruence(self) -> Congruence<u64> {
-        Congruence {
-            residue: self.residue,
-            modulus: self.modulus,
-        }
+        (self.residue, self.modulus).into()
     }
 }
 

@@ -1,14 +1,11 @@
 -- A kind and a call have at most one outcome.
-use Rattle.intcalc_core.proofs.Common.{◌≡◌, ◌⊎◌, ◌↔◌, ◌+ℤ◌, ◌*ℤ◌, ℤ, unsigned_abs, Bool, true, false, IsTrue, Result, Ok, Err, inl, inr, refl, sym, ap, ◌∙◌, true≢false, IsAverageFloor, IsAverageCeil, IsBezoutAnswer, coefficient_of, IsCeiled, IsFloored, IsMultiple, IsQuotient, IsRemainder, IsTruncated, IsGreatestCommonDivisor, IsLeastCommonMultiple, IsRoot, average_ceil_is_only, average_floor_is_only, bezout_answer_is_only, division_is_only, gcd_is_only, lcm_is_only, multiple_is_only, quotient_is_only, remainder_is_only, root_is_only, Answer, Two, Three, Call, DivRem, DivModFloor, DivFloor, DivCeil, ModFloor, NextMultipleOf, PrevMultipleOf, IsMultipleOf, Gcd, Lcm, GcdLcm, ExtendedGcd, AverageFloor, AverageCeil, Sqrt, Cbrt, NthRoot, Binomial, RatioAdd, RatioMul, Kind, Refusal, AnswersOne, AnswersTwo, AnswersThree, AnswersWhether, AreGcdAndLcm, FitsKind, OutcomeOfFitting, NeedsFractions, AnswersExact, Outcome, IsExact, exact_result_is_only}
+use Rattle.intcalc_core.proofs.Common.{arith, ◌≡◌, ◌⊎◌, ◌↔◌, ◌+ℤ◌, ◌*ℤ◌, ℤ, unsigned_abs, Bool, IsTrue, Result, Ok, Err, refl, sym, ap, ◌∙◌, IsAverageFloor, IsAverageCeil, IsBezoutAnswer, coefficient_of, IsCeiled, IsFloored, IsMultiple, IsQuotient, IsRemainder, IsTruncated, IsGreatestCommonDivisor, IsLeastCommonMultiple, IsRoot, average_ceil_is_only, average_floor_is_only, bezout_answer_is_only, division_is_only, gcd_is_only, lcm_is_only, multiple_is_only, quotient_is_only, remainder_is_only, root_is_only, Answer, Two, Three, Call, DivRem, DivModFloor, DivFloor, DivCeil, ModFloor, NextMultipleOf, PrevMultipleOf, IsMultipleOf, Gcd, Lcm, GcdLcm, ExtendedGcd, AverageFloor, AverageCeil, Sqrt, Cbrt, NthRoot, Binomial, RatioAdd, RatioMul, Kind, Refusal, AnswersOne, AnswersTwo, AnswersThree, AnswersWhether, AreGcdAndLcm, FitsKind, OutcomeOfFitting, NeedsFractions, AnswersExact, Outcome, IsExact, exact_result_is_only}
 use Rattle.num_integer.specs.Only.{IsOnly}
 
 -- if the rest of a condition leaves one result, so does the condition
 only_needs : {P R S : Type 0} {refusal : Refusal} {r s : Result Answer Refusal} → (R → S → s ≡ r)
     → (¬ P × (r ≡ Err refusal)) ⊎ (P × R) → (¬ P × (s ≡ Err refusal)) ⊎ (P × S) → s ≡ r
-only_needs only (inl h) (inl k) = cc
-only_needs only (inl h) (inr k) = absurd (h.0 k.0)
-only_needs only (inr h) (inl k) = absurd (k.0 h.0)
-only_needs only (inr h) (inr k) = only h.1 k.1
+only_needs only h k = grind arith
 
 only_one : (P : ℤ → Type 0) {r s : Result Answer Refusal} → ((n : ℤ) → P n → IsOnly P n) → AnswersOne P r → AnswersOne P s → s ≡ r
 only_one P only h k = let e = only h.number h.meets k.number k.meets in cc
@@ -25,10 +22,7 @@ only_bezout {a} {b} h k =
     k.is ∙ ap (λ (t : ℤ × ℤ × ℤ). Ok (Three t.0 t.1 t.2)) e ∙ sym h.is
 
 only_truth : {P : Type 0} (b c : Bool) → IsTrue b ↔ P → IsTrue c ↔ P → b ≡ c
-only_truth true true h k = refl
-only_truth false false h k = refl
-only_truth true false h k = absurd (true≢false (sym (k.1 (h.0 refl))))
-only_truth false true h k = absurd (true≢false (sym (h.1 (k.0 refl))))
+only_truth b c h k = grind arith
 
 only_whether : {P : Type 0} {r s : Result Answer Refusal} → AnswersWhether P r → AnswersWhether P s → s ≡ r
 only_whether h k = let e = only_truth h.truth k.truth h.tells k.tells in cc

@@ -1,5 +1,5 @@
 -- How many congruent numbers a range has.
-use Rattle.modular.proofs.Common.{◌≡◌, ◌≤ℤ◌, ◌<ℤ◌, ◌+ℤ◌, ◌-ℤ◌, ◌*ℤ◌, ◌∷◌, ◌∙◌, ℤ, ℕ, zero, suc, pos, Option, Some, None, IfSome, MatchOption, arith, inl, subst, by_lt_z, ints, expand, from_not_less, linear, product_from_zero, products, IsTimesToReach, IsCountFrom, AreCongruent, IsCountOfCongruent, IsNextCongruent, IsResidue, LiesWithin, negsuc}
+use Rattle.modular.proofs.Common.{◌≡◌, ◌≤ℤ◌, ◌<ℤ◌, ◌+ℤ◌, ◌-ℤ◌, ◌*ℤ◌, ◌∷◌, ℤ, ℕ, zero, suc, pos, Option, Some, None, IfSome, MatchOption, arith, inl, subst, by_lt_z, ints, expand, from_not_less, linear, product_from_zero, products, IsTimesToReach, IsCountFrom, AreCongruent, IsCountOfCongruent, IsNextCongruent, IsResidue, LiesWithin, negsuc}
 use Rattle.modular.proofs.CommonSolutions.{times_ordered}
 use Rattle.modular.proofs.Congruences.{congruent_sym, congruent_trans, congruent_by}
 use Rattle.modular.proofs.NextCongruent.{next_within_step}

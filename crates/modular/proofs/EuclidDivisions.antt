@@ -1,5 +1,5 @@
 -- Euclid's loop with the magnitudes of the coefficients of a, and what its last division says.
-use Rattle.modular.proofs.Common.{◌≡◌, ◌≢◌, ◌≤ℤ◌, ◌<ℤ◌, ◌+ℤ◌, ◌-ℤ◌, ◌*ℤ◌, ◌∙◌, ℤ, pos, neg_ℤ, Bool, false, not, arith, inl, refl, subst, IsTruncated, IsGreatestCommonDivisor, IsRange, Divides_refl, Divides_zero, expand, linear, product_from_zero, products, within_fits, AreCongruent, IsResidue, gcd-remainder, rest_is, signed, signed-not}
+use Rattle.modular.proofs.Common.{◌≡◌, ◌≢◌, ◌≤ℤ◌, ◌<ℤ◌, ◌+ℤ◌, ◌-ℤ◌, ◌*ℤ◌, ℤ, pos, neg_ℤ, Bool, false, not, arith, inl, refl, subst, IsTruncated, IsGreatestCommonDivisor, IsRange, Divides_refl, Divides_zero, expand, linear, product_from_zero, products, within_fits, AreCongruent, IsResidue, gcd-remainder, rest_is, signed, signed-not}
 use Rattle.modular.proofs.Congruences.{congruent_difference, congruent_gcd, congruent_product, congruent_refl, congruent_sym, congruent_trans, congruent_by, at_most_product}
 
 -- ---- the numbers of the loop

@@ -1,5 +1,5 @@
 -- A property of each item of a slice, in a loop over it.
-use Rattle.modular.proofs.Common.{◌≡◌, ◌<◌, ◌≤◌, ◌+◌, ℕ, List, length, All, get_or, subst, sym, take, All-get_or, All-more}
+use Rattle.modular.proofs.Common.{◌≡◌, ◌<◌, ◌+◌, ℕ, List, length, All, get_or, subst, sym, take, All-get_or, All-more}
 
 module _ {X : Type 0} (Has : X → Type 0) (items : List X) (i : ℕ) where
   -- the item at an index has it

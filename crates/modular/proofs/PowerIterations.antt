@@ -1,5 +1,5 @@
 -- Powers by squaring, modulo a number.
-use Rattle.modular.proofs.Common.{◌≡◌, ◌≢◌, ◌+◌, ◌*◌, ◌/◌, ◌%◌, ◌<◌, ◌≤◌, ◌^◌, ◌*ℤ◌, ◌∙◌, ℤ, ℕ, pos, zero, suc, int_pow, arith, refl, subst, mul-le-mul_right, one-le-pow, pow-le-pow_right, two-pow-succ, comm, expand, int_pow_suc, int_pow_zero, mul-one, power_of_square, AreCongruent, add-one, int_pow_add}
+use Rattle.modular.proofs.Common.{◌≡◌, ◌≢◌, ◌+◌, ◌*◌, ◌/◌, ◌%◌, ◌<◌, ◌≤◌, ◌^◌, ◌*ℤ◌, ℤ, ℕ, pos, zero, suc, int_pow, arith, refl, subst, mul-le-mul_right, one-le-pow, pow-le-pow_right, two-pow-succ, comm, expand, int_pow_suc, int_pow_zero, mul-one, power_of_square, AreCongruent, add-one, int_pow_add}
 use Rattle.modular.proofs.Congruences.{congruent_product, congruent_refl, congruent_trans}
 
 -- ---- modulo a number

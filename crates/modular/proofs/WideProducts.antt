@@ -1,5 +1,5 @@
 -- Products of residues as magnitudes of 128 bits.
-use Rattle.modular.proofs.Common.{◌≡◌, ◌↔◌, ◌+◌, ◌-◌, ◌*◌, ◌%◌, ◌<◌, ◌≤◌, ◌<ℤ◌, ◌≤ℤ◌, ◌-ℤ◌, ◌*ℤ◌, ℤ, ℕ, pos, unsigned_abs, Bool, IsTrue, not, int_pow, arith, ap, ints, beq, signed_is, sizes, signed, AreCongruent, IsResidue, signed_product}
+use Rattle.modular.proofs.Common.{◌≡◌, ◌↔◌, ◌+◌, ◌-◌, ◌*◌, ◌≤◌, ◌<ℤ◌, ◌-ℤ◌, ◌*ℤ◌, ℤ, ℕ, pos, unsigned_abs, Bool, IsTrue, not, int_pow, arith, ap, ints, beq, signed_is, sizes, signed, AreCongruent, IsResidue, signed_product}
 use Rattle.modular.proofs.Congruences.{congruent_by, residue_of_congruent}
 use Rattle.modular.proofs.PowerIterations.{congruent_power}
 

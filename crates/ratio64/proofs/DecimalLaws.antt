@@ -2,7 +2,7 @@
 use Rattle.ratio64.proofs.Common.{◌≡◌, ◌≢◌, ◌-◌, ◌^◌, ◌<◌, ◌≤◌, ◌*ℤ◌, ◌<ℤ◌, List, ℕ, ℤ, pos, mul-pos, products, unsigned_abs, Result, Ok, Err, arith, ap, refl, sym, ◌∙◌, expand, is_prop→PathP, linear, mul-one, places_of, units_of}
 use Rattle.ratio64.proofs.DecimalOrder.{quintillion}
 use Rattle.ratio64.proofs.DecimalTexts.{ten_up}
-use Rattle.ratio64.proofs.ReadDecimals.{only_kept}
+use Rattle.ratio64.proofs.ReadDecimals.{number_answer, only_kept}
 use Rattle.ratio64.proofs.ReadTexts.{same_number, same_result}
 use Rattle.ratio64.proofs.SpelledDecimals.{decimal_spelled}
 use Rattle.ratio64.specs.Decimal.{SpellsDecimal, quintillionths_of}
@@ -17,18 +17,12 @@ use Rattle.std.specs.Ordering.{int_cmp}
 
 -- ---- one for its parts
 
-few-prop : (p : ℕ) → IsProp (p ≤ 18)
-few-prop p = hlevel props
-
-below-prop : (u : ℤ) → IsProp (unsigned_abs u < 2 ^ 127)
-below-prop u = hlevel props
-
 pub decimal_of_parts_is_only : DecimalOfPartsIsOnly
 decimal_of_parts_is_only x y p q = λ i. record {
   units = p i;
   places = q i;
-  few = is_prop→PathP (λ i. q i ≤ 18) (λ i. few-prop (q i)) x.few y.few i;
-  below = is_prop→PathP (λ i. unsigned_abs (p i) < 2 ^ 127) (λ i. below-prop (p i)) x.below y.below i;
+  few = is_prop→PathP (λ i. q i ≤ 18) (λ i. hlevel props) x.few y.few i;
+  below = is_prop→PathP (λ i. unsigned_abs (p i) < 2 ^ 127) (λ i. hlevel props) x.below y.below i;
 }
 
 -- ---- the order is that of fractions
@@ -62,25 +56,15 @@ own_kept x =
     let none : places_of x - 18 ≡ 0 = omega arith in
     record { product = rw none (mul-one (units_of x)) }
 
-too_large : {u k : ℤ} {p : ℕ} (x : Decimal) → AreKept u p (units_of x) → AreKept u p k → 2 ^ 127 ≤ unsigned_abs k → ⊥
-too_large x own other big =
-    let small = x.below in
-    let same = ap unsigned_abs (only_kept other own) in
-    absurd (omega (arith, same))
-
 only_number : {u : ℤ} {p : ℕ} (r s : Result Decimal ParseDecimalError) → AnswersDecimal u p r → AnswersDecimal u p s → r ≢ Err NotADecimal
     → s ≢ Err NotADecimal → r ≡ s
 only_number (Err NotADecimal) s h k m n = absurd (m refl)
-only_number r (Err NotADecimal) h k m n = absurd (n refl)
+only_number (Err TooManyPlaces) s h k m n = sym (k.too_many_places.1 (h.too_many_places.0 refl))
+only_number (Err NotFitting) s h k m n = sym (k.not_fitting.1 (h.not_fitting.0 refl))
 only_number (Ok x) (Ok y) h k m n = ap Ok (decimal_of_parts_is_only x y (only_kept h.number.0 k.number.0) (h.number.1 ∙ sym k.number.1))
-only_number (Ok x) (Err TooManyPlaces) h k m n = absurd (k.too_many_places.0 refl (units_of x) h.number.0)
-only_number (Ok x) (Err NotFitting) h k m n = let big = k.not_fitting.0 refl in absurd (too_large x h.number.0 big.1 big.2)
-only_number (Err TooManyPlaces) (Ok y) h k m n = absurd (h.too_many_places.0 refl (units_of y) k.number.0)
-only_number (Err TooManyPlaces) (Err TooManyPlaces) h k m n = refl
-only_number (Err TooManyPlaces) (Err NotFitting) h k m n = let big = k.not_fitting.0 refl in absurd (h.too_many_places.0 refl big.0 big.1)
-only_number (Err NotFitting) (Ok y) h k m n = let big = h.not_fitting.0 refl in absurd (too_large y k.number.0 big.1 big.2)
-only_number (Err NotFitting) (Err TooManyPlaces) h k m n = let big = h.not_fitting.0 refl in absurd (k.too_many_places.0 refl big.0 big.1)
-only_number (Err NotFitting) (Err NotFitting) h k m n = refl
+only_number (Ok x) (Err NotADecimal) h k m n = absurd (n refl)
+only_number (Ok x) (Err TooManyPlaces) h k m n = h.too_many_places.1 (k.too_many_places.0 refl)
+only_number (Ok x) (Err NotFitting) h k m n = h.not_fitting.1 (k.not_fitting.0 refl)
 
 -- ---- a string has one result
 
@@ -110,14 +94,9 @@ read_decimal_is_only text r s h k = same_result same_decimal same_error r s (λ 
 
 -- ---- what is printed is read back
 
-own_answer : (x : Decimal) → AnswersDecimal (units_of x) (places_of x) (Ok x)
-own_answer x = record {
-  number = (own_kept x, let few = x.few in omega arith);
-  too_many_places = (λ e. absurd cc, λ none. absurd (none (units_of x) (own_kept x)));
-  not_fitting = (λ e. absurd cc, λ big. absurd (too_large x (own_kept x) big.1 big.2));
-}
-
 pub decimal_is_read_back : DecimalIsReadBack
 decimal_is_read_back x r h =
     let spelled = decimal_spelled x in
-    only_number r (Ok x) (h.answer (units_of x) (places_of x) spelled) (own_answer x) (spelled_read h spelled) (λ e. absurd cc)
+    let few = x.few in
+    let own = number_answer x (own_kept x) (omega arith) in
+    only_number r (Ok x) (h.answer (units_of x) (places_of x) spelled) own (spelled_read h spelled) (λ e. absurd cc)

@@ -1,10 +1,6 @@
 -- Fractions that are decimal numbers with so many places.
-use Rattle.ratio64.proofs.Common.{◌≡◌, ◌<ℤ◌, ◌+ℤ◌, ◌*ℤ◌, ℤ, pos, ap, comm, coprime_divides, expand, linear, sym, ◌∙◌, Divides, IsFloored, IsReduced, IsQuotient}
+use Rattle.ratio64.proofs.Common.{◌≡◌, ◌<ℤ◌, ◌+ℤ◌, ◌*ℤ◌, ℤ, pos, ap, comm, expand, linear, sym, ◌∙◌, Divides, IsFloored, IsQuotient}
 use Rattle.num_integer.proofs.ForCallers.{only_pair_by_range}
-
--- a power is a multiple of the denominator if the power times the numerator is
-pub scale_divided : {n d s : ℤ} → IsReduced n d → Divides d (n *ℤ s) → Divides d s
-scale_divided x h = coprime_divides x.lowest h
 
 exact_quotient_is : {s d q r : ℤ} → pos 0 <ℤ d → IsFloored s d q r → Divides d s → q *ℤ d ≡ s
 exact_quotient_is {s} {d} {q} up h k =

@@ -27,9 +27,6 @@ module _ {n d q r : ℤ} (up : pos 0 <ℤ d) (h : IsDivision n d q r) where
   pub quotient_size : unsigned_abs q ≤ unsigned_abs n
   quotient_size = omega (sizes, quotient_within)
 
-  pub quotient_below : unsigned_abs n < 2 ^ 127 → unsigned_abs q < 2 ^ 127
-  quotient_below small = omega (arith, quotient_size)
-
 -- ---- the nearest number
 
 -- it is the quotient of a division

@@ -1,8 +1,8 @@
 -- The strings of decimal numbers, cut at the point, and what they are read as.
-use Rattle.ratio64.proofs.Common.{◌≡◌, ◌≢◌, ◌↔◌, ◌≤◌, ◌<◌, ◌+◌, ◌-◌, ◌*◌, ◌^◌, ◌*ℤ◌, ◌++◌, ◌==◌, ℕ, suc, zero, ℤ, List, [], ◌∷◌, true, false, length, take, drop, pos, neg_ℤ, unsigned_abs, AllDigits, IsNumeral, digit_value, digits_value, starts_with_minus, Bor, Option, Some, None, Result, Ok, Err, arith, ap, inl, inr, refl, subst, sym, ◌∙◌, cases_Bool, length-append, append-nil, nil_from_length, pow-succ', cancel, comm, linear, neg_mul, append_assoc, cases_lt, le_refl, mul-le-mul, mul-le-mul_left, to_z, of_z, w128, unsigned_abs-mul, positive_is_nonzero, IsSplitOnceResult, split_after, split_parts, SpellsDecimal, places_of, units_of, unsigned_part, whole_of}
+use Rattle.ratio64.proofs.Common.{◌≡◌, ◌≢◌, ◌≤◌, ◌<◌, ◌+◌, ◌-◌, ◌*◌, ◌^◌, ◌*ℤ◌, ◌++◌, ◌==◌, ℕ, suc, zero, ℤ, List, [], ◌∷◌, true, false, length, take, drop, pos, neg_ℤ, unsigned_abs, AllDigits, IsNumeral, digit_value, digits_value, starts_with_minus, Bor, Option, Some, None, Result, Ok, Err, arith, ap, inl, inr, refl, subst, sym, ◌∙◌, cases_Bool, length-append, append-nil, nil_from_length, pow-succ', cancel, comm, linear, neg_mul, append_assoc, cases_lt, le_refl, mul-le-mul, mul-le-mul_left, to_z, of_z, w128, unsigned_abs-mul, positive_is_nonzero, IsSplitOnceResult, split_after, split_parts, SpellsDecimal, places_of, units_of, unsigned_part, whole_of}
 use Rattle.ratio64.proofs.DecimalTexts.{ten_grows, ten_up}
 use Rattle.ratio64.proofs.WideSums.{read}
-use Rattle.ratio64.proofs.ReadTexts.{no_mark, no_mark_inside}
+use Rattle.ratio64.proofs.ReadTexts.{no_mark, no_mark_inside, numeral_without_minus}
 use Rattle.ratio64.proofs.SpelledDecimals.{alone, only_spelled_decimal}
 use Rattle.ratio64.specs.Decimal.{point}
 use Rattle.ratio64.specs.DecimalText.{AnswersDecimal, AreKept, AreParts, ReadsDecimal}
@@ -59,24 +59,15 @@ all_digits_taken (suc k) (c ∷ cs) h = (h.0, all_digits_taken k cs h.1)
 
 -- ---- digits that `parse` reads
 
--- digits have no minus
-pub no_minus : (ds : List ℕ) → IsNumeral 10 ds → starts_with_minus ds ≡ false
-no_minus [] h = absurd (omega (arith, h.0))
-no_minus (c ∷ cs) h = grind (arith, h.1.0)
-
 pub plain_digits : (ds : List ℕ) → starts_with_minus ds ≡ false → unsigned_part ds ≡ ds
 plain_digits ds plain = rw plain refl
 
 -- for `grind`: a string without a minus is a numeral exactly if it is an integer
-pub ruleset tells_numeral = (no_minus, plain_digits)
+pub ruleset tells_numeral = (numeral_without_minus, plain_digits)
 
 module _ {E : Type 0} (ds : List ℕ) (digits : AllDigits 10 ds) where
   parsed : (r : Result ℕ E) → ParsesUnsigned 64 10 ds r → OkIff r ((0 < length ds) × (digits_value 10 ds < 2 ^ 64)) (digits_value 10 ds)
   parsed r h = parse_digits decimal_model 64 ds r h (decimal_model.from ds digits)
-
-  pub is_zero_exactly : 0 < length ds → (r : Result ℕ E) → ParsesUnsigned 64 10 ds r → (result_unwrap_or r 1 ≡ 0) ↔ (digits_value 10 ds ≡ 0)
-  is_zero_exactly some (Ok n) h = let own = parsed (Ok n) h in (λ e. omega (arith, own.1), λ e. omega (arith, own.1))
-  is_zero_exactly some (Err e) h = let own = parsed (Err e) h in (λ e. absurd (omega (arith, e)), λ e. absurd (own (some, omega (arith, e))))
 
   pub few_digits : length ds ≤ 18 → (r : Result ℕ E) → ParsesUnsigned 64 10 ds r → result_unwrap_or r 0 ≡ digits_value 10 ds
   few_digits few (Ok n) h = (parsed (Ok n) h).1
@@ -139,10 +130,6 @@ spelled_part s =
     let kept = front_kept s.whole s.part s.whole_digits in
     let all : IsNumeral 10 (unsigned_part s.whole ++ s.part) = rw kept.1 at s.spelled.digits in
     all_digits_behind (unsigned_part s.whole) s.part all.1
-
--- a string without a point spells an integer
-pub alone_spelled : (text empty : List ℕ) → empty ≡ [] → IsNumeral 10 (unsigned_part text) → AreParts text text empty
-alone_spelled text empty e h = rw e (parts_spelled (sym (append-nil (text ++ []) ∙ append-nil text)) h tt)
 
 -- where the point stands in a string that spells a decimal number, if it has one
 at_point : {text : List ℕ} {u : ℤ} {p : ℕ} (s : SpellsDecimal text u p) → (p == 0) ≡ false → (text ≡ s.whole ++ (46 ∷ s.part)) × (0 < length s.part)

@@ -1,16 +1,15 @@
 -- Reduced pairs that come of another: negated, of a remainder.
 use Rattle.ratio64.proofs.Common.{◌≡◌, ◌+ℤ◌, ◌*ℤ◌, ℤ, pos, negsuc, neg_ℤ, unsigned_abs, FitsSigned, w64, subst, ints, Divides_sum, one_divides, products, Divides, IsGreatestCommonDivisor, IsReduced, Divides_trans}
 
--- a number has the divisors of its negation
-pub negated_divides : {d v : ℤ} → Divides d (neg_ℤ v) → Divides d v
-negated_divides h = Divides_trans h (record { factor = negsuc 0; product = omega products })
-
 -- numbers are coprime if each common divisor divides 1
 pub coprime_by : {a b : ℤ} → ((e : ℤ) → Divides e a → Divides e b → Divides e (pos 1)) → IsGreatestCommonDivisor a b (pos 1)
 coprime_by common = record { from_zero = omega ints; divides_left = one_divides _; divides_right = one_divides _; greatest = common }
 
 pub negated_reduced : {n d : ℤ} → IsReduced n d → IsReduced (neg_ℤ n) d
-negated_reduced x = record { positive = x.positive; lowest = coprime_by (λ e left right. x.lowest.greatest e (negated_divides left) right) }
+negated_reduced x = record {
+  positive = x.positive;
+  lowest = coprime_by (λ e left right. x.lowest.greatest e (Divides_trans left (record { factor = negsuc 0; product = omega products })) right);
+}
 
 pub magnitude_reduced : (n : ℤ) {d : ℤ} → IsReduced n d → IsReduced (pos (unsigned_abs n)) d
 magnitude_reduced (pos n) x = x

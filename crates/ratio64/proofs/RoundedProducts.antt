@@ -1,7 +1,7 @@
 -- A fraction times an integer, rounded in `i128`.
 use Rattle.ratio64.specs.Times.{AreTimes, IsWideQuotient}
-use Rattle.ratio64.proofs.Common.{◌≡◌, ◌≢◌, ◌<ℤ◌, ◌*ℤ◌, ℤ, pos, FitsSigned, w64, w128, of_z, to_z, ◌∙◌, fits_signed_from_abs, to_z-of_z, IsDivision, IsQuotient, positive_is_nonzero}
-use Rattle.ratio64.proofs.NearestNumbers.{quotient_below, quotient_fits}
+use Rattle.ratio64.proofs.Common.{◌≡◌, ◌≢◌, ◌<ℤ◌, ◌*ℤ◌, ℤ, pos, FitsSigned, w64, w128, of_z, to_z, ◌∙◌, arith, fits_signed_from_abs, to_z-of_z, IsDivision, IsQuotient, positive_is_nonzero}
+use Rattle.ratio64.proofs.NearestNumbers.{quotient_fits, quotient_size}
 use Rattle.ratio64.proofs.WideSums.{read}
 
 -- p and q are num times t, and den, in i128; t is n, read from its bits
@@ -26,7 +26,8 @@ module _ {num den t p q : ℤ} (h : AreTimes num den t p q) where
   wide_rounded {n = n} {r} n_fits same fits k divided =
       let own = rw (read p h.num_below, den_read) at k in
       let product : to_z w128 (of_z w128 p) ≡ num *ℤ n = read p h.num_below ∙ rw (same, to_z-of_z w64 n n_fits) at h.num_is in
-      rw (to_z-of_z w128 r fits) (rw (product, den_read) at k, quotient_below h.positive (divided p den own.remainder own.division) h.num_below)
+      rw (to_z-of_z w128 r fits)
+      (rw (product, den_read) at k, omega (arith, h.num_below, quotient_size h.positive (divided p den own.remainder own.division)))
 
 -- for `grind`: the denominator of such a product
 pub ruleset of_times = (den_positive, den_nonzero)

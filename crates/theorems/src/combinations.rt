@@ -1,7 +1,6 @@
 //! Combinations and their ranks.
 
-ghost use Rattle.std.specs.Prelude.{◌≡◌, ◌<◌, ◌^◌, SomeIff, length};
-ghost use Rattle.num_integer.specs.Coefficient.{coefficient};
+ghost use Rattle.std.specs.Prelude.{◌<◌, ◌^◌, SomeIff};
 ghost use Rattle.applied.specs.Ranking.{IsChoice, rank_of};
 
 use applied::ranking::{is_choice, rank, rank_fits};
@@ -15,13 +14,4 @@ pub fn rank_if_choice(numbers: &[u64], n: u64) -> Option<u64>
     } else {
         None
     }
-}
-
-/// Returns the rank of a combination. The number of combinations of its length has to fit.
-pub fn rank_of_choice(numbers: &[u64], n: u64) -> u64
-    requires choice { IsChoice n numbers.now }
-    requires count_fits { coefficient n (length numbers.now) < 2 ^ 64 }
-    ensures { result ≡ rank_of numbers.now }
-{
-    rank(numbers, n)
 }

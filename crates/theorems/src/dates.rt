@@ -10,7 +10,7 @@ ghost use Rattle.calendar.specs.declared.date.Date.{Date};
 ghost use Rattle.num_integer.specs.Divisors.{Divides};
 ghost use Rattle.num_integer.specs.Only.{IsOnly};
 
-use calendar::{Date, IsoWeek, days_between, easter, is_leap_year};
+use calendar::{Date, days_between, easter, is_leap_year};
 
 /// Returns `date`, which is the date of its day number, or `None` if the day number does not fit.
 pub fn date_of_its_day_number(date: &Date) -> Option<Date>
@@ -74,14 +74,6 @@ pub fn length_of_year(year: i64) -> Option<i64>
         day_of_month: 1,
     };
     days_between(&first, &next)
-}
-
-/// Returns `true` if the first week is earlier. Weeks are in the order of their years, then of their numbers.
-pub fn is_earlier_week(week: &IsoWeek, other: &IsoWeek) -> bool
-    ensures { IsTrue result ↔ ((week.now.year <ℤ other.now.year)
-        ⊎ ((week.now.year ≡ other.now.year) × (week.now.week < other.now.week))) }
-{
-    week < other
 }
 
 /// Returns the number of days from 1970-01-01 to the date, which is the day number of the date, or `None` if it does

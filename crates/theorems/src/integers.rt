@@ -2,20 +2,9 @@
 
 ghost use Rattle.std.specs.Prelude.{◌≡◌, ◌≢◌, ◌⊎◌, ◌<◌, ◌<ℤ◌, ◌+ℤ◌, ◌*ℤ◌, IsTrue, None, [], pos, unsigned_abs};
 ghost use Rattle.num_integer.specs.Division.{HaveSameSign, IsFloored, IsQuotient};
-ghost use Rattle.num_integer.specs.Divisors.{GcdFits, IsGreatestCommonDivisor};
 ghost use Rattle.num_integer.specs.Range.{EachFits};
 
-use num_integer::{Fits, Integer, IterBinomial, div_floor, div_mod_floor, gcd, mod_floor};
-
-/// Returns the greatest common divisor. The condition of `gcd` says that it fits, even at a type without -1.
-pub fn gcd_that_fits<T: Integer>(a: T, b: T) -> T
-    requires in_range { T.fits (T.value a) × T.fits (T.value b) }
-    requires gcd_fits { GcdFits T.fits (T.value a) (T.value b) }
-    ensures fits { EachFits T.fits (IsGreatestCommonDivisor (T.value a) (T.value b)) }
-    ensures greatest { IsGreatestCommonDivisor (T.value a) (T.value b) (T.value result) }
-{
-    gcd(a, b)
-}
+use num_integer::{Fits, Integer, IterBinomial, div_floor, div_mod_floor, mod_floor};
 
 /// Returns the quotient rounded down and its remainder. The quotient times the divisor and the remainder add up to
 /// the number.

@@ -19,7 +19,7 @@
 //! | `fractions.rt` | `ratio64`: exact results, order |
 //! | `decimals.rt` | `ratio64`: fractions rounded half to even, and decimal numbers |
 //! | `dates.rt` | `calendar`: dates and their days, weeks, leap years, Easter |
-//! | `pages.rt` | `applied`: pages, schedules |
+//! | `pages.rt` | `applied`: pages |
 //! | `combinations.rt` | `applied`: combinations and their ranks |
 //! | `lists.rt` | `applied`: divisors and multiples of lists, coprime bytes |
 //!

@@ -119,25 +119,6 @@ pub fn common_residue_class(a: Congruence<i64>, b: Congruence<i64>) -> Option<Co
     }
 }
 
-/// Returns the next number that solves both congruences, or `None` if no such number is in range.
-pub fn next_common_solution_or_none(
-    from: i64,
-    a: Congruence<i64>,
-    b: Congruence<i64>,
-) -> Option<i64>
-    requires a_positive { pos 0 <ℤ a.modulus }
-    requires b_positive { pos 0 <ℤ b.modulus }
-    ensures { MatchOption result
-        ((t : ℤ) → IsNextCommonSolution from a.residue a.modulus b.residue b.modulus t
-        → ¬ (FitsSigned w64 t))
-        (λ t. IsNextCommonSolution from a.residue a.modulus b.residue b.modulus t) }
-{
-    match next_common_solution(from, a, b) {
-        CommonSolution::At(t) => Some(t),
-        CommonSolution::Beyond | CommonSolution::Never => None,
-    }
-}
-
 /// Returns the next number that solves each of the congruences, or `None` if no such number is in range.
 pub fn next_solution_of_each(from: i64, congruences: &[Congruence<i64>]) -> Option<i64>
     requires in_range { All (λ c. FitsSigned w64 c.residue × FitsSigned w64 c.modulus) congruences.now }

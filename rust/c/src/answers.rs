@@ -67,12 +67,6 @@ impl I64Answer {
         I64Answer { status, value }
     }
 
-    /// Returns the result of a call of `modular` that solves several congruences.
-    pub(crate) fn of_common(found: CommonSolution<i64>) -> I64Answer {
-        let (status, value) = common_with_status(found, 0);
-        I64Answer { status, value }
-    }
-
     /// Returns a result.
     pub(crate) fn some(value: i64) -> I64Answer {
         I64Answer {
@@ -91,12 +85,6 @@ impl U64Answer {
     /// Returns the result of a call of `num_integer::checked`, or a rejection for a reason.
     pub(crate) fn of(option: Option<u64>, reason: u32) -> U64Answer {
         let (status, value) = with_status(option, 0, reason);
-        U64Answer { status, value }
-    }
-
-    /// Returns the result of a call of `modular` that solves several congruences.
-    pub(crate) fn of_common(found: CommonSolution<u64>) -> U64Answer {
-        let (status, value) = common_with_status(found, 0);
         U64Answer { status, value }
     }
 

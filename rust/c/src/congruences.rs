@@ -2,7 +2,9 @@
 //! Numbers that solve one or two congruences, and congruent numbers from one on, up to another or
 //! between two.
 
-use crate::answers::{with_status, I64Answer, U64Answer, BAD_MODULUS, NOT_FITTING, NO_SOLUTION};
+use crate::answers::{
+    common_with_status, with_status, I64Answer, U64Answer, BAD_MODULUS, NOT_FITTING, NO_SOLUTION,
+};
 use crate::modulo::reason_for_modulus;
 use cellarcove::modular::{
     checked, chinese_remainder, next_common_solution, solutions, CommonSolution, Congruence,
@@ -230,17 +232,9 @@ pub extern "C" fn cellarcove_next_common_solution_i64(
     if m <= 0 || n <= 0 {
         return I64Answer::none(BAD_MODULUS);
     }
-    I64Answer::of_common(next_common_solution(
-        from,
-        Congruence {
-            residue: a,
-            modulus: m,
-        },
-        Congruence {
-            residue: b,
-            modulus: n,
-        },
-    ))
+    let found = next_common_solution(from, (a, m).into(), (b, n).into());
+    let (status, value) = common_with_status(found, 0);
+    I64Answer { status, value }
 }
 
 /// Returns the smallest number from `from` on that is `a` modulo `m` and `b` modulo `n`. The least
@@ -260,17 +254,9 @@ pub extern "C" fn cellarcove_next_common_solution_u64(
     if m == 0 || n == 0 {
         return U64Answer::none(BAD_MODULUS);
     }
-    U64Answer::of_common(next_common_solution(
-        from,
-        Congruence {
-            residue: a,
-            modulus: m,
-        },
-        Congruence {
-            residue: b,
-            modulus: n,
-        },
-    ))
+    let found = next_common_solution(from, (a, m).into(), (b, n).into());
+    let (status, value) = common_with_status(found, 0);
+    U64Answer { status, value }
 }
 
 /// Returns the status of the numbers that solve both congruences, and the numbers as a congruence.

@@ -4,7 +4,7 @@
 
 use crate::answers::{I64Answer, ANSWER, NOT_FITTING, OUTSIDE};
 use crate::fractions::{Fraction, FractionAnswer};
-use cellarcove::ratio64::{Decimal, Ratio, RatioError};
+use cellarcove::ratio64::Decimal;
 
 /// A status, and a decimal number: its sign, its integer part, and the number that its digits after
 /// the point write. Those of -2.05 are `true`, 2 and 5: a text of it needs a zero before the 5.
@@ -40,7 +40,7 @@ pub extern "C" fn cellarcove_fraction_round_even_to(a: Fraction, parts: i64) -> 
     if parts <= 0 {
         return FractionAnswer::none(OUTSIDE);
     }
-    FractionAnswer::of(round_even_to(a.reduced(), parts))
+    FractionAnswer::of(a.reduced().and_then(|x| x.round_even_to(parts)))
 }
 
 /// Returns the nearest decimal number with so many digits after the point, and of two that are
@@ -60,11 +60,6 @@ pub extern "C" fn cellarcove_fraction_to_decimal(a: Fraction, places: u32) -> De
         },
         Err(error) => DecimalAnswer::none(error.number()),
     }
-}
-
-/// Returns a fraction rounded to the nearest multiple of `1 / parts`, half to even, or its error.
-fn round_even_to(a: Result<Ratio, RatioError>, parts: i64) -> Result<Ratio, RatioError> {
-    a?.round_even_to(parts)
 }
 
 impl DecimalAnswer {

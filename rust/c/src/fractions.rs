@@ -81,7 +81,7 @@ pub extern "C" fn cellarcove_fraction_div(a: Fraction, b: Fraction) -> FractionA
 /// argument, reduced, does not fit, or a part of the result.
 #[unsafe(no_mangle)]
 pub extern "C" fn cellarcove_fraction_recip(a: Fraction) -> FractionAnswer {
-    FractionAnswer::of(reciprocal(a.reduced()))
+    FractionAnswer::of(a.reduced().and_then(|x| x.checked_recip()))
 }
 
 /// Returns the negation. That of -3/2 is 3/2.
@@ -90,7 +90,7 @@ pub extern "C" fn cellarcove_fraction_recip(a: Fraction) -> FractionAnswer {
 /// does not fit, or a part of the result.
 #[unsafe(no_mangle)]
 pub extern "C" fn cellarcove_fraction_neg(a: Fraction) -> FractionAnswer {
-    FractionAnswer::of(negation(a.reduced()))
+    FractionAnswer::of(a.reduced().and_then(|x| x.checked_neg()))
 }
 
 /// Returns the magnitude. That of -3/2 is 3/2.
@@ -99,7 +99,7 @@ pub extern "C" fn cellarcove_fraction_neg(a: Fraction) -> FractionAnswer {
 /// does not fit, or a part of the result.
 #[unsafe(no_mangle)]
 pub extern "C" fn cellarcove_fraction_abs(a: Fraction) -> FractionAnswer {
-    FractionAnswer::of(magnitude(a.reduced()))
+    FractionAnswer::of(a.reduced().and_then(|x| x.checked_abs()))
 }
 
 /// Returns the power, which for a negative exponent is that of the reciprocal. That of 2/3 and -2
@@ -118,7 +118,7 @@ pub extern "C" fn cellarcove_fraction_pow(a: Fraction, exponent: i32) -> Fractio
 /// `NOT_FITTING` if a part of the argument, reduced, does not fit, or a part of the result.
 #[unsafe(no_mangle)]
 pub extern "C" fn cellarcove_fraction_times(a: Fraction, n: i64, d: i64) -> FractionAnswer {
-    FractionAnswer::of(times(a.reduced(), n, d))
+    FractionAnswer::of(a.reduced().and_then(|x| x.checked_times(n, d)))
 }
 
 /// Returns -1, 0 or 1 if `a` is less than, equal to or greater than `b`. For 1/2 and 1/3 it is 1.
@@ -150,10 +150,7 @@ pub extern "C" fn cellarcove_fraction_limit_denominator(a: Fraction, max: i64) -
     if max <= 0 {
         return FractionAnswer::none(OUTSIDE);
     }
-    match a.reduced() {
-        Ok(x) => FractionAnswer::some(&x.limit_denominator(max)),
-        Err(error) => FractionAnswer::none(error.number()),
-    }
+    FractionAnswer::of(a.reduced().map(|x| x.limit_denominator(max)))
 }
 
 impl Fraction {
@@ -231,29 +228,9 @@ fn quotient(
     a?.checked_div(&b?)
 }
 
-/// Returns the reciprocal of a fraction, or its error.
-fn reciprocal(a: Result<Ratio, RatioError>) -> Result<Ratio, RatioError> {
-    a?.checked_recip()
-}
-
-/// Returns the negation of a fraction, or its error.
-fn negation(a: Result<Ratio, RatioError>) -> Result<Ratio, RatioError> {
-    a?.checked_neg()
-}
-
-/// Returns the magnitude of a fraction, or its error.
-fn magnitude(a: Result<Ratio, RatioError>) -> Result<Ratio, RatioError> {
-    a?.checked_abs()
-}
-
 /// Returns the power of a fraction, or its error.
 fn power(a: Result<Ratio, RatioError>, exponent: i32) -> Result<Ratio, RatioError> {
     a?.checked_pow(exponent)
-}
-
-/// Returns a fraction times `n / d`, or its error.
-fn times(a: Result<Ratio, RatioError>, n: i64, d: i64) -> Result<Ratio, RatioError> {
-    a?.checked_times(n, d)
 }
 
 /// Returns the order of two fractions, or the first error.

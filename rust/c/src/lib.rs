@@ -78,7 +78,6 @@ mod schedules;
 mod several_congruences;
 mod shares;
 mod square_roots;
-mod sums;
 mod texts;
 mod weekdays;
 mod years;

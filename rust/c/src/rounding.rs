@@ -3,7 +3,6 @@
 
 use crate::answers::{I64Answer, NOT_FITTING, OUTSIDE};
 use crate::fractions::{Fraction, FractionAnswer};
-use cellarcove::ratio64::{Ratio, RatioError};
 
 /// Returns the fraction rounded down. That of -3/2 is -2.
 ///
@@ -47,10 +46,7 @@ pub extern "C" fn cellarcove_fraction_trunc(a: Fraction) -> I64Answer {
 /// not fit.
 #[unsafe(no_mangle)]
 pub extern "C" fn cellarcove_fraction_fract(a: Fraction) -> FractionAnswer {
-    match a.reduced() {
-        Ok(x) => FractionAnswer::some(&x.fract()),
-        Err(error) => FractionAnswer::none(error.number()),
-    }
+    FractionAnswer::of(a.reduced().map(|x| x.fract()))
 }
 
 /// Returns the nearest integer, and of two that are equally near the one farther from 0. That of
@@ -113,7 +109,7 @@ pub extern "C" fn cellarcove_fraction_floor_to(a: Fraction, parts: i64) -> Fract
     if parts <= 0 {
         return FractionAnswer::none(OUTSIDE);
     }
-    FractionAnswer::of(floor_to(a.reduced(), parts))
+    FractionAnswer::of(a.reduced().and_then(|x| x.floor_to(parts)))
 }
 
 /// Returns the smallest multiple of `1 / parts` that is at least the fraction. That of 5/3 and 4 is
@@ -126,7 +122,7 @@ pub extern "C" fn cellarcove_fraction_ceil_to(a: Fraction, parts: i64) -> Fracti
     if parts <= 0 {
         return FractionAnswer::none(OUTSIDE);
     }
-    FractionAnswer::of(ceil_to(a.reduced(), parts))
+    FractionAnswer::of(a.reduced().and_then(|x| x.ceil_to(parts)))
 }
 
 /// Returns the nearest multiple of `1 / parts`, and of two that are equally near the one farther
@@ -140,20 +136,5 @@ pub extern "C" fn cellarcove_fraction_round_to(a: Fraction, parts: i64) -> Fract
     if parts <= 0 {
         return FractionAnswer::none(OUTSIDE);
     }
-    FractionAnswer::of(round_to(a.reduced(), parts))
-}
-
-/// Returns a fraction rounded down to a multiple of `1 / parts`, or its error.
-fn floor_to(a: Result<Ratio, RatioError>, parts: i64) -> Result<Ratio, RatioError> {
-    a?.floor_to(parts)
-}
-
-/// Returns a fraction rounded up to a multiple of `1 / parts`, or its error.
-fn ceil_to(a: Result<Ratio, RatioError>, parts: i64) -> Result<Ratio, RatioError> {
-    a?.ceil_to(parts)
-}
-
-/// Returns a fraction rounded to the nearest multiple of `1 / parts`, or its error.
-fn round_to(a: Result<Ratio, RatioError>, parts: i64) -> Result<Ratio, RatioError> {
-    a?.round_to(parts)
+    FractionAnswer::of(a.reduced().and_then(|x| x.round_to(parts)))
 }

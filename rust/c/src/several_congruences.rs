@@ -42,10 +42,7 @@ pub extern "C" fn cellarcove_next_common_solution_of_i64(
         // SAFETY: the caller promises that the pointer leads to so many items, which do not change.
         unsafe { core::slice::from_raw_parts(congruences, congruences_len) }
     };
-    let mut room = [Congruence {
-        residue: 0,
-        modulus: 1,
-    }; MOST];
+    let mut room = [Congruence::from((0, 1)); MOST];
     let (status, value) = next_of_several(from, congruences, &mut room, 0);
     I64Answer { status, value }
 }
@@ -67,10 +64,7 @@ pub extern "C" fn cellarcove_next_common_solution_of_u64(
         // SAFETY: the caller promises that the pointer leads to so many items, which do not change.
         unsafe { core::slice::from_raw_parts(congruences, congruences_len) }
     };
-    let mut room = [Congruence {
-        residue: 0,
-        modulus: 1,
-    }; MOST];
+    let mut room = [Congruence::from((0, 1)); MOST];
     let (status, value) = next_of_several(from, congruences, &mut room, 0);
     U64Answer { status, value }
 }
@@ -83,19 +77,13 @@ trait ForeignCongruence<T: Integer>: Copy {
 
 impl ForeignCongruence<i64> for I64Congruence {
     fn congruence(self) -> Congruence<i64> {
-        Congruence {
-            residue: self.residue,
-            modulus: self.modulus,
-        }
+        (self.residue, self.modulus).into()
     }
 }
 
 impl ForeignCongruence<u64> for U64Congruence {
     fn congruence(self) -> Congruence<u64> {
-        Congruence {
-            residue: self.residue,
-            modulus: self.modulus,
-        }
+        (self.residue, self.modulus).into()
     }
 }
 

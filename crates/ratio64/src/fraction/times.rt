@@ -90,7 +90,6 @@ impl Ratio {
             (IsQuotient IsFloored (num_of self.now *ℤ parts) (den_of self.now)) parts result }
         ensures never_zero { result ≢ Err RatioError.ZeroDenominator }
     {
-        check(parts > 0, "the number of parts is not positive");
         in_parts(self.wide_floor_times(parts), parts)
     }
 
@@ -110,7 +109,6 @@ impl Ratio {
             (IsQuotient IsCeiled (num_of self.now *ℤ parts) (den_of self.now)) parts result }
         ensures never_zero { result ≢ Err RatioError.ZeroDenominator }
     {
-        check(parts > 0, "the number of parts is not positive");
         in_parts(self.wide_ceil_times(parts), parts)
     }
 
@@ -131,7 +129,6 @@ impl Ratio {
             (IsRounded (num_of self.now *ℤ parts) (den_of self.now)) parts result }
         ensures never_zero { result ≢ Err RatioError.ZeroDenominator }
     {
-        check(parts > 0, "the number of parts is not positive");
         in_parts(self.wide_round_times(parts), parts)
     }
 
@@ -152,7 +149,6 @@ impl Ratio {
             (IsRoundedEven (num_of self.now *ℤ parts) (den_of self.now)) parts result }
         ensures never_zero { result ≢ Err RatioError.ZeroDenominator }
     {
-        check(parts > 0, "the number of parts is not positive");
         in_parts(self.wide_round_even_times(parts), parts)
     }
 
@@ -209,5 +205,6 @@ fn in_parts(number: i128, parts: i64) -> Result<Ratio, RatioError>
     ensures fraction { AnswersFraction number parts result }
     ensures never_zero { result ≢ Err RatioError.ZeroDenominator }
 {
+    check(parts > 0, "the number of parts is not positive");
     Ratio::reduced(number, i128::from(parts))
 }

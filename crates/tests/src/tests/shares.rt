@@ -35,16 +35,23 @@ static SHARES: [(u64, &[u64], &[u64]); 18] = [
     (1, &[MAX, MAX, MAX], &[1, 0, 0]),
 ];
 
+/// Checks that the call writes the shares of each row.
+macro_rules! check_shares {
+    ($rt:ident, $rows:ident, $call:ident) => {
+        for row in &$rows {
+            let &(amount, weights, expected) = row;
+            let mut parts = [0; 7];
+            holds_at(&$rt, weights.len() <= parts.len(), row);
+            let length = weights.len();
+            let shared = $call(amount, weights, &mut parts[..length]);
+            holds_at(&$rt, shared.is_ok() && &parts[..length] == expected, row);
+        }
+    };
+}
+
 #[test]
 fn largest_remainders(rt: HostRuntime) {
-    for row in &SHARES {
-        let &(amount, weights, expected) = row;
-        let mut parts = [0; 7];
-        holds_at(&rt, weights.len() <= parts.len(), row);
-        let length = weights.len();
-        let shared = shares_by_largest_remainder(amount, weights, &mut parts[..length]);
-        holds_at(&rt, shared.is_ok() && &parts[..length] == expected, row);
-    }
+    check_shares!(rt, SHARES, shares_by_largest_remainder);
 }
 
 /// A signed amount, weights, and their shares.
@@ -64,14 +71,7 @@ static SIGNED_SHARES: [(i64, &[u64], &[i64]); 7] = [
 
 #[test]
 fn signed_largest_remainders(rt: HostRuntime) {
-    for row in &SIGNED_SHARES {
-        let &(amount, weights, expected) = row;
-        let mut parts = [0; 4];
-        holds_at(&rt, weights.len() <= parts.len(), row);
-        let length = weights.len();
-        let shared = signed_shares_by_largest_remainder(amount, weights, &mut parts[..length]);
-        holds_at(&rt, shared.is_ok() && &parts[..length] == expected, row);
-    }
+    check_shares!(rt, SIGNED_SHARES, signed_shares_by_largest_remainder);
 }
 
 /// Weights, how many shares there are, and why the call writes none.

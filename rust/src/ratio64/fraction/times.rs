@@ -121,7 +121,6 @@ impl Ratio {
     /// [Contract](crate::definitions::ratio64#ratiofloor_to)
     #[track_caller]
     pub fn floor_to(&self, parts: i64) -> Result<Self, RatioError> {
-        check(parts > 0, "the number of parts is not positive");
         in_parts(self.wide_floor_times(parts), parts)
     }
 
@@ -147,7 +146,6 @@ impl Ratio {
     /// [Contract](crate::definitions::ratio64#ratioceil_to)
     #[track_caller]
     pub fn ceil_to(&self, parts: i64) -> Result<Self, RatioError> {
-        check(parts > 0, "the number of parts is not positive");
         in_parts(self.wide_ceil_times(parts), parts)
     }
 
@@ -175,7 +173,6 @@ impl Ratio {
     /// [Contract](crate::definitions::ratio64#ratioround_to)
     #[track_caller]
     pub fn round_to(&self, parts: i64) -> Result<Self, RatioError> {
-        check(parts > 0, "the number of parts is not positive");
         in_parts(self.wide_round_times(parts), parts)
     }
 
@@ -202,7 +199,6 @@ impl Ratio {
     /// [Contract](crate::definitions::ratio64#ratioround_even_to)
     #[track_caller]
     pub fn round_even_to(&self, parts: i64) -> Result<Self, RatioError> {
-        check(parts > 0, "the number of parts is not positive");
         in_parts(self.wide_round_even_times(parts), parts)
     }
 
@@ -245,5 +241,6 @@ impl Ratio {
 /// Returns `number / parts`.
 #[track_caller]
 fn in_parts(number: i128, parts: i64) -> Result<Ratio, RatioError> {
+    check(parts > 0, "the number of parts is not positive");
     Ratio::reduced(number, i128::from(parts))
 }

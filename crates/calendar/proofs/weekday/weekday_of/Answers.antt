@@ -8,4 +8,4 @@ returns c =
     let range = floored_remainder_range (omega ints) rest in
     let weeks = rest.quotient +ℤ pos ((unsigned_abs c.mod_floor.result + 4) / 7) in
     let found = c.weekday_after_sunday in
-    (on_weekday {day = c.args.day} found.result weeks (omega (ints, rest.division.division.equation, found.ensures))).remainder
+    (on_weekday {day = c.args.day} found.result weeks (omega (ints, rest.division, found.ensures))).remainder

@@ -3,6 +3,3 @@ use Rattle.cellarcove_c.proofs.divisors.cellarcove_extended_gcd_i64.Goals as goa
 
 pub returns-in-Some : goal.returns-in-Some
 returns-in-Some c = grind (arith, to_z-of_z)
-
-pub returns-in-None : goal.returns-in-None
-returns-in-None c = grind (arith, to_z-of_z)

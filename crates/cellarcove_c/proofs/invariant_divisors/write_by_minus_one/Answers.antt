@@ -7,12 +7,3 @@ pub returns-then-contains : goal.returns-then-contains
 returns-then-contains c =
     let fit = fit_without_least c.args.numbers.now c.contains.result c.requires.each c.contains.ensures.cases in
     record { answer = λ h. false≢true (sym (fit.1 h) ∙ c.if-contains.true); refusal = λ _. (refl, refl) }
-
-pub write_negations-requires-clause-fit : goal.write_negations-requires-clause-fit
-write_negations-requires-clause-fit c =
-    (fit_without_least c.args.numbers.now c.contains.result c.requires.each c.contains.ensures.cases).0 c.if-contains.false
-
-pub returns : goal.returns
-returns c =
-    let fit = (fit_without_least c.args.numbers.now c.contains.result c.requires.each c.contains.ensures.cases).0 c.if-contains.false in
-    record { answer = (fit, c.write_negations.ensures); refusal = λ h. absurd (h refl) }

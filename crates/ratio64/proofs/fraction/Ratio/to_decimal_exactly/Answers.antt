@@ -1,7 +1,7 @@
 use Rattle.std.proofs.Common.{rules}
-use Rattle.ratio64.proofs.Common.{◌≡◌, ◌^◌, ◌*ℤ◌, ◌∙◌, refl, den_of, num_of, of_z, pos, to_z, w128, iff_false, Divides, IsFloored, IsQuotient}
+use Rattle.ratio64.proofs.Common.{◌≡◌, ◌^◌, ◌*ℤ◌, ◌∙◌, refl, den_of, num_of, of_z, pos, to_z, w128, coprime_divides, iff_false, Divides, IsFloored, IsQuotient}
 use Rattle.ratio64.proofs.DecimalTexts.{few_places, fitting_scale}
-use Rattle.ratio64.proofs.ExactDecimals.{scale_divided, scale_divides, units_exact}
+use Rattle.ratio64.proofs.ExactDecimals.{scale_divides, units_exact}
 use Rattle.ratio64.proofs.WideSums.{read}
 use Rattle.ratio64.proofs.fraction.Ratio.to_decimal_exactly.Goals as goal
 
@@ -11,7 +11,7 @@ returns-in_err-scale c = rw c.from_residual.ensures (λ h. c.in_err-scale.ensure
 pub returns-then-not-is_multiple_of : goal.returns-then-not-is_multiple_of
 returns-then-not-is_multiple_of c =
     let x = c.args.self.now in
-    λ h. let own : Divides (den_of x) (pos (10 ^ c.args.places)) = scale_divided x.reduced h.1 in
+    λ h. let own : Divides (den_of x) (pos (10 ^ c.args.places)) = coprime_divides x.reduced.lowest h.1 in
     iff_false c.is_multiple_of.ensures c.if-not-is_multiple_of.true (search rules)
 
 pub invariant_of-result : goal.invariant_of-result

@@ -1,5 +1,5 @@
 use Rattle.applied.proofs.Common.{ap, arith, length, sym, ◌∙◌}
-use Rattle.applied.proofs.Instalments.{next_is_first, none_is_left}
+use Rattle.applied.proofs.Instalments.{next_is_first}
 use Rattle.applied.proofs.shares.equal.IterInstalmentsIterator.next.Goals as goal
 
 pub returns-clause-steps : goal.returns-clause-steps
