@@ -17,7 +17,9 @@ const ofTry = (name) => `try${name[0].toUpperCase()}${name.slice(1)}`;
 const LARGE = [['gcdOf', [[2n ** 60n]]], ['multinomial', [[30, 34]]], ['rank', [Array.from({length: 32}, (_, k) => k + 32), 64]], ['choiceOfRank', [2n ** 60n, 2n ** 61n, 1]],
   ...['daysBetween', 'monthsBetween', 'yearsBetween'].map((name) => [name, [[-(2n ** 53n), 1, 1], [2n ** 53n, 1, 1]]]),
   ['factorial', [20]], ['fractionToDecimal', [[1, 3], 18]], ['dayFromDate', [[2n ** 53n, 1, 1]]], ['fractionFromText', [`1/${2n ** 63n - 1n}`]],
-  ['fractionFromText', [`${2n ** 63n - 1n}/2`]], ['fractionFromDecimal', ['9223372036854775807.0']], ['fractionFromDecimal', ['0.000000000000000001']], ['dateFromText', ['+9007199254740993-01-01']]]; // calls with a large result
+  ['fractionFromText', [`${2n ** 63n - 1n}/2`]], ['fractionFromDecimal', ['9223372036854775807.0']], ['fractionFromDecimal', ['0.000000000000000001']], ['dateFromText', ['+9007199254740993-01-01']],
+  ['fractionPow', [[3, 2], 39]], ['fractionPow', [[2, 3], 39]], ['fractionLimitDenominator', [[1, 2n ** 60n], 2n ** 61n]], ['lcmOf', [[2n ** 30n, 3n ** 18n]]],
+  ['chineseRemainder', [[2n ** 54n, 2n ** 55n], [2n ** 54n, 2n ** 56n]]], ['rangeOfPart', [1, 2, 2n ** 60n]]]; // calls with a large result
 for await (const row of rows(1, 8)) found.push(row);
 
 test('each export returns what Python computes, of numbers and of arrays', () => {
